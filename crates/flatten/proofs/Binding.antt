@@ -1,7 +1,6 @@
 -- Tables of formals: what they have, and where a pair or an input is at fault.
 use Rattle.std.proofs.Common.{◌≡◌, ℕ, ◌+◌, ◌<◌, Bool, true, false, not, List, [], ◌∷◌, ◌++◌, length, get_or, take, drop, refl, sym, ap, ◌∙◌, cond, if◌then◌else◌, Some, None, Ok, Err, is_some, option_map}
-use Rattle.cyc_base.proofs.ListLemmas.{drop-item}
-use Rattle.flatten.proofs.Common.{list_any, bytes_eq, Option, option_or, BlifModel, FlatFault, actual_of, is_among, model_at, formals, pairs_fault, entry, each_once, resolved, bound}
+use Rattle.flatten.proofs.Common.{drop-item, list_any, bytes_eq, Option, option_or, BlifModel, FlatFault, actual_of, is_among, model_at, formals, pairs_fault, entry, each_once, resolved, bound}
 use Rattle.flatten.specs.declared.fault.FlatFault.TheVariants.{UnknownFormal, FormalTwice, OpenInput}
 use Rattle.flatten.specs.Instances.{formal_fault, pair_fault, first_open}
 use Rattle.flatten.proofs.Names.{taken}

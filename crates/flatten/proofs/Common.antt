@@ -6,7 +6,6 @@ pub use Rattle.blif_read.specs.declared.models.Item.TheVariants.{Gate, Latch, Pa
 pub use Rattle.blif_read.specs.declared.models.LatchLine.{LatchLine}
 pub use Rattle.blif_read.specs.declared.models.PartLine.{PartLine}
 pub use Rattle.cyc_base.specs.declared.sig.Sig.{Sig}
-pub use Rattle.flatten.specs.Counting.{Fits}
 pub use Rattle.flatten.specs.Drivers.{AreRead, sig_or, undriven_among}
 pub use Rattle.flatten.specs.Flat.{linked_lines}
 pub use Rattle.flatten.specs.Instances.{entered, entry, find_model, formals, is_among, is_open, model_at, no_model, pairs_fault}
@@ -18,16 +17,15 @@ pub use Rattle.flatten.specs.Printable.{IsPrintedGate, IsPrintedLatch}
 pub use Rattle.flatten.specs.Walk.{Event, FlatLines, decided, events, fails, flat_lines, gate, latch, opens, then_gate, then_latch}
 pub use Rattle.flatten.specs.Wires.{Wire, item_names, mark_of, pair_names, wire_names}
 pub use Rattle.flatten.specs.declared.fault.FlatFault.{FlatFault}
-pub use Rattle.flatten.specs.declared.fault.FlatFault.TheVariants.{TooLarge}
+pub use Rattle.flatten.specs.declared.fault.FlatFault.TheVariants.{TooLarge, Memory}
 pub use Rattle.flatten.specs.declared.walk.Level.{Level}
 pub use Rattle.indexmap.specs.IndexSet.{insert_key}
 pub use Rattle.netlist.specs.declared.parts.Clock.{Clock}
 pub use Rattle.netlist.specs.declared.parts.Parts.{Parts}
 pub use Rattle.std.proofs.lemmas.Grind.{common_steps}
-pub use Rattle.std.proofs.lemmas.List.{append-nil, get_or_default, length-map}
-pub use Rattle.std.proofs.lemmas.List.Elements.{All-append, All-cons, All-head, All-nil, All-push, All-tail}
+pub use Rattle.std.proofs.lemmas.List.{append-nil, length-map}
+pub use Rattle.std.proofs.lemmas.List.Elements.{All-append, All-cons, All-head, All-nil, All-push, All-tail, All-map, All-weaker}
 pub use Rattle.std.proofs.lemmas.List.Folds.{list_any-append}
-pub use Rattle.std.proofs.lemmas.Result.{err_from_is_err_and}
 pub use Rattle.std.specs.Fmt.{decimal}
 pub use Rattle.std.specs.List.{AllByRecursion, find, flat_map, list_any, position, position_or_len}
 unfoldable pub use Rattle.std.specs.List.{IsDistinct}
@@ -36,3 +34,9 @@ pub use Rattle.std.specs.Str.{bytes_eq}
 pub use Rattle.std.specs.declared.option.Option.{Option}
 pub use Rattle.std.specs.declared.result.Result.{Result}
 pub use Rattle.tildes.specs.Runs.{longest_run_of, tildes}
+pub use Rattle.cyc_base.proofs.ListLemmas.{drop-item}
+pub use Rattle.cyc_base.proofs.NameLemmas.{bytes_eq-true}
+pub use Rattle.cyc_base.proofs.TruthLemmas.{or-false}
+pub use Rattle.flatten.specs.Alone.{own_gates, own_latches}
+pub use Rattle.flatten.specs.Hierarchies.{NestedModels}
+pub use Rattle.std.proofs.lemmas.Bool.{cases_Bool}

@@ -1,8 +1,8 @@
 -- The walk stays within the file: its paths bind names of the file, and all that it prints names one wire.
 use Rattle.std.proofs.Common.{◌≡◌, ℕ, zero, suc, ◌+◌, ◌^◌, ◌<◌, ◌≤◌, List, [], ◌∷◌, ◌++◌, length, length-append, map, refl, sym, ◌∙◌, subst, arith, All, Contains, Some, None, Ok, Err, option_map}
-use Rattle.flatten.proofs.Common.{All-nil, All-cons, All-head, All-tail, All-append, flat_map, AllByRecursion, Option, Result, Sig, Clock, Parts, BlifModel, GateLine, LatchLine, Item, Gate, Latch, Part, FlatFault, pair_names, item_names, wire_names, mark_of, Instance, climb, name_at, gate_at, clock_at, latch_at, find_model, model_at, entered, Event, gate, latch, opens, fails, events, FlatLines, then_gate, then_latch, decided, flat_lines, linked_lines, link_fault, signal_list, sig_of, latch_with, gate_with, netlist_by}
-use Rattle.std.proofs.lemmas.List.Elements.{All-weaker, All-contains_itself, Contains-append_left, Contains-append_right}
-use Rattle.std.proofs.lemmas.List.{map-id}
+use Rattle.flatten.proofs.Common.{All-nil, All-cons, All-head, All-tail, All-append, flat_map, AllByRecursion, Option, Result, Sig, Clock, Parts, BlifModel, GateLine, LatchLine, Item, Gate, Latch, Part, FlatFault, pair_names, item_names, wire_names, mark_of, Instance, climb, name_at, gate_at, clock_at, latch_at, find_model, model_at, entered, Event, gate, latch, opens, fails, events, FlatLines, flat_lines, linked_lines, link_fault, signal_list, sig_of, latch_with, gate_with, netlist_by, All-weaker, All-map}
+use Rattle.std.proofs.lemmas.List.Elements.{All-contains_itself, Contains-append_left, Contains-append_right, All-drop, All-take}
+use Rattle.std.proofs.lemmas.List.{map-id, take_at, drop_at}
 use Rattle.netlist.specs.declared.parts.Gate.{Gate as FlatGate}
 use Rattle.netlist.specs.declared.parts.Latch.{Latch as FlatLatch}
 use Rattle.netlist.specs.Netlists.{signal_names}
@@ -11,6 +11,7 @@ use Rattle.flatten.specs.Walk.{through, events_by}
 use Rattle.flatten.specs.Flat.{flat_from, max_depth, max_items}
 use Rattle.flatten.specs.Laws.{BindsAmong, NamesOneWire, LinesNameWires, WalkNamesWires, SignalsNameWires}
 use Rattle.flatten.proofs.Telling.{names_tell}
+use Rattle.flatten.proofs.Stepping.{lines_in, decided_lines}
 
 -- Names of the file.
 
@@ -26,30 +27,31 @@ among_left names more xs = All-weaker (Contains names) (Contains (names ++ more)
 among_right : (names more xs : List (List ℕ)) → AreAmong more xs → AreAmong (names ++ more) xs
 among_right names more xs = All-weaker (Contains more) (Contains (names ++ more)) (Contains-append_right names more) xs
 
-items_right : (names more : List (List ℕ)) (items : List Item) → All (IsItemAmong more) items → All (IsItemAmong (names ++ more)) items
-items_right names more = All-weaker (IsItemAmong more) (IsItemAmong (names ++ more)) (λ item. among_right names more (item_names item))
+both_all : {A : Type 0} (P : A → Type 0) (xs ys : List A) → All P (xs ++ ys) → All P xs × All P ys
+both_all P xs ys h = (
+  rw (take_at xs ys (length xs) refl) at (All-take P (length xs) (xs ++ ys) h),
+  rw (drop_at xs ys (length xs) refl) at (All-drop P (length xs) (xs ++ ys) h),
+)
 
-items_left : (names more : List (List ℕ)) (items : List Item) → All (IsItemAmong names) items → All (IsItemAmong (names ++ more)) items
-items_left names more = All-weaker (IsItemAmong names) (IsItemAmong (names ++ more)) (λ item. among_left names more (item_names item))
+names_of : (models : List BlifModel) (i : ℕ) → AreAmong (wire_names models) (model_names (model_at models i))
+names_of [] i = All-nil (Contains [])
+names_of (model ∷ models) zero = among_left (model_names model) (wire_names models) (model_names model) (All-contains_itself (model_names model))
+names_of (model ∷ models) (suc i) = among_right (model_names model) (wire_names models) (model_names (model_at models i)) (names_of models i)
 
-own_items : (items : List Item) → All (IsItemAmong (flat_map item_names items)) items
-own_items [] = All-nil (IsItemAmong [])
-own_items (item ∷ items) =
-    let more = flat_map item_names items in
-    All-cons (IsItemAmong (item_names item ++ more)) item items
-    (among_left (item_names item) more (item_names item) (All-contains_itself (item_names item)))
-    (items_right (item_names item) more items (own_items items))
-
-items_of_model : (model : BlifModel) → All (IsItemAmong (model_names model)) model.body
-items_of_model model =
-    let here = flat_map item_names model.body in
-    items_right model.inputs (model.outputs ++ (model.clocks ++ here)) model.body
-    (items_right model.outputs (model.clocks ++ here) model.body (items_right model.clocks here model.body (own_items model.body)))
+inputs_of : (models : List BlifModel) (i : ℕ) → AreAmong (wire_names models) (model_at models i).inputs
+inputs_of models i = (both_all (Contains (wire_names models)) (model_at models i).inputs _ (names_of models i)).0
 
 items_of : (models : List BlifModel) (i : ℕ) → All (IsItemAmong (wire_names models)) (model_at models i).body
-items_of [] i = All-nil (IsItemAmong [])
-items_of (model ∷ models) zero = items_left (model_names model) (wire_names models) model.body (items_of_model model)
-items_of (model ∷ models) (suc i) = items_right (model_names model) (wire_names models) (model_at models i).body (items_of models i)
+items_of models i =
+    let P = Contains (wire_names models) in
+    let model = model_at models i in
+    each model.body (both_all P model.clocks _ (both_all P model.outputs _ (both_all P model.inputs _ (names_of models i)).1).1).1
+  where
+    each : (items : List Item) → AreAmong (wire_names models) (flat_map item_names items) → All (IsItemAmong (wire_names models)) items
+    each [] h = All-nil (IsItemAmong (wire_names models))
+    each (item ∷ items) h =
+        let k = both_all (Contains (wire_names models)) (item_names item) (flat_map item_names items) h in
+        All-cons (IsItemAmong (wire_names models)) item items k.0 (each items k.1)
 
 actuals_among : (names : List (List ℕ)) (pairs : List (List ℕ × List ℕ)) → AreAmong names (pair_names pairs) → All (λ p. Contains names p.1) pairs
 actuals_among names [] each = All-nil (λ (p : List ℕ × List ℕ). Contains names p.1)
@@ -71,12 +73,9 @@ names_one models path name binds named = record {
 
 name_each : (models : List BlifModel) (path : List Instance) (names : List (List ℕ)) → BindsAmong (wire_names models) path
     → AreAmong (wire_names models) names → All (NamesOneWire models) (map (name_at (mark_of models) path) names)
-name_each models path [] binds each = All-nil (NamesOneWire models)
-name_each models path (name ∷ names) binds each =
-    let file = wire_names models in
-    All-cons (NamesOneWire models) (name_at (mark_of models) path name) (map (name_at (mark_of models) path) names)
-    (names_one models path name binds (All-head (Contains file) name names each))
-    (name_each models path names binds (All-tail (Contains file) name names each))
+name_each models path names binds each =
+    All-map (NamesOneWire models) (name_at (mark_of models) path) names
+    (All-weaker (Contains (wire_names models)) (λ name. NamesOneWire models (name_at (mark_of models) path name)) (λ name named. names_one models path name binds named) names each)
 
 control_each : (models : List BlifModel) (path : List Instance) (control : Option Clock) → BindsAmong (wire_names models) path
     → AreAmong (wire_names models) (control_names control) → All (NamesOneWire models) (control_names (option_map (clock_at (mark_of models) path) control))
@@ -162,87 +161,35 @@ walk_names (suc more) depth models top path i binds few =
 
 -- The lines that the walk comes to.
 
-is_lines : (found lines : FlatLines) → ◌≡◌ {A = Result FlatLines FlatFault} (Ok found) (Ok lines) → found ≡ lines
-is_lines found lines e = cc
-
-then_gate_is : (g : GateLine) (r : Result FlatLines FlatFault) (lines : FlatLines) → then_gate g r ≡ Ok lines
-    → (found : FlatLines) × (r ≡ Ok found) × (lines ≡ record { latches = found.latches; gates = g ∷ found.gates })
-then_gate_is g (Ok found) lines e = (found, refl, sym (is_lines _ lines e))
-then_gate_is g (Err fault) lines e = cc
-
-then_latch_is : (l : LatchLine) (r : Result FlatLines FlatFault) (lines : FlatLines) → then_latch l r ≡ Ok lines
-    → (found : FlatLines) × (r ≡ Ok found) × (lines ≡ record { latches = l ∷ found.latches; gates = found.gates })
-then_latch_is l (Ok found) lines e = (found, refl, sym (is_lines _ lines e))
-then_latch_is l (Err fault) lines e = cc
-
-few_events : (room : ℕ) (es : List Event) (lines : FlatLines) → decided room es ≡ Ok lines → length es ≤ room
-few_events room [] lines e = omega arith
-few_events room (fails fault ∷ es) lines e = cc
-few_events zero (gate g ∷ es) lines e = cc
-few_events zero (latch l ∷ es) lines e = cc
-few_events zero (opens ∷ es) lines e = cc
-few_events (suc room) (gate g ∷ es) lines e =
-    let k = then_gate_is g (decided room es) lines e in
-    let h = few_events room es k.0 k.1 in
-    omega arith
-few_events (suc room) (latch l ∷ es) lines e =
-    let k = then_latch_is l (decided room es) lines e in
-    let h = few_events room es k.0 k.1 in
-    omega arith
-few_events (suc room) (opens ∷ es) lines e =
-    let h = few_events room es lines e in
-    omega arith
-
 abbrev GateNames : List BlifModel → GateLine → Type 0
 GateNames models g = All (NamesOneWire models) (item_names (Gate g))
 
 abbrev LatchNames : List BlifModel → LatchLine → Type 0
 LatchNames models l = All (NamesOneWire models) (item_names (Latch l))
 
-decided_names : (models : List BlifModel) (room : ℕ) (es : List Event) (lines : FlatLines) → decided room es ≡ Ok lines → EachNamesWires models es
-    → LinesNameWires models lines
-decided_names models room [] lines e each =
-    let P : FlatLines → Type 0 = λ lines. LinesNameWires models lines in
-    subst P (nothing room e) (record { latches = All-nil (LatchNames models); gates = All-nil (GateNames models) })
-  where
-    nothing : (room : ℕ) → decided room [] ≡ Ok lines → record { latches = []; gates = [] } ≡ lines
-    nothing zero e = is_lines _ lines e
-    nothing (suc room) e = is_lines _ lines e
-decided_names models room (fails fault ∷ es) lines e each = cc
-decided_names models zero (gate g ∷ es) lines e each = cc
-decided_names models zero (latch l ∷ es) lines e each = cc
-decided_names models zero (opens ∷ es) lines e each = cc
-decided_names models (suc room) (gate g ∷ es) lines e each =
-    let k = then_gate_is g (decided room es) lines e in
-    let h = decided_names models room es k.0 k.1 each.1 in
-    let P : FlatLines → Type 0 = λ lines. LinesNameWires models lines in
-    subst P (sym k.2) (record { latches = h.latches; gates = All-cons (GateNames models) g k.0.gates each.0 h.gates })
-decided_names models (suc room) (latch l ∷ es) lines e each =
-    let k = then_latch_is l (decided room es) lines e in
-    let h = decided_names models room es k.0 k.1 each.1 in
-    let P : FlatLines → Type 0 = λ lines. LinesNameWires models lines in
-    subst P (sym k.2) (record { latches = All-cons (LatchNames models) l k.0.latches each.0 h.latches; gates = h.gates })
-decided_names models (suc room) (opens ∷ es) lines e each = decided_names models room es lines e each.1
+names_in : (models : List BlifModel) (es : List Event) → EachNamesWires models es → LinesNameWires models (lines_in es)
+names_in models [] each = record { latches = All-nil (LatchNames models); gates = All-nil (GateNames models) }
+names_in models (gate g ∷ es) each =
+    let h = names_in models es each.1 in
+    record { latches = h.latches; gates = All-cons (GateNames models) g (lines_in es).gates each.0 h.gates }
+names_in models (latch l ∷ es) each =
+    let h = names_in models es each.1 in
+    record { latches = All-cons (LatchNames models) l (lines_in es).latches each.0 h.latches; gates = h.gates }
+names_in models (opens ∷ es) each = names_in models es each.1
+names_in models (fails fault ∷ es) each = names_in models es each.1
 
 lines_name : (depth limit : ℕ) (models : List BlifModel) (place : ℕ) (lines : FlatLines) → 1 + limit < 2 ^ 64 → flat_lines depth limit models place ≡ Ok lines
     → LinesNameWires models lines
 lines_name depth limit models place lines fits e =
     let top = (model_at models place).name in
     let es = events depth depth models top (mark_of models) [] 1 (model_at models place).body in
-    let few = few_events limit es lines e in
-    decided_names models limit es lines e (walk_names depth depth models top [] place tt (omega arith))
+    let k = decided_lines limit es lines e in
+    rw (← k.0) (names_in models es (walk_names depth depth models top [] place tt (omega (arith, k.1))))
 
 pub walk_names_wires : WalkNamesWires
 walk_names_wires models place lines e = lines_name 200 4000000 models place lines (omega arith) e
 
 -- The signals of the flat netlist.
-
-inputs_of : (models : List BlifModel) (i : ℕ) → AreAmong (wire_names models) (model_at models i).inputs
-inputs_of [] i = All-nil (Contains [])
-inputs_of (model ∷ models) zero =
-    among_left (model_names model) (wire_names models) model.inputs
-    (among_left model.inputs (model.outputs ++ (model.clocks ++ flat_map item_names model.body)) model.inputs (All-contains_itself model.inputs))
-inputs_of (model ∷ models) (suc i) = among_right (model_names model) (wire_names models) (model_at models i).inputs (inputs_of models i)
 
 top_names : (models : List BlifModel) (i : ℕ) → All (NamesOneWire models) (model_at models i).inputs
 top_names models i =
@@ -251,21 +198,19 @@ top_names models i =
 
 latch_outputs_name : (models : List BlifModel) (sig : List ℕ → Sig) (latches : List LatchLine) → All (LatchNames models) latches
     → All (NamesOneWire models) (map (λ latch. latch.name) (map (latch_with sig) latches))
-latch_outputs_name models sig [] each = All-nil (NamesOneWire models)
-latch_outputs_name models sig (l ∷ latches) each =
-    let here = All-head (LatchNames models) l latches each in
-    let behind = All-tail (NamesOneWire models) l.from (l.output ∷ control_names l.control) here in
-    All-cons (NamesOneWire models) l.output (map (λ (latch : FlatLatch). latch.name) (map (latch_with sig) latches))
-    (All-head (NamesOneWire models) l.output (control_names l.control) behind)
-    (latch_outputs_name models sig latches (All-tail (LatchNames models) l latches each))
+latch_outputs_name models sig latches each =
+    let P = NamesOneWire models in
+    All-map P (λ (latch : FlatLatch). latch.name) (map (latch_with sig) latches)
+    (All-map (λ (latch : FlatLatch). P latch.name) (latch_with sig) latches
+    (All-weaker (LatchNames models) (λ l. P l.output) (λ l here. All-head P l.output (control_names l.control) (All-tail P l.from (l.output ∷ control_names l.control) here)) latches each))
 
 gate_outputs_name : (models : List BlifModel) (sig : List ℕ → Sig) (gates : List GateLine) → All (GateNames models) gates
     → All (NamesOneWire models) (map (λ gate. gate.name) (map (gate_with sig) gates))
-gate_outputs_name models sig [] each = All-nil (NamesOneWire models)
-gate_outputs_name models sig (g ∷ gates) each =
-    All-cons (NamesOneWire models) g.output (map (λ (gate : FlatGate). gate.name) (map (gate_with sig) gates))
-    (All-head (NamesOneWire models) g.output g.pins (All-head (GateNames models) g gates each))
-    (gate_outputs_name models sig gates (All-tail (GateNames models) g gates each))
+gate_outputs_name models sig gates each =
+    let P = NamesOneWire models in
+    All-map P (λ (gate : FlatGate). gate.name) (map (gate_with sig) gates)
+    (All-map (λ (gate : FlatGate). P gate.name) (gate_with sig) gates
+    (All-weaker (GateNames models) (λ g. P g.output) (λ g here. All-head P g.output g.pins here) gates each))
 
 signals_of : (models : List BlifModel) (i : ℕ) (lines : FlatLines) (sig : List ℕ → Sig) → LinesNameWires models lines
     → All (NamesOneWire models) (signal_names (netlist_by sig (model_at models i) lines))

@@ -1,14 +1,13 @@
 -- Names that are gathered once each, and the tables of models and formals.
-use Rattle.std.proofs.Common.{◌≡◌, ℕ, zero, suc, ◌+◌, ◌<◌, ◌≢◌, slice_index_or, nat_lt, Bool, true, false, ◌||◌, List, [], ◌∷◌, ◌++◌, length, get_or, take, map, fold, refl, sym, ap, ◌∙◌, arith, if◌then◌else◌, append_assoc, Some, None}
-use Rattle.flatten.proofs.Common.{list_any-append, append-nil, length-map, IsDistinct, position, position_or_len, AllByRecursion, bytes_eq, insert_key, BlifModel, is_among, formals, find_model, no_model, model_at, each_once, twice_after}
+use Rattle.std.proofs.Common.{◌≡◌, ℕ, zero, suc, ◌+◌, ◌<◌, ◌≢◌, slice_index_or, nat_lt, Bool, true, false, ◌||◌, List, [], ◌∷◌, ◌++◌, length, get_or, take, map, fold, refl, sym, ap, ◌∙◌, arith, if◌then◌else◌, append_assoc, Some, None, inl, inr}
+use Rattle.flatten.proofs.Common.{list_any-append, append-nil, length-map, IsDistinct, position, position_or_len, AllByRecursion, bytes_eq, insert_key, BlifModel, is_among, formals, find_model, no_model, model_at, each_once, twice_after, bytes_eq-true, or-false, cases_Bool}
 use Rattle.std.proofs.lemmas.List.Sums.{fold-append}
 use Rattle.std.proofs.lemmas.List.{map-append}
 use Rattle.std.proofs.lemmas.Map.Keys.{IsDistinct-head, IsDistinct-tail}
 use Rattle.std.proofs.lemmas.Map.Made.{IsDistinct-from_AllPairs}
 use Rattle.std.proofs.lemmas.Slice.Eq.{bytes_eq-Decides}
 use Rattle.std.specs.List.{AllPairs}
-use Rattle.cyc_base.proofs.NameLemmas.{bytes_eq-true}
-use Rattle.cyc_base.proofs.TruthLemmas.{or-false, or_assoc}
+use Rattle.cyc_base.proofs.TruthLemmas.{or_assoc}
 use Rattle.blif_read.specs.Find.{has_name}
 use Rattle.flatten.proofs.Names.{bytes_sym, taken}
 
@@ -24,11 +23,11 @@ or_there true a h = h refl ∙ sym (ap (λ c. c || true) (h refl))
 or_there false a h = sym (or-false a)
 
 pub among_inserted : (names : List (List ℕ)) (x n : List ℕ) → is_among (insert_key bytes_eq names x) n ≡ (is_among names n || bytes_eq n x)
-among_inserted names x n = by (is_among names x) refl
-  where
-    by : (b : Bool) → is_among names x ≡ b → is_among (insert_key bytes_eq names x) n ≡ (is_among names n || bytes_eq n x)
-    by true e = ap (λ b. is_among (if b then names else names ++ x ∷ []) n) e ∙ or_there (bytes_eq n x) (is_among names n) (λ h. ap (λ y. is_among names y) (bytes_eq-true n x h) ∙ e)
-    by false e = ap (λ b. is_among (if b then names else names ++ x ∷ []) n) e ∙ among_push names x n
+among_inserted names x n =
+    elim (cases_Bool (is_among names x)) [
+      | inl e ↦ ap (λ b. is_among (if b then names else names ++ x ∷ []) n) e ∙ or_there (bytes_eq n x) (is_among names n) (λ h. ap (λ y. is_among names y) (bytes_eq-true n x h) ∙ e)
+      | inr e ↦ ap (λ b. is_among (if b then names else names ++ x ∷ []) n) e ∙ among_push names x n
+    ]
 
 -- what is gathered is what there was and what came
 pub among_gathered : (old names : List (List ℕ)) (n : List ℕ) → is_among (fold (insert_key bytes_eq) old names) n ≡ (is_among old n || is_among names n)
@@ -44,13 +43,11 @@ among_once names n = among_gathered [] names n
 -- names that are new and differ are all gathered
 pub fresh_gathered : (old names : List (List ℕ)) → twice_after old names ≡ None → fold (insert_key bytes_eq) old names ≡ old ++ names
 fresh_gathered old [] h = sym (append-nil old)
-fresh_gathered old (x ∷ names) h = by (is_among old x) refl (λ k. fresh_gathered (old ++ x ∷ []) names k)
-  where
-    by : (b : Bool) → is_among old x ≡ b → (twice_after (old ++ x ∷ []) names ≡ None → fold (insert_key bytes_eq) (old ++ x ∷ []) names ≡ (old ++ x ∷ []) ++ names) → fold (insert_key bytes_eq) old (x ∷ names) ≡ old ++ (x ∷ names)
-    by true e rest = absurd (let k : Some x ≡ None = sym (ap (λ b. if b then Some x else twice_after (old ++ x ∷ []) names) e) ∙ h in cc)
-    by false e rest =
-        let k : twice_after (old ++ x ∷ []) names ≡ None = sym (ap (λ b. if b then Some x else twice_after (old ++ x ∷ []) names) e) ∙ h in
-        ap (λ b. fold (insert_key bytes_eq) (if b then old else old ++ x ∷ []) names) e ∙ rest k ∙ append_assoc old (x ∷ []) names
+fresh_gathered old (x ∷ names) h =
+    elim (cases_Bool (is_among old x)) [
+      | inl e ↦ absurd (let k : Some x ≡ None = rw e at h in cc)
+      | inr e ↦ ap (λ b. fold (insert_key bytes_eq) (if b then old else old ++ x ∷ []) names) e ∙ fresh_gathered (old ++ x ∷ []) names (rw e at h) ∙ append_assoc old (x ∷ []) names
+    ]
 
 pub distinct_fresh : (old names : List (List ℕ)) → AllByRecursion (λ y. is_among old y ≡ false) names → IsDistinct bytes_eq names → twice_after old names ≡ None
 distinct_fresh old [] new apart = refl

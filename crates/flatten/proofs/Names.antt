@@ -1,9 +1,8 @@
 -- Equality of names, and one more item of a list.
-use Rattle.std.proofs.Common.{◌≡◌, ℕ, ◌+◌, ◌<◌, true, List, ◌∷◌, [], ◌++◌, length, get_or, take, refl, sym, ap, ◌∙◌}
-use Rattle.flatten.proofs.Common.{bytes_eq}
+use Rattle.std.proofs.Common.{◌≡◌, ℕ, ◌+◌, ◌<◌, true, List, ◌∷◌, [], ◌++◌, length, get_or, take, refl, sym, ap, ◌∙◌, Bool, false, ◌||◌}
+use Rattle.flatten.proofs.Common.{bytes_eq, bytes_eq-true}
 use Rattle.std.proofs.lemmas.List.{take_more}
 use Rattle.std.proofs.lemmas.Slice.Eq.{bytes_eq-Decides}
-use Rattle.cyc_base.proofs.NameLemmas.{bytes_eq-true}
 use Rattle.cyc_base.proofs.TruthLemmas.{same_truth}
 
 pub bytes_refl : (xs : List ℕ) → bytes_eq xs xs ≡ true
@@ -17,3 +16,9 @@ bytes_sym xs ys =
 
 pub taken : {A : Type 0} (xs : List A) (i : ℕ) (x : A) → i < length xs → x ≡ get_or xs i x → take (i + 1) xs ≡ take i xs ++ x ∷ []
 taken xs i x l e = take_more xs i x l ∙ ap (λ y. take i xs ++ y ∷ []) (sym e)
+
+pub or_open : (a b : Bool) → (a || (b || false)) ≡ (b || a)
+or_open true true = refl
+or_open true false = refl
+or_open false true = refl
+or_open false false = refl

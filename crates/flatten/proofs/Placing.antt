@@ -1,11 +1,10 @@
 -- The signal of a driver, by its place in the table of drivers.
 use Rattle.std.proofs.Common.{◌≡◌, inl, inr, ⊎_elim, ◌⊎◌, ℕ, ◌+◌, ◌-◌, ◌<◌, ◌≤◌, nat_lt, Bool, true, false, not, ◌||◌, List, [], ◌∷◌, ◌++◌, length, length-append, map, filter, refl, sym, ap, ◌∙◌, arith, cond, if◌then◌else◌, Some, None, Ok, Err, is_some, option_map, unwrap_or}
-use Rattle.flatten.proofs.Common.{common_steps, length-map, list_any-append, list_any, find, flat_map, position, position_or_len, option_or, bytes_eq, Option, Result, Sig, Parts, BlifModel, GateLine, LatchLine, FlatFault, is_among, FlatLines, own_clocks, latch_outputs, gate_outputs, reads, signal_list, sig_of, declared_twice, driven_twice, link_fault, latch_with, gate_with, netlist_by, linked, sig_or, undriven_among, AreRead}
+use Rattle.flatten.proofs.Common.{length-map, list_any-append, list_any, find, flat_map, position, position_or_len, option_or, bytes_eq, Option, Result, Sig, Parts, BlifModel, GateLine, LatchLine, FlatFault, is_among, FlatLines, own_clocks, latch_outputs, gate_outputs, reads, signal_list, sig_of, declared_twice, driven_twice, link_fault, latch_with, gate_with, netlist_by, linked, sig_or, undriven_among, AreRead, cases_Bool, bytes_eq-true}
 use Rattle.std.proofs.lemmas.List.Folds.{find-append}
 use Rattle.std.specs.Option.{option_and_then}
-use Rattle.std.proofs.lemmas.Bool.{not-false}
-use Rattle.cyc_base.proofs.NameLemmas.{bytes_eq-true}
-use Rattle.cyc_base.proofs.ListLemmas.{option_or-neither}
+use Rattle.std.proofs.lemmas.Bool.{not-false, or_parts, lt-ltb, le-ltb, both_ways}
+use Rattle.cyc_base.proofs.ListLemmas.{option_or-neither, option_map-nothing}
 use Rattle.netlist.specs.Netlists.{signal}
 use Rattle.flatten.specs.declared.fault.FlatFault.TheVariants.{ClockRead, Undriven}
 use Rattle.flatten.specs.declared.link.Drivers.{Drivers as DriverTable}
@@ -22,49 +21,41 @@ module _ {X : Type 0} (p : X → Bool) where
 
   pub place_some : (xs : List X) → list_any p xs ≡ true → position_or_len p xs < length xs
   place_some [] h = absurd (cc)
-  place_some (x ∷ xs) h = by (p x) refl (λ k. place_some xs k)
-    where
-      by : (b : Bool) → p x ≡ b → (list_any p xs ≡ true → position_or_len p xs < length xs) → position_or_len p (x ∷ xs) < length (x ∷ xs)
-      by true e rest = omega (arith, step_yes x xs e)
-      by false e rest = let k : list_any p xs ≡ true = sym (ap (λ b. b || list_any p xs) e) ∙ h in omega (arith, step_no x xs e, rest k)
+  place_some (x ∷ xs) h =
+      elim (cases_Bool (p x)) [
+        | inl e ↦ omega (arith, step_yes x xs e)
+        | inr e ↦ omega (arith, step_no x xs e, place_some xs (rw e at h))
+      ]
 
   pub place_front : (xs ys : List X) → list_any p xs ≡ true → position_or_len p (xs ++ ys) ≡ position_or_len p xs
   place_front [] ys h = absurd (cc)
-  place_front (x ∷ xs) ys h = by (p x) refl (λ k. place_front xs ys k)
-    where
-      by : (b : Bool) → p x ≡ b → (list_any p xs ≡ true → position_or_len p (xs ++ ys) ≡ position_or_len p xs) → position_or_len p (x ∷ (xs ++ ys)) ≡ position_or_len p (x ∷ xs)
-      by true e rest = step_yes x (xs ++ ys) e ∙ sym (step_yes x xs e)
-      by false e rest = let k : list_any p xs ≡ true = sym (ap (λ b. b || list_any p xs) e) ∙ h in step_no x (xs ++ ys) e ∙ ap (λ n. 1 + n) (rest k) ∙ sym (step_no x xs e)
+  place_front (x ∷ xs) ys h =
+      elim (cases_Bool (p x)) [
+        | inl e ↦ step_yes x (xs ++ ys) e ∙ sym (step_yes x xs e)
+        | inr e ↦ step_no x (xs ++ ys) e ∙ ap (λ n. 1 + n) (place_front xs ys (rw e at h)) ∙ sym (step_no x xs e)
+      ]
 
   pub place_behind : (xs ys : List X) → list_any p xs ≡ false → position_or_len p (xs ++ ys) ≡ length xs + position_or_len p ys
   place_behind [] ys h = omega arith
-  place_behind (x ∷ xs) ys h = by (p x) refl (λ k. place_behind xs ys k)
-    where
-      by : (b : Bool) → p x ≡ b → (list_any p xs ≡ false → position_or_len p (xs ++ ys) ≡ length xs + position_or_len p ys) → position_or_len p (x ∷ (xs ++ ys)) ≡ length (x ∷ xs) + position_or_len p ys
-      by true e rest = absurd (let k : true ≡ false = sym (ap (λ b. b || list_any p xs) e) ∙ h in cc)
-      by false e rest = let k : list_any p xs ≡ false = sym (ap (λ b. b || list_any p xs) e) ∙ h in omega (arith, step_no x (xs ++ ys) e, rest k)
-
-lt_true : (a b : ℕ) → a < b → nat_lt a b ≡ true
-lt_true a b h = grind (arith, common_steps)
-
-lt_false : (a b : ℕ) → b ≤ a → nat_lt a b ≡ false
-lt_false a b h = grind (arith, common_steps)
+  place_behind (x ∷ xs) ys h =
+      let both = or_parts (p x) (list_any p xs) h in
+      omega (arith, step_no x (xs ++ ys) both.0, place_behind xs ys both.1)
 
 found_at : {X : Type 0} (p : X → Bool) (xs : List X) → position_or_len p xs < length xs → position p xs ≡ Some (position_or_len p xs)
-found_at p xs h = ap (λ b. if b then Some (position_or_len p xs) else None) (lt_true (position_or_len p xs) (length xs) h)
+found_at p xs h = ap (λ b. if b then Some (position_or_len p xs) else None) (lt-ltb (position_or_len p xs) (length xs) h)
 
 place_input : (a b k : ℕ) → k < a → sig_of_place a b k ≡ Some (signal k)
-place_input a b k h = ap (λ t. if t then Some (signal k) else (if nat_lt k (a + b) then None else Some (signal (k - b)))) (lt_true k a h)
+place_input a b k h = ap (λ t. if t then Some (signal k) else (if nat_lt k (a + b) then None else Some (signal (k - b)))) (lt-ltb k a h)
 
 place_clock : (a b k : ℕ) → a ≤ k → k < a + b → sig_of_place a b k ≡ None
 place_clock a b k h i =
-    ap (λ t. if t then Some (signal k) else (if nat_lt k (a + b) then None else Some (signal (k - b)))) (lt_false k a h)
-    ∙ ap (λ t. if t then None else Some (signal (k - b))) (lt_true k (a + b) i)
+    ap (λ t. if t then Some (signal k) else (if nat_lt k (a + b) then None else Some (signal (k - b)))) (le-ltb k a h)
+    ∙ ap (λ t. if t then None else Some (signal (k - b))) (lt-ltb k (a + b) i)
 
 place_driven : (a b k : ℕ) → a + b ≤ k → sig_of_place a b k ≡ Some (signal (k - b))
 place_driven a b k h =
-    ap (λ t. if t then Some (signal k) else (if nat_lt k (a + b) then None else Some (signal (k - b)))) (lt_false k a (omega arith))
-    ∙ ap (λ t. if t then None else Some (signal (k - b))) (lt_false k (a + b) h)
+    ap (λ t. if t then Some (signal k) else (if nat_lt k (a + b) then None else Some (signal (k - b)))) (le-ltb k a (omega arith))
+    ∙ ap (λ t. if t then None else Some (signal (k - b))) (le-ltb k (a + b) h)
 
 -- the signal of a name among inputs I, clocks C and other drivers R
 module _ (I C R : List (List ℕ)) (n : List ℕ) where
@@ -108,11 +99,11 @@ module _ (I C R : List (List ℕ)) (n : List ℕ) where
       ∙ ap (λ j. Some (signal j)) (let s : k - length C ≡ position_or_len (bytes_eq n) (I ++ R) = omega (arith, g) in s)
 
   pub at_none : is_among I n ≡ false → is_among C n ≡ false → at ≡ Some (sig_of (I ++ R) n) ⊎ (is_among (I ++ (C ++ R)) n ≡ false)
-  at_none h c = by (is_among R n) refl
-    where
-      by : (b : Bool) → is_among R n ≡ b → at ≡ Some (sig_of (I ++ R) n) ⊎ (is_among (I ++ (C ++ R)) n ≡ false)
-      by true e = inl (at_driven h c e)
-      by false e = inr (among_all ∙ ap (λ b. b || (is_among C n || is_among R n)) h ∙ ap (λ b. b || is_among R n) c ∙ e)
+  at_none h c =
+      elim (cases_Bool (is_among R n)) [
+        | inl e ↦ inl (at_driven h c e)
+        | inr e ↦ inr (rw among_all (rw (h, c, e) refl))
+      ]
 
 -- own clocks are no inputs
 filtered : (I xs : List (List ℕ)) (n : List ℕ) → is_among (filter (λ x. not (is_among I x)) xs) n ≡ true → is_among I n ≡ false
@@ -133,11 +124,11 @@ clock_no_input top n h =
     filtered top.inputs top.clocks n (sym (among_once (filter (λ x. not (is_among top.inputs x)) top.clocks) n) ∙ h)
 
 pub first_of : {X : Type 0} (p : X → Bool) (x : X) (xs : List X) → find p (x ∷ xs) ≡ None → (p x ≡ false) × (find p xs ≡ None)
-first_of p x xs h = by (p x) refl
-  where
-    by : (b : Bool) → p x ≡ b → (p x ≡ false) × (find p xs ≡ None)
-    by true e = absurd (let k : Some x ≡ None = sym (ap (λ b. cond b (Some x) (find p xs)) e) ∙ h in cc)
-    by false e = (e, sym (ap (λ b. cond b (Some x) (find p xs)) e) ∙ h)
+first_of p x xs h =
+    elim (cases_Bool (p x)) [
+      | inl e ↦ absurd (let k : Some x ≡ None = rw e at h in cc)
+      | inr e ↦ (e, rw e at h)
+    ]
 
 pub both_none : {X : Type 0} (p : X → Bool) (xs ys : List X) → find p (xs ++ ys) ≡ None → (find p xs ≡ None) × (find p ys ≡ None)
 both_none p xs ys h = option_or-neither (find p xs) (find p ys) (sym (find-append p xs ys) ∙ h)
@@ -156,21 +147,21 @@ module _ (top : BlifModel) (lines : FlatLines) (table : DriverTable) (of : IsDri
   sig_clock n h = at_table n ∙ at_clock top.inputs (own_clocks top) (latch_outputs lines ++ gate_outputs lines) n (clock_no_input top n h) h
 
   sig_found : (n : List ℕ) → missing n ≡ false → is_among (own_clocks top) n ≡ false → sig_at table n ≡ Some (sig_of (signal_list top lines) n)
-  sig_found n d c = by (is_among top.inputs n) refl
+  sig_found n d c =
+      elim (cases_Bool (is_among top.inputs n)) [
+        | inl e ↦ at_table n ∙ at_input top.inputs (own_clocks top) (latch_outputs lines ++ gate_outputs lines) n e
+        | inr e ↦ ⊎_elim (λ f. at_table n ∙ f) (λ f. absurd (both_ways _ f driven)) (at_none top.inputs (own_clocks top) (latch_outputs lines ++ gate_outputs lines) n e c)
+      ]
     where
       driven : is_among (drivers top lines) n ≡ true
       driven = not-false (is_among (drivers top lines) n) d
 
-      by : (b : Bool) → is_among top.inputs n ≡ b → sig_at table n ≡ Some (sig_of (signal_list top lines) n)
-      by true e = at_table n ∙ at_input top.inputs (own_clocks top) (latch_outputs lines ++ gate_outputs lines) n e
-      by false e = ⊎_elim (λ f. at_table n ∙ f) (λ f. absurd (let k : true ≡ false = sym driven ∙ f in cc)) (at_none top.inputs (own_clocks top) (latch_outputs lines ++ gate_outputs lines) n e c)
-
   unread_is : (n : List ℕ) → missing n ≡ false → is_unread table n ≡ is_among (own_clocks top) n
-  unread_is n d = by (is_among (own_clocks top) n) refl
-    where
-      by : (b : Bool) → is_among (own_clocks top) n ≡ b → is_unread table n ≡ is_among (own_clocks top) n
-      by true e = ap (λ o. not (is_some o)) (sig_clock n e) ∙ sym e
-      by false e = ap (λ o. not (is_some o)) (sig_found n d e) ∙ sym e
+  unread_is n d =
+      elim (cases_Bool (is_among (own_clocks top) n)) [
+        | inl e ↦ ap (λ o. not (is_some o)) (sig_clock n e) ∙ sym e
+        | inr e ↦ ap (λ o. not (is_some o)) (sig_found n d e) ∙ sym e
+      ]
 
   -- the first clock that is read, where all that is read is driven
   pub find_unread : (names : List (List ℕ)) → find missing names ≡ None → find (is_unread table) names ≡ find (is_among (own_clocks top)) names
@@ -220,10 +211,6 @@ module _ (top : BlifModel) (lines : FlatLines) (table : DriverTable) (of : IsDri
       let d = gates_same lines.gates f'.1 g'.1 in
       cc
 
-  none_of_map : (o : Option (List ℕ)) (g : List ℕ → FlatFault) → option_map g o ≡ None → o ≡ None
-  none_of_map None g h = refl
-  none_of_map (Some x) g h = absurd (cc)
-
   undriven_is : undriven_among table (reads top lines) ≡ undriven top lines
   undriven_is = ap (λ (keys : List (List ℕ)). option_map Undriven (find (λ name. not (is_among keys name)) (reads top lines))) of.names
 
@@ -248,7 +235,7 @@ module _ (top : BlifModel) (lines : FlatLines) (table : DriverTable) (of : IsDri
     -- and once all wires were read
     module _ (clock : Option (List ℕ)) (read : AreRead table (reads top lines) None clock) where
       all_driven : find missing (reads top lines) ≡ None
-      all_driven = none_of_map (find missing (reads top lines)) Undriven (sym undriven_is ∙ read.driven)
+      all_driven = option_map-nothing Undriven (find missing (reads top lines)) (sym undriven_is ∙ read.driven)
 
       fault_is : link_fault top lines ≡ option_or (bad_clock top lines) (option_map ClockRead clock)
       fault_is =
@@ -260,7 +247,7 @@ module _ (top : BlifModel) (lines : FlatLines) (table : DriverTable) (of : IsDri
 
       pub linked_parts : (parts : Parts) → parts ≡ netlist_by (sig_or table) top lines → option_or (bad_clock top lines) (option_map ClockRead clock) ≡ None → linked top lines ≡ Ok parts
       linked_parts parts is fits =
-          let unread : find (is_unread table) (reads top lines) ≡ None = sym read.clock ∙ none_of_map clock ClockRead (option_or-neither (bad_clock top lines) (option_map ClockRead clock) fits).1 in
+          let unread : find (is_unread table) (reads top lines) ≡ None = sym read.clock ∙ option_map-nothing ClockRead clock (option_or-neither (bad_clock top lines) (option_map ClockRead clock) fits).1 in
           linked_none (link_fault top lines) (fault_is ∙ fits) ∙ ap (λ x. Ok x) (sym (is ∙ parts_same all_driven unread))
 
 -- the numbers of the signals of a table fit

@@ -1,11 +1,14 @@
--- What a result says, where it is handed on as it is.
-use Rattle.std.proofs.Common.{OnOk, IfErr, Ok, Err}
-use Rattle.flatten.proofs.Common.{Result}
+-- A fault of a call is handed on.
+use Rattle.std.proofs.Common.{◌≡◌, ◌⊎◌, inl, inr, ⊎_elim, IsErrAnd, IfErr}
+use Rattle.std.proofs.lemmas.Result.{err_from_is_err_and, IfErr-weaker}
+use Rattle.flatten.proofs.Common.{Result, FlatFault, Memory}
 
-pub on_ok : {T E P Q : Type 0} (r : Result T E) → (P → Q) → OnOk r P → OnOk r Q
-on_ok (Ok x) f p = f p
-on_ok (Err e) f p = tt
+-- by `?`, where what holds at the fault tells what is to hold
+pub handed_on : {T P : Type 0} (Q : FlatFault → Type 0) (r : Result T FlatFault) (fault : FlatFault) → IsErrAnd r (λ e. e ≡ fault) → (fault ≡ Memory) ⊎ P → (P → Q fault) → IfErr r (λ e. (e ≡ Memory) ⊎ Q e)
+handed_on Q r fault is h f =
+    let e = err_from_is_err_and r is in
+    rw (e.1, e.2) (⊎_elim (λ m. inl m) (λ p. inr (f p)) h)
 
-pub on_err : {T E : Type 0} {P Q : E → Type 0} (r : Result T E) → ((e : E) → P e → Q e) → IfErr r P → IfErr r Q
-on_err (Ok x) f p = tt
-on_err (Err e) f p = f e p
+-- as the call's own result
+pub fault_of : {T : Type 0} (P Q : FlatFault → Type 0) (r : Result T FlatFault) → ((fault : FlatFault) → P fault → Q fault) → IfErr r (λ fault. (fault ≡ Memory) ⊎ P fault) → IfErr r (λ fault. (fault ≡ Memory) ⊎ Q fault)
+fault_of P Q r f h = IfErr-weaker r _ _ (λ fault. ⊎_elim (λ m. inl m) (λ p. inr (f fault p))) h

@@ -1,12 +1,11 @@
 -- The parts of a flat netlist meet all conditions of a netlist.
-use Rattle.std.proofs.Common.{◌≡◌, ⊎_elim, ◌⊎◌, append_assoc, codes, nat_eq, ℕ, ◌+◌, ◌≤◌, Bool, true, false, not, ◌||◌, List, [], ◌∷◌, ◌++◌, length, length-append, map, refl, sym, ap, ◌∙◌, subst, arith, All, Some, None, Ok, Err, is_some, cond, IfSome, option_map}
-use Rattle.flatten.proofs.Common.{common_steps, length-map, All-nil, All-cons, All-head, All-tail, All-append, list_any-append, list_any, find, flat_map, position_or_len, IsDistinct, AllByRecursion, option_or, bytes_eq, Option, Result, Sig, Clock, Parts, BlifModel, GateLine, LatchLine, FlatFault, is_among, FlatLines, IsPrintedGate, IsPrintedLatch, own_clocks, latch_outputs, gate_outputs, reads, first_twice, twice_after, signal_list, sig_of, has_bad_control, declared_twice, driven_twice, link_fault, latch_with, gate_with, netlist_by, linked}
+use Rattle.std.proofs.Common.{◌≡◌, ⊎_elim, append_assoc, codes, nat_eq, ℕ, ◌+◌, ◌≤◌, Bool, true, false, not, ◌||◌, List, [], ◌∷◌, ◌++◌, length, length-append, map, refl, sym, ap, ◌∙◌, subst, arith, All, Some, None, Ok, Err, is_some, cond, IfSome, get_or, inl, inr}
+use Rattle.flatten.proofs.Common.{common_steps, length-map, All-nil, All-cons, All-head, All-tail, All-append, list_any-append, list_any, find, flat_map, position_or_len, IsDistinct, AllByRecursion, option_or, bytes_eq, Option, Result, Sig, Clock, Parts, BlifModel, GateLine, LatchLine, FlatFault, is_among, FlatLines, IsPrintedGate, own_clocks, latch_outputs, gate_outputs, reads, first_twice, twice_after, signal_list, sig_of, has_bad_control, declared_twice, driven_twice, link_fault, latch_with, gate_with, netlist_by, linked, cases_Bool, bytes_eq-true, All-map, All-weaker}
 use Rattle.std.proofs.lemmas.Map.Keys.{IsDistinct-cons, IsDistinct-head, IsDistinct-tail}
 use Rattle.std.specs.Option.{option_and_then, option_map_or}
 use Rattle.std.proofs.lemmas.Bool.{not-false, or_cases}
 use Rattle.cyc_base.specs.Names.{IsBlifName}
-use Rattle.cyc_base.proofs.NameLemmas.{bytes_eq-true}
-use Rattle.cyc_base.proofs.ListLemmas.{option_or-neither}
+use Rattle.cyc_base.proofs.ListLemmas.{option_or-neither, option_map-nothing, list_any-map, map-map}
 use Rattle.cyc_base.proofs.TruthLemmas.{first_of_and, second_of_and}
 use Rattle.netlist.specs.declared.parts.Gate.{Gate as FlatGate}
 use Rattle.netlist.specs.declared.parts.Latch.{Latch as FlatLatch}
@@ -17,7 +16,8 @@ use Rattle.flatten.specs.Linking.{drivers, has_control, first_control, is_clock_
 use Rattle.flatten.proofs.Names.{bytes_refl}
 use Rattle.flatten.proofs.Libraries.{among_gathered}
 use Rattle.flatten.proofs.Gathering.{fresh_apart, twice-append, own_clocks_gathered}
-use Rattle.flatten.proofs.Placing.{place_some, step_yes, step_no, both_none, first_of}
+use Rattle.flatten.proofs.Placing.{place_some, both_none, first_of}
+use Rattle.std.proofs.lemmas.List.Sums.{passes_at_first}
 
 -- one list within another
 distinct_without : (xs ys zs : List (List ℕ)) → IsDistinct bytes_eq (xs ++ (ys ++ zs)) → IsDistinct bytes_eq (xs ++ zs)
@@ -39,31 +39,19 @@ distinct_without (x ∷ xs) ys zs d =
 
 -- the place of a name tells the name
 same_place : (names : List (List ℕ)) (a b : List ℕ) → is_among names a ≡ true → position_or_len (bytes_eq a) names ≡ position_or_len (bytes_eq b) names → a ≡ b
-same_place [] a b h e = absurd (cc)
-same_place (x ∷ names) a b h e = by (bytes_eq a x) (bytes_eq b x) refl refl (λ k f. same_place names a b k f)
-  where
-    by : (p q : Bool) → bytes_eq a x ≡ p → bytes_eq b x ≡ q → (is_among names a ≡ true → position_or_len (bytes_eq a) names ≡ position_or_len (bytes_eq b) names → a ≡ b) → a ≡ b
-    by true true f g rest = bytes_eq-true a x f ∙ sym (bytes_eq-true b x g)
-    by true false f g rest =
-        let i = step_yes (bytes_eq a) x names f in
-        let j = step_no (bytes_eq b) x names g in
-        absurd (omega (arith, e, i, j))
-    by false true f g rest =
-        let i = step_no (bytes_eq a) x names f in
-        let j = step_yes (bytes_eq b) x names g in
-        absurd (omega (arith, e, i, j))
-    by false false f g rest =
-        let i = step_no (bytes_eq a) x names f in
-        let j = step_no (bytes_eq b) x names g in
-        rest (sym (ap (λ t. t || is_among names a) f) ∙ h) (omega (arith, e, i, j))
+same_place names a b h e =
+    let l = place_some (bytes_eq a) names h in
+    let at_a = bytes_eq-true a _ (passes_at_first (bytes_eq a) names [] l) in
+    let at_b = bytes_eq-true b _ (passes_at_first (bytes_eq b) names [] (omega (arith, l, e))) in
+    at_a ∙ ap (λ k. get_or names k []) e ∙ sym at_b
 
 among_all : (P : List ℕ → Type 0) (names : List (List ℕ)) (n : List ℕ) → All P names → is_among names n ≡ true → P n
 among_all P [] n h a = absurd (cc)
-among_all P (x ∷ names) n h a = by (bytes_eq n x) refl (λ k. among_all P names n (All-tail P x names h) k)
-  where
-    by : (b : Bool) → bytes_eq n x ≡ b → (is_among names n ≡ true → P n) → P n
-    by true e rest = subst P (sym (bytes_eq-true n x e)) (All-head P x names h)
-    by false e rest = rest (sym (ap (λ t. t || is_among names n) e) ∙ a)
+among_all P (x ∷ names) n h a =
+    elim (cases_Bool (bytes_eq n x)) [
+      | inl e ↦ subst P (sym (bytes_eq-true n x e)) (All-head P x names h)
+      | inr e ↦ among_all P names n (All-tail P x names h) (rw e at a)
+    ]
 
 apart_among : (old names : List (List ℕ)) (n : List ℕ) → AllByRecursion (λ y. is_among old y ≡ false) names → is_among old n ≡ true → is_among names n ≡ false
 apart_among old [] n h a = refl
@@ -105,24 +93,6 @@ clocked_is sig (l ∷ latches) = by l.control refl (clocked_is sig latches)
         ∙ rest
         ∙ sym (ap is_some (ap (λ t. option_and_then (λ (x : LatchLine). x.control) (cond t (Some l) (find has_control latches))) (ap is_some o)))
 
-module _ (sig : List ℕ → Sig) where
-  latch_names : (latches : List LatchLine) → map (λ latch. latch.name) (map (latch_with sig) latches) ≡ map (λ l. l.output) latches
-  latch_names [] = refl
-  latch_names (l ∷ latches) = ap (λ ns. l.output ∷ ns) (latch_names latches)
-
-  gate_names : (gates : List GateLine) → map (λ gate. gate.name) (map (gate_with sig) gates) ≡ map (λ g. g.output) gates
-  gate_names [] = refl
-  gate_names (g ∷ gates) = ap (λ ns. g.output ∷ ns) (gate_names gates)
-
-module _ (sig : List ℕ → Sig) (n : List ℕ) where
-  latch_any : (latches : List LatchLine) → list_any (λ latch. bytes_eq n latch.name) (map (latch_with sig) latches) ≡ is_among (map (λ l. l.output) latches) n
-  latch_any [] = refl
-  latch_any (l ∷ latches) = ap (λ b. bytes_eq n l.output || b) (latch_any latches)
-
-  gate_any : (gates : List GateLine) → list_any (λ gate. bytes_eq n gate.name) (map (gate_with sig) gates) ≡ is_among (map (λ g. g.output) gates) n
-  gate_any [] = refl
-  gate_any (g ∷ gates) = ap (λ b. bytes_eq n g.output || b) (gate_any gates)
-
 none_differ : IsDistinct sig_eq []
 unfolding IsDistinct
 none_differ = tt
@@ -149,24 +119,20 @@ module _ (top : BlifModel) (lines : FlatLines) (sound : IsSoundModel top) (print
   lines_ok : (undriven top lines ≡ None) × (bad_clock top lines ≡ None)
   lines_ok = option_or-neither (undriven top lines) (bad_clock top lines) others_ok.0
 
-  unmapped : {X : Type 0} (f : X → FlatFault) (o : Option X) → option_map f o ≡ None → o ≡ None
-  unmapped f None h = refl
-  unmapped f (Some x) h = absurd (cc)
-
   all_driven : find missing (reads top lines) ≡ None
-  all_driven = unmapped _ (find missing (reads top lines)) lines_ok.0
+  all_driven = option_map-nothing _ (find missing (reads top lines)) lines_ok.0
 
   none_clock : find (is_among (own_clocks top)) (reads top lines) ≡ None
-  none_clock = unmapped _ (find (is_among (own_clocks top)) (reads top lines)) others_ok.1
+  none_clock = option_map-nothing _ (find (is_among (own_clocks top)) (reads top lines)) others_ok.1
 
   drivers_once : first_twice (drivers top lines) ≡ None
-  drivers_once = unmapped _ (first_twice (drivers top lines)) drivers_ok.1
+  drivers_once = option_map-nothing _ (first_twice (drivers top lines)) drivers_ok.1
 
   names_are : signal_names net ≡ S
   unfolding S net
   names_are =
-      ap (λ ns. top.inputs ++ (ns ++ map (λ (g : FlatGate). g.name) (map (gate_with (sig_of (signal_list top lines))) lines.gates))) (latch_names (sig_of (signal_list top lines)) lines.latches)
-      ∙ ap (λ ns. top.inputs ++ (latch_outputs lines ++ ns)) (gate_names (sig_of (signal_list top lines)) lines.gates)
+      ap (λ ns. top.inputs ++ (ns ++ map (λ (g : FlatGate). g.name) (map (gate_with (sig_of (signal_list top lines))) lines.gates))) (map-map (λ (latch : FlatLatch). latch.name) (latch_with (sig_of (signal_list top lines))) lines.latches)
+      ∙ ap (λ ns. top.inputs ++ (latch_outputs lines ++ ns)) (map-map (λ (gate : FlatGate). gate.name) (gate_with (sig_of (signal_list top lines))) lines.gates)
 
   count_is : count net ≡ length S
   unfolding S net
@@ -210,23 +176,21 @@ module _ (top : BlifModel) (lines : FlatLines) (sound : IsSoundModel top) (print
       let g = both_none (is_among (own_clocks top)) x.pins (flat_map (λ (y : GateLine). y.pins) gates) r in
       All-cons (λ gate. All (IsSignal net) gate.pins) (gate_with (sig_of S) x) (map (gate_with (sig_of S)) gates) (sigs_fit x.pins f.0 g.0) (pins_fit gates f.1 g.1)
 
-  widths_fit : (gates : List GateLine) → All IsPrintedGate gates → All (λ gate. length gate.pins ≡ gate.cover.pins) (map (gate_with (sig_of S)) gates)
-  widths_fit [] h = All-nil (λ gate. length gate.pins ≡ gate.cover.pins)
-  widths_fit (x ∷ gates) h =
-      All-cons (λ gate. length gate.pins ≡ gate.cover.pins) (gate_with (sig_of S) x) (map (gate_with (sig_of S)) gates) (length-map x.pins (sig_of S) ∙ (All-head IsPrintedGate x gates h).width) (widths_fit gates (All-tail IsPrintedGate x gates h))
+  widths_fit : All (λ gate. length gate.pins ≡ gate.cover.pins) (map (gate_with (sig_of S)) lines.gates)
+  widths_fit =
+      All-map (λ gate. length gate.pins ≡ gate.cover.pins) (gate_with (sig_of S)) lines.gates
+      (All-weaker IsPrintedGate (λ g. length (map (sig_of S) g.pins) ≡ g.cover.pins) (λ g p. length-map g.pins (sig_of S) ∙ p.width) lines.gates printed.gates)
 
-  latch_names_fit : (latches : List LatchLine) → All IsPrintedLatch latches → All IsBlifName (map (λ l. l.output) latches)
-  latch_names_fit [] h = All-nil IsBlifName
-  latch_names_fit (l ∷ latches) h = All-cons IsBlifName l.output (map (λ (x : LatchLine). x.output) latches) (All-head IsPrintedLatch l latches h) (latch_names_fit latches (All-tail IsPrintedLatch l latches h))
-
-  gate_names_fit : (gates : List GateLine) → All IsPrintedGate gates → All IsBlifName (map (λ g. g.output) gates)
-  gate_names_fit [] h = All-nil IsBlifName
-  gate_names_fit (x ∷ gates) h = All-cons IsBlifName x.output (map (λ (g : GateLine). g.output) gates) (All-head IsPrintedGate x gates h).output (gate_names_fit gates (All-tail IsPrintedGate x gates h))
+  driven_names_fit : All IsBlifName (latch_outputs lines ++ gate_outputs lines)
+  driven_names_fit =
+      All-append IsBlifName (latch_outputs lines) (gate_outputs lines)
+      (All-map IsBlifName (λ (l : LatchLine). l.output) lines.latches printed.latches)
+      (All-map IsBlifName (λ (g : GateLine). g.output) lines.gates (All-weaker IsPrintedGate (λ g. IsBlifName g.output) (λ g p. p.output) lines.gates printed.gates))
 
   names_fit : All IsBlifName S
   unfolding S
   names_fit =
-      All-append IsBlifName top.inputs (latch_outputs lines ++ gate_outputs lines) sound.inputs (All-append IsBlifName (latch_outputs lines) (gate_outputs lines) (latch_names_fit lines.latches printed.latches) (gate_names_fit lines.gates printed.gates))
+      All-append IsBlifName top.inputs (latch_outputs lines ++ gate_outputs lines) sound.inputs driven_names_fit
 
   names_once : IsDistinct bytes_eq S
   unfolding S
@@ -248,7 +212,7 @@ module _ (top : BlifModel) (lines : FlatLines) (sound : IsSoundModel top) (print
           (eq_false (position_or_len (bytes_eq x) S) (position_or_len (bytes_eq y) S) (λ e. let k : true ≡ false = sym (bytes_refl x) ∙ ap (λ z. bytes_eq x z) (same_place S x y here e) ∙ a.0 in cc), apart ys a.1)
 
   outputs_once : first_twice top.outputs ≡ None
-  outputs_once = (option_or-neither (first_twice top.inputs) (first_twice top.outputs) (unmapped _ (option_or (first_twice top.inputs) (first_twice top.outputs)) drivers_ok.0)).1
+  outputs_once = (option_or-neither (first_twice top.inputs) (first_twice top.outputs) (option_map-nothing _ (option_or (first_twice top.inputs) (first_twice top.outputs)) drivers_ok.0)).1
 
   base_is : (n : List ℕ) → is_among (top.inputs ++ own_clocks top) n ≡ (is_among top.inputs n || is_among top.clocks n)
   base_is n = ap (λ ks. is_among ks n) (sym (own_clocks_gathered top)) ∙ among_gathered top.inputs top.clocks n
@@ -267,17 +231,13 @@ module _ (top : BlifModel) (lines : FlatLines) (sound : IsSoundModel top) (print
       record {
         blif = ⊎_elim (λ i. among_all IsBlifName top.inputs n sound.inputs i) (λ i. among_all IsBlifName top.clocks n sound.clocks i) (or_cases (is_among top.inputs n) (is_among top.clocks n) b);
         named = λ e. let k : false ≡ true = sym (ap not (ap (λ x. bytes_eq n x) (sym e) ∙ bytes_refl n)) ∙ a in absurd (cc);
-        undriven =
-            ap (λ x. x || list_any (λ (g : FlatGate). bytes_eq n g.name) (map (gate_with (sig_of (signal_list top lines))) lines.gates)) (latch_any (sig_of (signal_list top lines)) n lines.latches)
-            ∙ ap (λ x. is_among (latch_outputs lines) n || x) (gate_any (sig_of (signal_list top lines)) n lines.gates)
-            ∙ sym (list_any-append (bytes_eq n) (latch_outputs lines) (gate_outputs lines))
-            ∙ apart_among (top.inputs ++ own_clocks top) (latch_outputs lines ++ gate_outputs lines) n driven_apart (base_is n ∙ b);
+        undriven = simp list_any-map (simp (list_any-append, list_any-map) at (apart_among (top.inputs ++ own_clocks top) (latch_outputs lines ++ gate_outputs lines) n driven_apart (base_is n ∙ b)));
       }
 
   clock_fits : (o : Option Clock) → first_control lines.latches ≡ o → IfSome o (λ clock. IsClockName net clock.name)
   clock_fits None e = tt
   clock_fits (Some f) e =
-      clock_name f.name (first_fits top lines.latches f e (ap (λ o. find (has_bad_control top o) lines.latches) (sym e) ∙ unmapped _ (find (has_bad_control top (first_control lines.latches)) lines.latches) lines_ok.1))
+      clock_name f.name (first_fits top lines.latches f e (ap (λ o. find (has_bad_control top o) lines.latches) (sym e) ∙ option_map-nothing _ (find (has_bad_control top (first_control lines.latches)) lines.latches) lines_ok.1))
 
   pub is_netlist : IsNetlist (netlist_by (sig_of (signal_list top lines)) top lines)
   unfolding S net
@@ -291,7 +251,7 @@ module _ (top : BlifModel) (lines : FlatLines) (sound : IsSoundModel top) (print
         pins = pins_fit lines.gates r'.1 c'.1;
         sources = sources_fit lines.latches r'.0 c'.0;
         outputs = sigs_fit top.outputs r.0 c.0;
-        pin_counts = widths_fit lines.gates printed.gates;
+        pin_counts = widths_fit;
         name = sound.name;
         names = subst (λ (ns : List (List ℕ)). All IsBlifName ns) (sym names_are) names_fit;
         names_differ = subst (λ (ns : List (List ℕ)). IsDistinct bytes_eq ns) (sym names_are) names_once;

@@ -1,7 +1,6 @@
 -- The levels that are open, and what the walk comes to at their next items.
-use Rattle.std.proofs.Common.{◌≡◌, ℕ, zero, suc, ◌+◌, ◌-◌, ◌<◌, nat_le, Bool, true, false, List, [], ◌∷◌, ◌++◌, length, map, drop, refl, ap, sym, ◌∙◌, subst, arith, append_assoc, Some, None, Ok, Err, add-one, All, option_map}
-use Rattle.cyc_base.proofs.TruthLemmas.{or-false}
-use Rattle.flatten.proofs.Common.{common_steps, append-nil, All-nil, All-cons, list_any, bytes_eq, decimal, Option, Clock, BlifModel, GateLine, LatchLine, PartLine, Item, Gate, Latch, Part, FlatFault, Level, Instance, name_at, gate_at, latch_at, clock_at, model_at, is_open, entry, entered, pairs_fault, find_model, Event, gate, latch, opens, fails, events, resolved, bound, gate_by, latch_by, passed_line, passed_part}
+use Rattle.std.proofs.Common.{◌≡◌, ℕ, zero, suc, ◌-◌, ◌<◌, nat_le, Bool, true, false, List, [], ◌∷◌, ◌++◌, length, map, drop, refl, ap, sym, ◌∙◌, subst, arith, append_assoc, Some, None, Ok, Err, add-one, All, option_map, inl, inr, ◌⊎◌}
+use Rattle.flatten.proofs.Common.{or-false, common_steps, append-nil, All-nil, All-cons, list_any, bytes_eq, decimal, Option, Clock, BlifModel, GateLine, LatchLine, PartLine, Item, Gate, Latch, Part, FlatFault, Level, Instance, name_at, gate_at, latch_at, clock_at, model_at, is_open, entry, entered, pairs_fault, find_model, Event, gate, latch, opens, fails, events, resolved, bound, gate_by, latch_by, passed_line, passed_part, Result}
 use Rattle.flatten.specs.Laws.{prefix_of, table_of}
 use Rattle.flatten.specs.Levels.{clock_by, IsInner, IsAt, remaining, Waits}
 use Rattle.flatten.proofs.Climbing.{resolved_is_climbed}
@@ -28,13 +27,46 @@ latch_same m path l =
     let h = control_same m path l.control in
     cc
 
-gate_is : (models : List BlifModel) (m : List ℕ) (level : Level) (path : List Instance) (g : GateLine) → IsAt models m level path → gate_by level.scope.prefix level.scope.table.entries g ≡ gate_at m path g
-gate_is models m level path g at =
-    ap (λ p. gate_by p level.scope.table.entries g) at.prefix ∙ ap (λ t. gate_by (prefix_of m path) t g) at.table ∙ gate_same m path g
+-- what a gate or a latch comes to, by tables and on a path
+abbrev pub IsLine : Item → Type 0
+IsLine item = ((g : GateLine) × (item ≡ Gate g)) ⊎ ((l : LatchLine) × (item ≡ Latch l))
 
-latch_is : (models : List BlifModel) (m : List ℕ) (level : Level) (path : List Instance) (l : LatchLine) → IsAt models m level path → latch_by level.scope.prefix level.scope.table.entries l ≡ latch_at m path l
-latch_is models m level path l at =
-    ap (λ p. latch_by p level.scope.table.entries l) at.prefix ∙ ap (λ t. latch_by (prefix_of m path) t l) at.table ∙ latch_same m path l
+abbrev pub line_by : List ℕ → List (List ℕ × List ℕ) → Item → Event
+line_by prefix table (Gate g) = gate (gate_by prefix table g)
+line_by prefix table (Latch l) = latch (latch_by prefix table l)
+line_by prefix table (Part p) = opens
+
+abbrev pub line_at : List ℕ → List Instance → Item → Event
+line_at m path (Gate g) = gate (gate_at m path g)
+line_at m path (Latch l) = latch (latch_at m path l)
+line_at m path (Part p) = opens
+
+line_is : (models : List BlifModel) (m : List ℕ) (level : Level) (path : List Instance) (x : Item) → IsAt models m level path → line_by level.scope.prefix level.scope.table.entries x ≡ line_at m path x
+line_is models m level path x at =
+    ap (λ p. line_by p level.scope.table.entries x) at.prefix ∙ ap (λ t. line_by (prefix_of m path) t x) at.table ∙ same x
+  where
+    same : (y : Item) → line_by (prefix_of m path) (table_of m path) y ≡ line_at m path y
+    same (Gate g) = ap gate (gate_same m path g)
+    same (Latch l) = ap latch (latch_same m path l)
+    same (Part p) = refl
+
+-- a level stands before this item
+abbrev pub StandsAt : List BlifModel → Level → Item → Type 0
+StandsAt models level x = drop level.next (model_at models level.model).body ≡ x ∷ drop (suc level.next) (model_at models level.model).body
+
+-- an instance is entered only where its model is found and that isn't too deep
+pub entry_ok : (name : List ℕ) (a b : Bool) (f : ℕ → Option FlatFault) (x : Option ℕ) (i : ℕ) → entry name a b f x ≡ Ok i → (b ≡ false) × (x ≡ Some i)
+entry_ok name a b f None i e = cc
+entry_ok name true b f (Some j) i e = cc
+entry_ok name false true f (Some j) i e = cc
+entry_ok name false false f (Some j) i e = (refl, ap Some (behind (f j) e))
+  where
+    behind : (x : Option FlatFault) → ◌≡◌ {A = Result ℕ FlatFault} (elim x [ Some fault ↦ Err fault | None ↦ Ok j ]) (Ok i) → j ≡ i
+    behind (Some fault) h = cc
+    behind None h = cc
+
+pub shallow : (a b : ℕ) → nat_le a b ≡ false → b < a
+shallow a b h = grind (arith, common_steps)
 
 -- what the walk comes to at its first item
 module _ (depth : ℕ) (models : List BlifModel) (top m : List ℕ) where
@@ -42,37 +74,25 @@ module _ (depth : ℕ) (models : List BlifModel) (top m : List ℕ) where
   events_nil zero path n = refl
   events_nil (suc room) path n = refl
 
-  pub events_gate : (room : ℕ) (path : List Instance) (n : ℕ) (g : GateLine) (items : List Item) → events room depth models top m path n (Gate g ∷ items) ≡ gate (gate_at m path g) ∷ events room depth models top m path n items
-  events_gate zero path n g items = refl
-  events_gate (suc room) path n g items = refl
-
-  pub events_latch : (room : ℕ) (path : List Instance) (n : ℕ) (l : LatchLine) (items : List Item) → events room depth models top m path n (Latch l ∷ items) ≡ latch (latch_at m path l) ∷ events room depth models top m path n items
-  events_latch zero path n l items = refl
-  events_latch (suc room) path n l items = refl
+  pub events_line : (room : ℕ) (path : List Instance) (n : ℕ) (x : Item) (items : List Item) → IsLine x → events room depth models top m path n (x ∷ items) ≡ line_at m path x ∷ events room depth models top m path n items
+  events_line zero path n x items (inl g) = rw g.1
+  events_line zero path n x items (inr l) = rw l.1
+  events_line (suc room) path n x items (inl g) = rw g.1
+  events_line (suc room) path n x items (inr l) = rw l.1
 
   pub events_fault : (room : ℕ) (path : List Instance) (n : ℕ) (p : PartLine) (items : List Item) (fault : FlatFault) → entered depth models top path p ≡ Err fault → events room depth models top m path n (Part p ∷ items) ≡ fails fault ∷ events room depth models top m path (suc n) items
   events_fault zero path n p items fault e = rw e refl
   events_fault (suc room) path n p items fault e = rw e refl
 
-  pub events_open : (room : ℕ) (path : List Instance) (n : ℕ) (p : PartLine) (items : List Item) (i : ℕ) → entered depth models top path p ≡ Ok i → events (suc room) depth models top m path n (Part p ∷ items) ≡ opens ∷ (events room depth models top m (record { number = n; part = p } ∷ path) 1 (model_at models i).body ++ events (suc room) depth models top m path (suc n) items)
-  events_open room path n p items i e = rw e refl
+  -- behind the line of an instance that is entered
+  abbrev pub inside : List Instance → ℕ → PartLine → ℕ → List Event
+  inside path n p i = events (depth - suc (length path)) depth models top m (record { number = n; part = p } ∷ path) 1 (model_at models i).body
 
--- an instance is entered only where that isn't too deep
-pub not_deep : (name : List ℕ) (a b : Bool) (f : ℕ → Option FlatFault) (x : Option ℕ) (i : ℕ) → entry name a b f x ≡ Ok i → b ≡ false
-not_deep name a false f x i e = refl
-not_deep name true true f None i e = cc
-not_deep name false true f None i e = cc
-not_deep name true true f (Some j) i e = cc
-not_deep name false true f (Some j) i e = cc
-
-pub shallow : (a b : ℕ) → nat_le a b ≡ false → b < a
-shallow a b h = grind (arith, common_steps)
-
-cons_eq : {A : Type 0} (a b : A) (xs ys : List A) → a ≡ b → xs ≡ ys → a ∷ xs ≡ b ∷ ys
-cons_eq a b xs ys e f = cc
-
-append_eq : {A : Type 0} (a b xs ys : List A) → a ≡ b → xs ≡ ys → a ++ xs ≡ b ++ ys
-append_eq a b xs ys e f = cc
+  pub events_open : (path : List Instance) (n : ℕ) (p : PartLine) (items : List Item) (i : ℕ) → entered depth models top path p ≡ Ok i → events (depth - length path) depth models top m path n (Part p ∷ items) ≡ opens ∷ (inside path n p i ++ events (depth - length path) depth models top m path (suc n) items)
+  events_open path n p items i e =
+      let deep = shallow depth (length path) (entry_ok p.model _ _ (λ j. pairs_fault (model_at models j) p.pairs) (find_model models p.model) i e).0 in
+      let room : depth - length path ≡ suc (depth - suc (length path)) = omega (arith, deep) in
+      rw (room, e) refl
 
 -- the levels and their path
 module _ (depth : ℕ) (models : List BlifModel) (top m : List ℕ) where
@@ -127,27 +147,16 @@ module _ (depth : ℕ) (models : List BlifModel) (top m : List ℕ) where
   after_part level path at = record { within = at.within; counted = omega (arith, at.counted); prefix = at.prefix; table = at.table }
 
   -- the steps, on levels with the innermost first
-  remaining_gate : (level : Level) (path : List Instance) (g : GateLine) → IsAt models m level path → drop level.next (model_at models level.model).body ≡ Gate g ∷ drop (suc level.next) (model_at models level.model).body → remaining depth models top m level path ≡ gate (gate_by level.scope.prefix level.scope.table.entries g) ∷ remaining depth models top m (passed_line level) path
-  remaining_gate level path g at e =
+  remaining_line : (level : Level) (path : List Instance) (x : Item) → IsLine x → IsAt models m level path → StandsAt models level x → remaining depth models top m level path ≡ line_by level.scope.prefix level.scope.table.entries x ∷ remaining depth models top m (passed_line level) path
+  remaining_line level path x line at e =
       ap (λ items. events (depth - length path) depth models top m path (suc level.parts) items) e
-      ∙ events_gate depth models top m (depth - length path) path (suc level.parts) g (drop (suc level.next) (model_at models level.model).body)
-      ∙ cons_eq _ _ _ _ (ap gate (sym (gate_is models m level path g at))) (ap (λ k. events (depth - length path) depth models top m path (suc level.parts) (drop k (model_at models level.model).body)) (sym (add-one level.next)))
+      ∙ events_line depth models top m (depth - length path) path (suc level.parts) x (drop (suc level.next) (model_at models level.model).body) line
+      ∙ rw (← line_is models m level path x at, add-one) refl
 
-  remaining_latch : (level : Level) (path : List Instance) (l : LatchLine) → IsAt models m level path → drop level.next (model_at models level.model).body ≡ Latch l ∷ drop (suc level.next) (model_at models level.model).body → remaining depth models top m level path ≡ latch (latch_by level.scope.prefix level.scope.table.entries l) ∷ remaining depth models top m (passed_line level) path
-  remaining_latch level path l at e =
-      ap (λ items. events (depth - length path) depth models top m path (suc level.parts) items) e
-      ∙ events_latch depth models top m (depth - length path) path (suc level.parts) l (drop (suc level.next) (model_at models level.model).body)
-      ∙ cons_eq _ _ _ _ (ap latch (sym (latch_is models m level path l at))) (ap (λ k. events (depth - length path) depth models top m path (suc level.parts) (drop k (model_at models level.model).body)) (sym (add-one level.next)))
-
-  pub gate_step : (level : Level) (below : List Level) (path : List Instance) (rest : List Event) (g : GateLine) → Waits depth models top m (level ∷ below) path rest → drop level.next (model_at models level.model).body ≡ Gate g ∷ drop (suc level.next) (model_at models level.model).body → (next : List Event) × Waits depth models top m (passed_line level ∷ below) path next × (rest ≡ gate (gate_by level.scope.prefix level.scope.table.entries g) ∷ next)
-  gate_step level below path rest g w e =
+  pub line_step : (level : Level) (below : List Level) (path : List Instance) (rest : List Event) (x : Item) → IsLine x → Waits depth models top m (level ∷ below) path rest → StandsAt models level x → (next : List Event) × Waits depth models top m (passed_line level ∷ below) path next × (rest ≡ line_by level.scope.prefix level.scope.table.entries x ∷ next)
+  line_step level below path rest x line w e =
       let t = top_of level below path rest w in
-      (remaining depth models top m (passed_line level) path ++ t.later, t.again (passed_line level) (after_line level path t.at) refl, t.rest_is ∙ ap (λ es. es ++ t.later) (remaining_gate level path g t.at e))
-
-  pub latch_step : (level : Level) (below : List Level) (path : List Instance) (rest : List Event) (l : LatchLine) → Waits depth models top m (level ∷ below) path rest → drop level.next (model_at models level.model).body ≡ Latch l ∷ drop (suc level.next) (model_at models level.model).body → (next : List Event) × Waits depth models top m (passed_line level ∷ below) path next × (rest ≡ latch (latch_by level.scope.prefix level.scope.table.entries l) ∷ next)
-  latch_step level below path rest l w e =
-      let t = top_of level below path rest w in
-      (remaining depth models top m (passed_line level) path ++ t.later, t.again (passed_line level) (after_line level path t.at) refl, t.rest_is ∙ ap (λ es. es ++ t.later) (remaining_latch level path l t.at e))
+      (remaining depth models top m (passed_line level) path ++ t.later, t.again (passed_line level) (after_line level path t.at) refl, t.rest_is ∙ ap (λ es. es ++ t.later) (remaining_line level path x line t.at e))
 
   pub end_step : (level : Level) (below : List Level) (path : List Instance) (rest : List Event) → Waits depth models top m (level ∷ below) path rest → drop level.next (model_at models level.model).body ≡ [] → (up : List Instance) × Waits depth models top m below up rest
   end_step level below path rest w e =
@@ -157,18 +166,13 @@ module _ (depth : ℕ) (models : List BlifModel) (top m : List ℕ) where
       (t.up, subst (λ (x : List Event). Waits depth models top m below t.up x) (sym same) t.back)
 
   after_remaining : (level : Level) (path : List Instance) → events (depth - length path) depth models top m path (suc (suc level.parts)) (drop (suc level.next) (model_at models level.model).body) ≡ remaining depth models top m (passed_part level) path
-  after_remaining level path =
-      ap (λ k. events (depth - length path) depth models top m path (suc k) (drop (suc level.next) (model_at models level.model).body)) (sym (add-one level.parts))
-      ∙ ap (λ k. events (depth - length path) depth models top m path (suc (level.parts + 1)) (drop k (model_at models level.model).body)) (sym (add-one level.next))
+  after_remaining level path = rw (add-one level.parts, add-one level.next) refl
 
-  pub fault_step : (level : Level) (below : List Level) (path : List Instance) (rest : List Event) (p : PartLine) (fault : FlatFault) → Waits depth models top m (level ∷ below) path rest → drop level.next (model_at models level.model).body ≡ Part p ∷ drop (suc level.next) (model_at models level.model).body → entered depth models top path p ≡ Err fault → (next : List Event) × (rest ≡ fails fault ∷ next)
+  pub fault_step : (level : Level) (below : List Level) (path : List Instance) (rest : List Event) (p : PartLine) (fault : FlatFault) → Waits depth models top m (level ∷ below) path rest → StandsAt models level (Part p) → entered depth models top path p ≡ Err fault → (next : List Event) × (rest ≡ fails fault ∷ next)
   fault_step level below path rest p fault w e h =
       let t = top_of level below path rest w in
       let f = ap (λ items. events (depth - length path) depth models top m path (suc level.parts) items) e ∙ events_fault depth models top m (depth - length path) path (suc level.parts) p (drop (suc level.next) (model_at models level.model).body) fault h in
       (events (depth - length path) depth models top m path (suc (suc level.parts)) (drop (suc level.next) (model_at models level.model).body) ++ t.later, t.rest_is ∙ ap (λ es. es ++ t.later) f)
-
-  room_below : (path : List Instance) → length path < depth → depth - length path ≡ suc (depth - suc (length path))
-  room_below path h = omega arith
 
   inner_at : (level : Level) (path : List Instance) (p : PartLine) (inner : Level) → IsAt models m level path → IsInner m level p inner → inner.model < length models → IsAt models m inner (record { number = suc level.parts; part = p } ∷ path)
   inner_at level path p inner at i l = record {
@@ -178,38 +182,29 @@ module _ (depth : ℕ) (models : List BlifModel) (top m : List ℕ) where
     table = i.table ∙ ap (λ xs. bound xs level.scope.table.entries p.pairs) at.prefix ∙ ap (λ xs. bound (prefix_of m path) xs p.pairs) at.table;
   }
 
-  inner_remaining : (level : Level) (path : List Instance) (p : PartLine) (inner : Level) → IsInner m level p inner → remaining depth models top m inner (record { number = suc level.parts; part = p } ∷ path) ≡ events (depth - suc (length path)) depth models top m (record { number = suc level.parts; part = p } ∷ path) 1 (model_at models inner.model).body
-  inner_remaining level path p inner i = rw (i.parts, i.next) refl
-
   -- what is to come where an instance is entered
-  opened : (level : Level) (path : List Instance) (p : PartLine) (i : ℕ) → drop level.next (model_at models level.model).body ≡ Part p ∷ drop (suc level.next) (model_at models level.model).body → entered depth models top path p ≡ Ok i → remaining depth models top m level path ≡ opens ∷ (events (depth - suc (length path)) depth models top m (record { number = suc level.parts; part = p } ∷ path) 1 (model_at models i).body ++ remaining depth models top m (passed_part level) path)
+  opened : (level : Level) (path : List Instance) (p : PartLine) (i : ℕ) → StandsAt models level (Part p) → entered depth models top path p ≡ Ok i → remaining depth models top m level path ≡ opens ∷ (inside depth models top m path (suc level.parts) p i ++ remaining depth models top m (passed_part level) path)
   opened level path p i e h =
-      let deep = shallow depth (length path) (not_deep p.model (is_open top path p.model) (nat_le depth (length path)) (λ j. pairs_fault (model_at models j) p.pairs) (find_model models p.model) i h) in
-      let room = room_below path deep in
-      let inside = events (depth - suc (length path)) depth models top m (record { number = suc level.parts; part = p } ∷ path) 1 (model_at models i).body in
       ap (λ items. events (depth - length path) depth models top m path (suc level.parts) items) e
-      ∙ ap (λ r. events r depth models top m path (suc level.parts) (Part p ∷ drop (suc level.next) (model_at models level.model).body)) room
-      ∙ events_open depth models top m (depth - suc (length path)) path (suc level.parts) p (drop (suc level.next) (model_at models level.model).body) i h
-      ∙ cons_eq opens opens _ _ refl (append_eq inside inside _ _ refl (ap (λ r. events r depth models top m path (suc (suc level.parts)) (drop (suc level.next) (model_at models level.model).body)) (sym room) ∙ after_remaining level path))
+      ∙ events_open depth models top m path (suc level.parts) p (drop (suc level.next) (model_at models level.model).body) i h
+      ∙ ap (λ es. opens ∷ (inside depth models top m path (suc level.parts) p i ++ es)) (after_remaining level path)
 
-  pub opens_step : (level : Level) (below : List Level) (path : List Instance) (rest : List Event) (p : PartLine) (i : ℕ) → Waits depth models top m (level ∷ below) path rest → drop level.next (model_at models level.model).body ≡ Part p ∷ drop (suc level.next) (model_at models level.model).body → entered depth models top path p ≡ Ok i → (next : List Event) × (rest ≡ opens ∷ next)
+  pub opens_step : (level : Level) (below : List Level) (path : List Instance) (rest : List Event) (p : PartLine) (i : ℕ) → Waits depth models top m (level ∷ below) path rest → StandsAt models level (Part p) → entered depth models top path p ≡ Ok i → (next : List Event) × (rest ≡ opens ∷ next)
   opens_step level below path rest p i w e h =
       let t = top_of level below path rest w in
-      let inside = events (depth - suc (length path)) depth models top m (record { number = suc level.parts; part = p } ∷ path) 1 (model_at models i).body in
-      ((inside ++ remaining depth models top m (passed_part level) path) ++ t.later, t.rest_is ∙ ap (λ es. es ++ t.later) (opened level path p i e h))
+      ((inside depth models top m path (suc level.parts) p i ++ remaining depth models top m (passed_part level) path) ++ t.later, t.rest_is ∙ ap (λ es. es ++ t.later) (opened level path p i e h))
 
-  pub open_step : (level : Level) (below : List Level) (path : List Instance) (rest : List Event) (p : PartLine) (inner : Level) → Waits depth models top m (level ∷ below) path rest → drop level.next (model_at models level.model).body ≡ Part p ∷ drop (suc level.next) (model_at models level.model).body → entered depth models top path p ≡ Ok inner.model → IsInner m level p inner → inner.model < length models → (model_at models inner.model).name ≡ p.model → (up : List Instance) × ((next : List Event) × Waits depth models top m (inner ∷ passed_part level ∷ below) up next × (rest ≡ opens ∷ next))
+  pub open_step : (level : Level) (below : List Level) (path : List Instance) (rest : List Event) (p : PartLine) (inner : Level) → Waits depth models top m (level ∷ below) path rest → StandsAt models level (Part p) → entered depth models top path p ≡ Ok inner.model → IsInner m level p inner → inner.model < length models → (model_at models inner.model).name ≡ p.model → (up : List Instance) × ((next : List Event) × Waits depth models top m (inner ∷ passed_part level ∷ below) up next × (rest ≡ opens ∷ next))
   open_step level below path rest p inner w e h i l n =
       let t = top_of level below path rest w in
       let o : Instance = record { number = suc level.parts; part = p } in
       let later = remaining depth models top m (passed_part level) path ++ t.later in
-      let f : remaining depth models top m level path ≡ opens ∷ (remaining depth models top m inner (o ∷ path) ++ remaining depth models top m (passed_part level) path) =
-      opened level path p inner.model e h
-      ∙ cons_eq opens opens _ _ refl (append_eq _ _ _ _ (sym (inner_remaining level path p inner i)) refl) in (
+      let first : inside depth models top m path (suc level.parts) p inner.model ≡ remaining depth models top m inner (o ∷ path) = rw (i.parts, i.next) refl in (
         o ∷ path,
         (
           remaining depth models top m inner (o ∷ path) ++ later,
           (inner_at level path p inner t.at i l, n, (later, t.again (passed_part level) (after_part level path t.at) refl, (λ q. cc), refl)),
-          t.rest_is ∙ ap (λ es. es ++ t.later) f ∙ ap (λ es. opens ∷ es) (append_assoc (remaining depth models top m inner (o ∷ path)) (remaining depth models top m (passed_part level) path) t.later),
+          t.rest_is ∙ ap (λ es. es ++ t.later) (opened level path p inner.model e h) ∙ ap (λ es. opens ∷ ((es ++ remaining depth models top m (passed_part level) path) ++ t.later)) first
+              ∙ ap (λ es. opens ∷ es) (append_assoc (remaining depth models top m inner (o ∷ path)) (remaining depth models top m (passed_part level) path) t.later),
         ),
       )

@@ -9,6 +9,7 @@ use Rattle.blif_read.specs.declared.models.BlifModel.{BlifModel}
 use Rattle.blif_read.specs.declared.models.GateLine.{GateLine}
 use Rattle.blif_read.specs.declared.models.LatchLine.{LatchLine}
 use Rattle.blif_read.specs.declared.models.PartLine.{PartLine}
+use Rattle.blif_read.specs.declared.models.Item.{Item}
 use Rattle.flatten.specs.declared.fault.FlatFault.{FlatFault}
 use Rattle.flatten.specs.declared.fault.FlatFault.TheVariants.{TooLarge}
 use Rattle.flatten.specs.declared.scope.Scope.{Scope}
@@ -21,6 +22,7 @@ use Rattle.flatten.specs.Instances.{find_model, model_at, entry, pairs_fault}
 use Rattle.flatten.specs.Walk.{Event, FlatLines, events, decided}
 use Rattle.flatten.specs.Laws.{prefix_of, resolved, bound, table_of}
 use Rattle.flatten.specs.Hierarchies.{NestedModels}
+use Rattle.flatten.specs.Alone.{own_gates, own_latches}
 
 -- lines by a table and a prefix
 abbrev pub gate_by : List ℕ → List (List ℕ × List ℕ) → GateLine → GateLine
@@ -115,35 +117,21 @@ pub record Opens (old : Walk) (level inner : Level) (new : Walk) : Type 0 where
   pub gates : new.gates.items ≡ old.gates.items
   pub left : new.room ≡ old.room - 1
 
--- what adding a gate and a latch does
-pub record AddsGate (old : Walk) (scope : Scope) (g : GateLine) (new : Walk) : Type 0 where
+-- what adding a gate or a latch to the lines does; of an instance nothing is added
+pub record AddsLine (old : Walk) (scope : Scope) (line : Item) (new : Walk) : Type 0 where
   pub some : 0 < old.room
   pub left : new.room ≡ old.room - 1
   pub levels : new.levels.items ≡ old.levels.items
-  pub latches : new.latches.items ≡ old.latches.items
-  pub gates : new.gates.items ≡ old.gates.items ++ (gate_by scope.prefix scope.table.entries g ∷ [])
+  pub latches : new.latches.items ≡ old.latches.items ++ map (latch_by scope.prefix scope.table.entries) (own_latches (line ∷ []))
+  pub gates : new.gates.items ≡ old.gates.items ++ map (gate_by scope.prefix scope.table.entries) (own_gates (line ∷ []))
 
-pub record AddsLatch (old : Walk) (scope : Scope) (l : LatchLine) (new : Walk) : Type 0 where
-  pub some : 0 < old.room
-  pub left : new.room ≡ old.room - 1
-  pub levels : new.levels.items ≡ old.levels.items
-  pub latches : new.latches.items ≡ old.latches.items ++ (latch_by scope.prefix scope.table.entries l ∷ [])
-  pub gates : new.gates.items ≡ old.gates.items
-
--- what passing a gate, a latch and an instance does
-pub record PassesGate (old : Walk) (level : Level) (g : GateLine) (new : Walk) : Type 0 where
+-- what passing it does, and what passing an instance does
+pub record PassesLine (old : Walk) (level : Level) (line : Item) (new : Walk) : Type 0 where
   pub some : 0 < old.room
   pub left : new.room ≡ old.room - 1
   pub levels : new.levels.items ≡ old.levels.items ++ (passed_line level ∷ [])
-  pub latches : new.latches.items ≡ old.latches.items
-  pub gates : new.gates.items ≡ old.gates.items ++ (gate_by level.scope.prefix level.scope.table.entries g ∷ [])
-
-pub record PassesLatch (old : Walk) (level : Level) (l : LatchLine) (new : Walk) : Type 0 where
-  pub some : 0 < old.room
-  pub left : new.room ≡ old.room - 1
-  pub levels : new.levels.items ≡ old.levels.items ++ (passed_line level ∷ [])
-  pub latches : new.latches.items ≡ old.latches.items ++ (latch_by level.scope.prefix level.scope.table.entries l ∷ [])
-  pub gates : new.gates.items ≡ old.gates.items
+  pub latches : new.latches.items ≡ old.latches.items ++ map (latch_by level.scope.prefix level.scope.table.entries) (own_latches (line ∷ []))
+  pub gates : new.gates.items ≡ old.gates.items ++ map (gate_by level.scope.prefix level.scope.table.entries) (own_gates (line ∷ []))
 
 pub record PassesPart (depth : ℕ) (models : List BlifModel) (m : List ℕ) (old : Walk) (level : Level) (part : PartLine) (new : Walk) : Type 0 where
   pub some : 0 < old.room

@@ -141,12 +141,9 @@ fn is_open(hierarchy: &Hierarchy<'_>, levels: &[Level], name: &Name) -> bool
     requires { All (λ l. l.model < length hierarchy.now.models) levels.now }
     ensures { result ≡ list_any (λ l. bytes_eq (model_at hierarchy.now.models l.model).name name.now) levels.now }
 {
-    for level in levels {
-        if hierarchy.model(level.model).name == *name {
-            return true;
-        }
-    }
-    false
+    levels
+        .iter()
+        .any(|level| hierarchy.model(level.model).name == *name)
 }
 
 /// Whether the model of this name is that of the level or of one below it.

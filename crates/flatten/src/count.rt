@@ -23,12 +23,9 @@ fn stands_among(hierarchy: &Hierarchy<'_>, trail: &[usize], name: &Name) -> bool
     requires { All (λ i. i < length hierarchy.now.models) trail.now }
     ensures { result ≡ list_any (λ i. bytes_eq (model_at hierarchy.now.models i).name name.now) trail.now }
 {
-    for place in trail {
-        if hierarchy.model(*place).name == *name {
-            return true;
-        }
-    }
-    false
+    trail
+        .iter()
+        .any(|place| hierarchy.model(*place).name == *name)
 }
 
 /// That the pairs of an instance of this model have no fault.
@@ -63,24 +60,17 @@ fn fits(alloc: Global, hierarchy: &Hierarchy<'_>, item: &Item) -> bool
 fn body_fits(alloc: Global, hierarchy: &Hierarchy<'_>, body: &[Item]) -> bool
     ensures { result ≡ true → All (Fits hierarchy.now.models) body.now }
 {
-    for item in body {
-        if !fits(alloc, hierarchy, item) {
-            return false;
-        }
-    }
-    true
+    body.iter().all(|item| fits(alloc, hierarchy, item))
 }
 
 /// Whether the pairs of each instance in the file are found to have no fault. Then they aren't looked at again.
 fn all_fit(alloc: Global, hierarchy: &Hierarchy<'_>) -> bool
     ensures { result ≡ true → AllFit hierarchy.now.models }
 {
-    for model in hierarchy.models() {
-        if !body_fits(alloc, hierarchy, model.body.items()) {
-            return false;
-        }
-    }
-    true
+    hierarchy
+        .models()
+        .iter()
+        .all(|model| body_fits(alloc, hierarchy, model.body.items()))
 }
 
 /// That the pairs of an instance of this model have no fault, which may be known.

@@ -75,7 +75,7 @@ fn parts_within(
 {
     let hierarchy = Hierarchy::new(alloc, models, depth)?;
     match hierarchy.find(top) {
-        Some(place) => Ok(flat_parts(alloc, &hierarchy, place, limit)?),
+        Some(place) => flat_parts(alloc, &hierarchy, place, limit),
         None => Err(FlatFault::UnknownModel { name: top.copy()? }),
     }
 }

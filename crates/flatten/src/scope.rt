@@ -52,8 +52,8 @@ pub(crate) fn resolve(alloc: Global, scope: &Scope, name: &Name) -> Result<Name,
     ensures { IfOk result (λ printed. printed ≡ resolved scope.now.prefix scope.now.table.entries name.now) }
 {
     match scope.table.get(name) {
-        Some(printed) => Ok(printed.copy()?),
-        None => Ok(joined(alloc, &scope.prefix, name)?),
+        Some(printed) => printed.copy(),
+        None => joined(alloc, &scope.prefix, name),
     }
 }
 

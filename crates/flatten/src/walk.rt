@@ -3,7 +3,7 @@ ghost use Rattle.flatten.specs.Instances.{model_at};
 ghost use Rattle.flatten.specs.Wires.{mark_of};
 ghost use Rattle.flatten.specs.Walk.{flat_lines as flat_lines_by};
 ghost use Rattle.flatten.specs.Printable.{PrintsOn, ArePrintedLines};
-ghost use Rattle.flatten.specs.Levels.{entered_on, IsInner, AddsGate, AddsLatch, PutsBack, Opens, PartFails, PassesGate, PassesLatch, PassesPart, Goes, StepsOn, StepsTo, IsBegun, lines_of};
+ghost use Rattle.flatten.specs.Levels.{entered_on, IsInner, AddsLine, PutsBack, Opens, PartFails, PassesLine, PassesPart, Goes, StepsOn, StepsTo, IsBegun, lines_of};
 
 use crate::bind::enter;
 use crate::fault::FlatFault;
@@ -77,8 +77,9 @@ fn put_back(walk: &mut Walk, mut level: Level) -> Result<(), AllocError>
     Ok(())
 }
 
-fn add_gate(alloc: Global, walk: &mut Walk, scope: &Scope, gate: &GateLine) -> Result<(), FlatFault>
-    ensures added { OnOk result (AddsGate walk.old scope.now gate.now walk.new) }
+/// Adds a gate or a latch to the lines, by its printed names.
+fn add_line(alloc: Global, walk: &mut Walk, scope: &Scope, line: &Item) -> Result<(), FlatFault>
+    ensures added { OnOk result (AddsLine walk.old scope.now line.now walk.new) }
     ensures fault { IfErr result
         (λ fault. (fault ≡ FlatFault.Memory) ⊎ ((walk.old.room ≡ 0) × (fault ≡ FlatFault.TooLarge))) }
 {
@@ -86,50 +87,21 @@ fn add_gate(alloc: Global, walk: &mut Walk, scope: &Scope, gate: &GateLine) -> R
         return Err(FlatFault::TooLarge);
     }
     walk.room -= 1;
-    walk.gates.push(flat_gate(alloc, scope, gate)?)?;
-    Ok(())
-}
-
-fn pass_gate(alloc: Global, walk: &mut Walk, level: Level, gate: &GateLine) -> Result<(), FlatFault>
-    requires { suc level.next < 2 ^ 64 }
-    ensures passed { OnOk result (PassesGate walk.old level gate.now walk.new) }
-    ensures fault { IfErr result
-        (λ fault. (fault ≡ FlatFault.Memory) ⊎ ((walk.old.room ≡ 0) × (fault ≡ FlatFault.TooLarge))) }
-{
-    add_gate(alloc, walk, &level.scope, gate)?;
-    Ok(put_back(walk, level)?)
-}
-
-fn add_latch(
-    alloc: Global,
-    walk: &mut Walk,
-    scope: &Scope,
-    latch: &LatchLine,
-) -> Result<(), FlatFault>
-    ensures added { OnOk result (AddsLatch walk.old scope.now latch.now walk.new) }
-    ensures fault { IfErr result
-        (λ fault. (fault ≡ FlatFault.Memory) ⊎ ((walk.old.room ≡ 0) × (fault ≡ FlatFault.TooLarge))) }
-{
-    if walk.room == 0 {
-        return Err(FlatFault::TooLarge);
+    match line {
+        Item::Gate(gate) => walk.gates.push(flat_gate(alloc, scope, gate)?)?,
+        Item::Latch(latch) => walk.latches.push(flat_latch(alloc, scope, latch)?)?,
+        Item::Part(_) => {}
     }
-    walk.room -= 1;
-    walk.latches.push(flat_latch(alloc, scope, latch)?)?;
     Ok(())
 }
 
-fn pass_latch(
-    alloc: Global,
-    walk: &mut Walk,
-    level: Level,
-    latch: &LatchLine,
-) -> Result<(), FlatFault>
+fn pass_line(alloc: Global, walk: &mut Walk, level: Level, line: &Item) -> Result<(), FlatFault>
     requires { suc level.next < 2 ^ 64 }
-    ensures passed { OnOk result (PassesLatch walk.old level latch.now walk.new) }
+    ensures passed { OnOk result (PassesLine walk.old level line.now walk.new) }
     ensures fault { IfErr result
         (λ fault. (fault ≡ FlatFault.Memory) ⊎ ((walk.old.room ≡ 0) × (fault ≡ FlatFault.TooLarge))) }
 {
-    add_latch(alloc, walk, &level.scope, latch)?;
+    add_line(alloc, walk, &level.scope, line)?;
     Ok(put_back(walk, level)?)
 }
 
@@ -222,9 +194,10 @@ fn step(
 {
     match item_at(hierarchy, level.model, level.next) {
         None => Ok(()),
-        Some(Item::Gate(gate)) => pass_gate(alloc, walk, level, gate),
-        Some(Item::Latch(latch)) => pass_latch(alloc, walk, level, latch),
-        Some(Item::Part(part)) => pass_part(alloc, hierarchy, walk, level, part),
+        Some(item) => match item {
+            Item::Gate(_) | Item::Latch(_) => pass_line(alloc, walk, level, item),
+            Item::Part(part) => pass_part(alloc, hierarchy, walk, level, part),
+        },
     }
 }
 

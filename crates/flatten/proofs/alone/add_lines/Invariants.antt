@@ -1,5 +1,5 @@
 use Rattle.std.proofs.Common.{◌≡◌, ◌++◌}
-use Rattle.flatten.specs.Alone.{own_gates, own_latches}
+use Rattle.flatten.proofs.Common.{own_gates, own_latches}
 use Rattle.flatten.proofs.alone.add_lines.Given as goal
 
 abbrev pub invariant-loop-item : goal.invariant-loop-item

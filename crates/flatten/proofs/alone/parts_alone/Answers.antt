@@ -1,8 +1,9 @@
-use Rattle.std.proofs.Common.{◌≡◌, ◌≤◌, ◌+◌, inl, inr, ⊎_elim, length, sym, ap, ◌∙◌, arith}
-use Rattle.flatten.proofs.Common.{err_from_is_err_and, lines_of, linked, FlatLines}
+use Rattle.std.proofs.Common.{◌≡◌, ◌≤◌, ◌+◌, length, sym, ap, ◌∙◌, arith}
+use Rattle.flatten.proofs.Common.{lines_of, linked, FlatLines}
 use Rattle.flatten.specs.Alone.{own_lines}
 use Rattle.flatten.proofs.OwnLines.{few_own_lines, own_lines_printed, alone_fits}
 use Rattle.flatten.proofs.Valid.{linked_valid}
+use Rattle.flatten.proofs.Results.{handed_on}
 use Rattle.flatten.proofs.alone.parts_alone.Goals as goal
 
 pub link-requires-clause-lines : goal.link-requires-clause-lines
@@ -18,8 +19,8 @@ returns-in_err-link-clause-fault c =
     let model = c.args.model in
     let fits : length model.body ≤ c.args.limit = omega (arith, c.if-items-limit.false, ap length c.items.ensures) in
     let same : lines_of c.in_ok-lines.lines ≡ own_lines model.body = c.in_ok-lines.ensures ∙ ap own_lines (c.into_vec.ensures ∙ c.replace-body.ensures.value) in
-    let q = err_from_is_err_and c.from_residual-in_err-link.result c.from_residual-in_err-link.ensures.1 in
-    rw (q.1, q.2) (⊎_elim (λ m. inl m) (λ h. inr (alone_fits c.args.limit model fits ∙ ap (linked model) (sym same) ∙ h)) c.in_err-link.ensures.fault)
+    handed_on _ c.from_residual-in_err-link.result _ c.from_residual-in_err-link.ensures.1 c.in_err-link.ensures.fault
+    (λ h. alone_fits c.args.limit model fits ∙ ap (linked model) (sym same) ∙ h)
 
 pub returns-clause-parts : goal.returns-clause-parts
 returns-clause-parts c =

@@ -1,6 +1,6 @@
-use Rattle.std.proofs.Common.{◌<◌, inl, inr, ⊎_elim, length, sym, ◌∙◌, arith}
-use Rattle.flatten.proofs.Common.{err_from_is_err_and}
+use Rattle.std.proofs.Common.{◌<◌, length, sym, ◌∙◌, arith}
 use Rattle.flatten.proofs.Binding.{bound_taken, formal_fits, pair_refused, pair_taken}
+use Rattle.flatten.proofs.Results.{handed_on}
 use Rattle.flatten.proofs.bind.bind_pairs.Goals as goal
 
 pub bind_formal-requires : goal.bind_formal-requires
@@ -13,12 +13,8 @@ returns-in_err-check_formal-clause-fault c =
     let i = c.loop-formal.formal-index in
     let p = c.loop-formal-item.result in
     let l : i < length pairs = omega arith in
-    let q = err_from_is_err_and c.from_residual.result c.from_residual.ensures.1 in
-    rw (q.1, q.2)
-    (⊎_elim
-    (λ m. inl m)
-    (λ e. inr (sym c.loop-formal.invariant.fault ∙ pair_refused c.args.formals.now.keys c.args.scope.now.prefix c.args.scope.now.table.entries pairs c.loop-formal.table.entries i p l c.loop-formal-item.is c.loop-formal.invariant.table c.in_err-check_formal.field-0.0 e))
-    c.in_err-check_formal.ensures.fault)
+    handed_on _ c.from_residual.result _ c.from_residual.ensures.1 c.in_err-check_formal.ensures.fault
+    (λ e. sym c.loop-formal.invariant.fault ∙ pair_refused c.args.formals.now.keys c.args.scope.now.prefix c.args.scope.now.table.entries pairs c.loop-formal.table.entries i p l c.loop-formal-item.is c.loop-formal.invariant.table c.in_err-check_formal.field-0.0 e)
 
 pub loop-formal-preserved : goal.loop-formal-preserved
 loop-formal-preserved c =

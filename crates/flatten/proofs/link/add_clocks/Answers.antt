@@ -1,20 +1,21 @@
-use Rattle.std.proofs.Common.{◌≡◌, ◌++◌, length, length-append, fold, ap, ◌∙◌, arith}
-use Rattle.flatten.proofs.Common.{bytes_eq, insert_key, own_clocks}
+use Rattle.std.proofs.Common.{◌≡◌, ◌++◌, length, length-append, ap, ◌∙◌, arith}
+use Rattle.flatten.proofs.Common.{own_clocks}
 use Rattle.flatten.proofs.Gathering.{own_clocks_gathered}
 use Rattle.flatten.proofs.link.add_clocks.Goals as goal
+use Rattle.flatten.proofs.link.add_clocks.Goals.{In_ok-add_all}
+
+gathered : (c : In_ok-add_all) → c.add_all.new.set.keys ≡ c.args.top.now.inputs ++ own_clocks c.args.top.now
+gathered c = rw (c.requires, c.items.ensures) at c.in_ok-add_all.ensures ∙ own_clocks_gathered c.args.top.now
 
 pub returns-clause-all : goal.returns-clause-all
-returns-clause-all c =
-    c.in_ok-add_all.ensures ∙ ap (λ ks. fold (insert_key bytes_eq) ks c.items.result.now) c.requires ∙ ap (λ ks. fold (insert_key bytes_eq) c.args.top.now.inputs ks) c.items.ensures ∙ own_clocks_gathered c.args.top.now
+returns-clause-all c = gathered (goal.at.returns-clause-all c).In_ok-add_all
 
 pub overflow_sub-result : goal.overflow_sub-result
 overflow_sub-result c =
-    let e : c.add_all.new.set.keys ≡ c.args.top.now.inputs ++ own_clocks c.args.top.now =
-    c.in_ok-add_all.ensures ∙ ap (λ ks. fold (insert_key bytes_eq) ks c.items.result.now) c.requires ∙ ap (λ ks. fold (insert_key bytes_eq) c.args.top.now.inputs ks) c.items.ensures ∙ own_clocks_gathered c.args.top.now in
-    omega (arith, ap length e, ap length c.requires, length-append c.args.top.now.inputs (own_clocks c.args.top.now), c.len.ensures.len, c.len-inputs.ensures.len)
+    let all = ap length (gathered (goal.at.overflow_sub-result c).In_ok-add_all) in
+    omega (arith, all, ap length c.requires, length-append c.args.top.now.inputs (own_clocks c.args.top.now), c.len.ensures.len, c.len-inputs.ensures.len)
 
 pub returns-clause-count : goal.returns-clause-count
 returns-clause-count c =
-    let e : c.add_all.new.set.keys ≡ c.args.top.now.inputs ++ own_clocks c.args.top.now =
-    c.in_ok-add_all.ensures ∙ ap (λ ks. fold (insert_key bytes_eq) ks c.items.result.now) c.requires ∙ ap (λ ks. fold (insert_key bytes_eq) c.args.top.now.inputs ks) c.items.ensures ∙ own_clocks_gathered c.args.top.now in
-    omega (arith, ap length e, ap length c.requires, length-append c.args.top.now.inputs (own_clocks c.args.top.now), c.len.ensures.len, c.len-inputs.ensures.len)
+    let all = ap length (gathered (goal.at.returns-clause-count c).In_ok-add_all) in
+    omega (arith, all, ap length c.requires, length-append c.args.top.now.inputs (own_clocks c.args.top.now), c.len.ensures.len, c.len-inputs.ensures.len)

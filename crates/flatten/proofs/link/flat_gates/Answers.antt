@@ -1,6 +1,7 @@
-use Rattle.std.proofs.Common.{◌++◌, [], ◌∷◌, inl, inr, ⊎_elim, ℕ, List, map, subst, sym, ap, ◌∙◌, append_assoc}
-use Rattle.flatten.proofs.Common.{err_from_is_err_and, flat_map, GateLine, gate_with, sig_or}
+use Rattle.std.proofs.Common.{◌++◌, [], ◌∷◌, ℕ, List, map, subst, sym, ap, ◌∙◌, append_assoc}
+use Rattle.flatten.proofs.Common.{flat_map, GateLine, gate_with, sig_or}
 use Rattle.flatten.proofs.Reading.{IsLeft, fewer_left, fault_left, none_left}
+use Rattle.flatten.proofs.Results.{handed_on}
 use Rattle.flatten.proofs.link.flat_gates.Goals as goal
 
 abbrev pins : List GateLine → List (List ℕ)
@@ -8,15 +9,9 @@ pins gates = flat_map (λ g. g.pins) gates
 
 pub returns-in_err-flat_gate-clause-fault : goal.returns-in_err-flat_gate-clause-fault
 returns-in_err-flat_gate-clause-fault c =
-    let q = err_from_is_err_and c.from_residual-in_err-flat_gate.result c.from_residual-in_err-flat_gate.ensures.1 in
-    rw (q.1, q.2)
-    (⊎_elim
-    (λ m. inl m)
-    (λ h.
-    inr
-    (fault_left c.args.drivers.now (pins c.args.gates.items) (pins c.loop-gate.gate-iterator) c.in-Some.gate.pins (pins c.next.new.self)
-    c.args.clock.now c.loop-gate.clock c.in_err-flat_gate.field-0.0 (ap pins c.in-Some.ensures.steps) c.loop-gate.invariant.left h))
-    c.in_err-flat_gate.ensures.fault)
+    handed_on _ c.from_residual-in_err-flat_gate.result _ c.from_residual-in_err-flat_gate.ensures.1 c.in_err-flat_gate.ensures.fault
+    (λ h. fault_left c.args.drivers.now (pins c.args.gates.items) (pins c.loop-gate.gate-iterator) c.in-Some.gate.pins (pins c.next.new.self)
+    c.args.clock.now c.loop-gate.clock c.in_err-flat_gate.field-0.0 (ap pins c.in-Some.ensures.steps) c.loop-gate.invariant.left h)
 
 pub loop-gate-preserved : goal.loop-gate-preserved
 loop-gate-preserved c =

@@ -1,7 +1,10 @@
-use Rattle.std.proofs.Common.{inl, inr, ⊎_elim, ap, ◌∙◌, arith, length, length-append, ◌∷◌, []}
-use Rattle.flatten.proofs.Common.{err_from_is_err_and, mark_of, model_at, flat_lines}
-use Rattle.flatten.proofs.Printable.{printed_begun, popped_printed}
-use Rattle.flatten.proofs.Stepping.{walking_start, popped}
+use Rattle.std.proofs.Common.{ap, ◌∙◌, arith, length, length-append, ◌∷◌, []}
+use Rattle.flatten.proofs.Common.{model_at, flat_lines}
+use Rattle.flatten.proofs.Printable.{printed_begun}
+use Rattle.flatten.proofs.Stepping.{walking_start}
+use Rattle.flatten.proofs.Results.{handed_on}
+use Rattle.cyc_base.proofs.ListLemmas.{All-but_last}
+use Rattle.flatten.specs.Printable.{IsPrintedLevel}
 use Rattle.flatten.proofs.walk.flat_lines.Goals as goal
 
 pub loop-level-init : goal.loop-level-init
@@ -14,9 +17,8 @@ pub loop-level-preserved : goal.loop-level-preserved
 loop-level-preserved c =
     let top = (model_at c.args.hierarchy.now.models c.args.top).name in
     let answer = flat_lines c.args.hierarchy.now.depth c.args.limit c.args.hierarchy.now.models c.args.top in
-    let old = c.loop-level.walk in
-    let w = popped c.args.hierarchy.now.depth c.args.hierarchy.now.models top (mark_of c.args.hierarchy.now.models) answer old.levels.items c.pop.new.self.items c.in-Some.level old.latches.items old.gates.items old.room c.in-Some.ensures.items c.loop-level.invariant.walks in
-    let p = popped_printed old.levels.items c.pop.new.self.items c.in-Some.level c.in-Some.ensures.items c.loop-level.invariant.printed.levels in
+    let w = rw c.in-Some.ensures.items at c.loop-level.invariant.walks in
+    let p = All-but_last IsPrintedLevel c.pop.new.self.items c.in-Some.level (rw c.in-Some.ensures.items at c.loop-level.invariant.printed.levels) in
     record {
       walks = (c.in_ok-step.ensures.on top answer w).0;
       printed =
@@ -31,8 +33,7 @@ pub loop-level-smaller : goal.loop-level-smaller
 loop-level-smaller c =
     let top = (model_at c.args.hierarchy.now.models c.args.top).name in
     let answer = flat_lines c.args.hierarchy.now.depth c.args.limit c.args.hierarchy.now.models c.args.top in
-    let old = c.loop-level.walk in
-    let w = popped c.args.hierarchy.now.depth c.args.hierarchy.now.models top (mark_of c.args.hierarchy.now.models) answer old.levels.items c.pop.new.self.items c.in-Some.level old.latches.items old.gates.items old.room c.in-Some.ensures.items c.loop-level.invariant.walks in
+    let w = rw c.in-Some.ensures.items at c.loop-level.invariant.walks in
     let h = (c.in_ok-step.ensures.on top answer w).1 in
     let n = ap length c.in-Some.ensures.items ∙ length-append c.pop.new.self.items (c.in-Some.level ∷ []) in
     omega (arith, h, n)
@@ -41,7 +42,6 @@ pub returns-in_err-step-clause-fault : goal.returns-in_err-step-clause-fault
 returns-in_err-step-clause-fault c =
     let top = (model_at c.args.hierarchy.now.models c.args.top).name in
     let answer = flat_lines c.args.hierarchy.now.depth c.args.limit c.args.hierarchy.now.models c.args.top in
-    let old = c.loop-level.walk in
-    let w = popped c.args.hierarchy.now.depth c.args.hierarchy.now.models top (mark_of c.args.hierarchy.now.models) answer old.levels.items c.pop.new.self.items c.in-Some.level old.latches.items old.gates.items old.room c.in-Some.ensures.items c.loop-level.invariant.walks in
-    let p = err_from_is_err_and c.from_residual-in_err-step.result c.from_residual-in_err-step.ensures.1 in
-    rw (p.1, p.2) (⊎_elim (λ m. inl m) (λ h. inr (h top answer w)) c.in_err-step.ensures.fault)
+    let w = rw c.in-Some.ensures.items at c.loop-level.invariant.walks in
+    handed_on _ c.from_residual-in_err-step.result _ c.from_residual-in_err-step.ensures.1 c.in_err-step.ensures.fault
+    (λ h. h top answer w)

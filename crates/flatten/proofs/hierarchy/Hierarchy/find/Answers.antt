@@ -1,6 +1,5 @@
 use Rattle.std.proofs.Common.{ap, ◌∙◌}
-use Rattle.flatten.proofs.Common.{bytes_eq, find_model, position}
-use Rattle.flatten.specs.Hierarchies.{NestedModels}
+use Rattle.flatten.proofs.Common.{bytes_eq, find_model, position, NestedModels}
 use Rattle.flatten.proofs.Libraries.{place_of}
 use Rattle.flatten.proofs.hierarchy.Hierarchy.find.Goals as goal
 
