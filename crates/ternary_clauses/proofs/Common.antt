@@ -21,7 +21,7 @@ pub use Rattle.ternary_clauses.specs.Columns.{SaysColumns}
 pub use Rattle.ternary_clauses.specs.Encoding.{IsWanted, is_marked}
 pub use Rattle.ternary_clauses.specs.Formulas.{Grows, HasModelFrom, IsFormula, IsModel, IsWhole, holds, negation, says}
 pub use Rattle.ternary_clauses.specs.Lifts.{Extends, ForksTo, IsFork, IsLift, IsTable}
-pub use Rattle.ternary_clauses.specs.Nodes.{column_rails, equal_clauses, new_rails, node_clauses, pick_clauses, picked, rail_clauses, same_clauses, wire_clauses}
+pub use Rattle.ternary_clauses.specs.Nodes.{column_rails, equal_clauses, new_rails, pick_clauses, picked, rail_clauses, same_clauses, wire_clauses}
 pub use Rattle.ternary_clauses.specs.Rails.{AreRailsOf, AreWithin, Reads, ReadsAll, is_known, is_one, is_zero, no_rails, value_read}
 pub use Rattle.ternary_clauses.specs.Sums.{SaysAny}
 pub use Rattle.ternary_clauses.specs.Sweeps.{AreCopies, IsSeen}

@@ -1,17 +1,14 @@
 -- Formulas that say more.
-use Rattle.std.proofs.Common.{◌≡◌, ℕ, ◌≤◌, Bool, true, ◌&&◌, List, [], ◌∷◌, ◌++◌, length, refl, sym, ap, ap₂, subst, ◌∙◌, arith, append_assoc}
+use Rattle.std.proofs.Common.{◌≡◌, ℕ, ◌≤◌, Bool, true, ◌&&◌, List, [], ◌++◌, length, refl, sym, ap, ap₂, ◌∙◌, arith, append_assoc}
+use Rattle.std.proofs.lemmas.List.{append-nil}
 use Rattle.ternary_clauses.proofs.Common.{and_parts, and_from, All, Formula, Rails, holds, IsModel, IsWhole, IsFormula, HasModelFrom, Grows, AreWithin, AreRailsOf, IsLift, Extends}
-use Rattle.ternary_clauses.proofs.ClauseLemmas.{whole-append, whole-none}
+use Rattle.ternary_clauses.proofs.ClauseLemmas.{whole-append, whole}
 use Rattle.ternary_clauses.proofs.ReadingLemmas.{within-more, ReadsAll-more}
-
-pub append-none : {A : Type 0} (xs : List A) → (xs ++ []) ≡ xs
-append-none [] = refl
-append-none (x ∷ xs) = ap (λ ys. x ∷ ys) (append-none xs)
 
 -- ---- clauses that are added, of old and new variables
 
 module _ (old new : Formula) (clauses : List ℕ) (formula : IsFormula old) (literals : new.literals.items ≡ old.literals.items ++ clauses) where
-  pub added-holds : (m : List Bool) → holds m new.literals.items ≡ (holds m old.literals.items && holds m clauses)
+  added-holds : (m : List Bool) → holds m new.literals.items ≡ (holds m old.literals.items && holds m clauses)
   added-holds m = ap (holds m) literals ∙ formula.whole m clauses
 
   pub added-both : (m : List Bool) → IsModel m new → (holds m old.literals.items ≡ true) × (holds m clauses ≡ true)
@@ -21,9 +18,9 @@ module _ (old new : Formula) (clauses : List ℕ) (formula : IsFormula old) (lit
   added-model m h k = added-holds m ∙ and_from _ _ h k
 
   pub added-grows : old.variables ≤ new.variables → IsWhole clauses → ((m more : List Bool) → new.variables ≤ length m → holds (m ++ more) clauses ≡ holds m clauses) → Grows old new
-  added-grows more whole same = record {
+  added-grows more clauses_whole same = record {
     formula = record {
-      whole = subst IsWhole (sym literals) (whole-append old.literals.items clauses formula.whole whole);
+      whole = rw literals (whole-append old.literals.items clauses formula.whole clauses_whole);
       within = λ m rest long. added-holds (m ++ rest) ∙ ap₂ (λ x y. x && y) (formula.within m rest (omega (arith, long, more))) (same m rest long) ∙ sym (added-holds m);
       some = (let x = formula.some in omega (arith, x, more));
       truth = λ m h. formula.truth m (added-both m h).0;
@@ -34,7 +31,7 @@ module _ (old new : Formula) (clauses : List ℕ) (formula : IsFormula old) (lit
 
 -- variables alone
 pub variables-grow : (old new : Formula) → IsFormula old → old.variables ≤ new.variables → new.literals.items ≡ old.literals.items → Grows old new
-variables-grow old new formula more literals = added-grows old new [] formula (literals ∙ sym (append-none old.literals.items)) more whole-none (λ m rest long. refl)
+variables-grow old new formula more literals = added-grows old new [] formula (literals ∙ sym (append-nil old.literals.items)) more (whole [] refl) (λ m rest long. refl)
 
 -- ---- growth
 
@@ -49,14 +46,10 @@ Grows-chain first second = record {
 }
 
 pub model-here : (f : Formula) (m : List Bool) → length m ≡ f.variables → IsModel m f → HasModelFrom f m
-model-here f m len h = record { more = []; width = ap length (append-none m) ∙ len; model = subst (λ (k : List Bool). IsModel k f) (sym (append-none m)) h }
+model-here f m len h = record { more = []; width = rw append-nil len; model = rw append-nil h }
 
 pub model-after : (f : Formula) (m one : List Bool) → HasModelFrom f (m ++ one) → HasModelFrom f m
-model-after f m one has = record {
-  more = one ++ has.more;
-  width = ap length (sym (append_assoc m one has.more)) ∙ has.width;
-  model = subst (λ (k : List Bool). IsModel k f) (append_assoc m one has.more) has.model;
-}
+model-after f m one has = record { more = one ++ has.more; width = rw append_assoc at has.width; model = rw append_assoc at has.model }
 
 -- a model of the old formula stays one of it with values for further variables
 pub model-kept : {f : Formula} (m more : List Bool) → IsFormula f → length m ≡ f.variables → IsModel m f → IsModel (m ++ more) f
@@ -73,8 +66,7 @@ Extends-chain a b c pins all first second = record {
   grows = Grows-chain first.grows second.grows;
   complete = λ m trits len h reads.
       let one : HasModelFrom b m = first.complete m trits len h reads in
-      model-after c m one.more
-      (second.complete (m ++ one.more) trits one.width one.model (ReadsAll-more m one.more pins trits (subst (λ k. All (AreWithin k) pins) (sym len) all) reads));
+      model-after c m one.more (second.complete (m ++ one.more) trits one.width one.model (ReadsAll-more m one.more pins trits (rw len all) reads));
 }
 
 pub IsLift-kept : {a b : Formula} {pins : List Rails} {g : List Bool → Bool} {r : Rails} → Grows a b → IsLift a pins g r → IsLift b pins g r

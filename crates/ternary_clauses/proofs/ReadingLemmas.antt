@@ -1,8 +1,9 @@
 -- What rails and lists of them are read as.
-use Rattle.std.proofs.Common.{◌≡◌, ℕ, zero, suc, ◌<◌, ◌≤◌, ◌+◌, ◌*◌, Bool, false, List, [], ◌∷◌, ◌++◌, length, get_or, refl, ap, ◌∙◌, arith}
-use Rattle.ternary_clauses.proofs.Common.{All-get_or, All, Trit, X, Rails, is_one, is_zero, is_known, Reads, ReadsAll, AreWithin, no_rails, new_rails}
-use Rattle.std.proofs.lemmas.List.Elements.{All-from_get_or}
+use Rattle.std.proofs.Common.{◌≡◌, ℕ, zero, suc, ◌<◌, ◌≤◌, ◌+◌, ◌*◌, Bool, false, List, [], ◌∷◌, ◌++◌, length, get_or, sym, ◌∙◌, arith}
+use Rattle.ternary_clauses.proofs.Common.{All-get_or, All-weaker, All, Trit, X, Rails, Reads, ReadsAll, AreWithin, no_rails, new_rails}
+use Rattle.std.proofs.lemmas.Slice.Zip.{AllZip-long}
 use Rattle.ternary_clauses.proofs.ClauseLemmas.{says-more, says-even, get_or-after}
+use Rattle.ternary_clauses.proofs.NodeCases.{new_values}
 
 -- ---- readings at further variables
 
@@ -12,10 +13,6 @@ Reads-more m more r t is h = record {
   zero = says-more m more r.zero is.zero ∙ h.zero;
   known = says-more m more r.known is.known ∙ h.known;
 }
-
--- the values of three new variables
-abbrev pub new_values : Trit → List Bool
-new_values t = is_one t ∷ is_zero t ∷ is_known t ∷ []
 
 pub new-read : (m : List Bool) (v : ℕ) (t : Trit) → length m ≡ v → Reads (m ++ new_values t) (new_rails v) t
 new-read m v t e = record {
@@ -28,15 +25,12 @@ pub within-more : (v w : ℕ) (r : Rails) → v ≤ w → AreWithin v r → AreW
 within-more v w r less is = record { one = omega (arith, is.one); zero = omega (arith, is.zero); known = omega (arith, is.known) }
 
 pub All-within-more : (v w : ℕ) (rs : List Rails) → v ≤ w → All (AreWithin v) rs → All (AreWithin w) rs
-All-within-more v w rs less all = All-from_get_or (AreWithin w) rs no_rails (λ i inside. within-more v w (get_or rs i no_rails) less (All-get_or (AreWithin v) rs i no_rails inside all))
+All-within-more v w rs less all = All-weaker (AreWithin v) (AreWithin w) (λ r is. within-more v w r less is) rs all
 
 -- ---- lists of readings
 
 pub ReadsAll-length : (m : List Bool) (rs : List Rails) (ts : List Trit) → ReadsAll m rs ts → length rs ≡ length ts
-ReadsAll-length m [] [] h = refl
-ReadsAll-length m [] (t ∷ ts) h = absurd h
-ReadsAll-length m (r ∷ rs) [] h = absurd h
-ReadsAll-length m (r ∷ rs) (t ∷ ts) h = ap suc (ReadsAll-length m rs ts h.1)
+ReadsAll-length m rs ts h = sym (AllZip-long (Reads m) rs ts h)
 
 pub ReadsAll-at : (m : List Bool) (rs : List Rails) (ts : List Trit) (i : ℕ) (d : Rails) (e : Trit) → i < length rs → ReadsAll m rs ts → Reads m (get_or rs i d) (get_or ts i e)
 ReadsAll-at m [] ts i d e less h = absurd (omega (arith, less))

@@ -1,18 +1,18 @@
 -- The copies of a loop's gates after a sweep.
-use Rattle.std.proofs.Common.{◌≡◌, ◌⊎◌, inl, inr, ℕ, zero, suc, ◌<◌, ◌≤◌, ◌+◌, ◌==◌, leb, Bool, true, false, not, if◌then◌else◌, List, [], ◌∷◌, ◌++◌, length, map, take, get_or, Contains, refl, sym, ap, subst, ◌∙◌, arith, append_assoc, length-append}
-use Rattle.ternary_clauses.proofs.Common.{cases_lt, and_parts, and_from, length-map, length_push, get_or_append_left, All-nil, All-push, All-head, All-tail, All-get_or, All-weaker, All, AllZip, Sig, Trit, X, Gate, Parts, no_gate, gate_at, wire, is_cut, first_gate, gate_of, value_in, Formula, Rails, says, IsModel, IsFormula, HasModelFrom, Grows, Reads, ReadsAll, AreWithin, AreRailsOf, value_read, no_rails, new_rails, wire_clauses, AreCopies, IsSeen}
+use Rattle.std.proofs.Common.{◌≡◌, inl, inr, ℕ, zero, suc, ◌<◌, ◌+◌, ◌==◌, leb, Bool, true, false, not, if◌then◌else◌, List, [], ◌∷◌, ◌++◌, length, map, take, get_or, Contains, refl, sym, ap, subst, ◌∙◌, arith, append_assoc, true≢false}
+use Rattle.ternary_clauses.proofs.Common.{cases_lt, and_parts, and_from, length-map, length_push, get_or_append_left, All-nil, All-push, All-head, All-tail, All-get_or, All-weaker, All, AllZip, Sig, Trit, X, Gate, Parts, no_gate, gate_at, wire, is_cut, first_gate, gate_of, value_in, Formula, Rails, says, IsModel, IsFormula, HasModelFrom, Grows, Reads, ReadsAll, AreWithin, AreRailsOf, value_read, no_rails, AreCopies, IsSeen}
 use Rattle.std.proofs.lemmas.Bool.{leb-true, le-leb, eq-eqb, eqb-true}
-use Rattle.std.proofs.lemmas.List.{get_or_past, get_or_default, take_more}
+use Rattle.std.proofs.lemmas.List.{get_or_past, get_or_push, get_or_default, take_more}
 use Rattle.std.proofs.lemmas.List.FromFn.{get_or-map-range_with_len}
 use Rattle.std.proofs.lemmas.List.Elements.{Contains-get_or}
+use Rattle.std.proofs.lemmas.Slice.Zip.{all_zipped_more}
 use Rattle.std.specs.List.{range_with_len}
 use Rattle.netlist.specs.Fixpoint.{fix}
-use Rattle.netlist.specs.Netlists.{IsNetlist, count}
+use Rattle.netlist.specs.Netlists.{IsNetlist}
 use Rattle.loops.specs.declared.structure.Blocks.{Blocks}
 use Rattle.loops.specs.declared.structure.Cut.{Cut}
 use Rattle.loops.specs.Blocks.{AreBlocksOf, block_at, home_of}
 use Rattle.loops.specs.Cuts.{IsCutOf, in_one_loop, loops_by}
-use Rattle.loops.specs.Looped.{Looped, IsLooped}
 use Rattle.loops.specs.Placing.{Rise}
 use Rattle.loops.specs.Sweeps.{in_loop_of, pin_in, gate_in, sweep}
 use Rattle.loops.proofs.OrderedSweeps.{sweep_of_one_loop}
@@ -21,11 +21,10 @@ use Rattle.loops.proofs.Sweeps.{sweep_each}
 use Rattle.loops.proofs.Told.{blocks_tell_loops, blocks_have_loops, gate_home}
 use Rattle.ternary_clauses.specs.Rails.{rails_at, unknown_rails}
 use Rattle.ternary_clauses.specs.Sweeps.{ReadsPlaces, ReadsOutside, SaysSweep, HasCopies, CopiedLoop, IsCopiedLoop, IsCopyWithin, IsCopyOf, ReadsSeen, value_seen, BindsCopy, AreCopied}
-use Rattle.ternary_clauses.proofs.ClauseLemmas.{get_or-after}
-use Rattle.ternary_clauses.proofs.NodeLemmas.{whole-wire, wire-read, wire-holds, Reads-unique}
-use Rattle.ternary_clauses.proofs.MoreLemmas.{wire-more}
-use Rattle.ternary_clauses.proofs.ReadingLemmas.{Reads-more, All-within-more, within-more, new_values, new-read}
-use Rattle.ternary_clauses.proofs.GrowthLemmas.{Grows-refl, Grows-chain, added-both, added-model, added-grows, model-here, model-after, model-kept, rails-kept}
+use Rattle.ternary_clauses.specs.Wires.{TakesValue, HasNewRails}
+use Rattle.ternary_clauses.proofs.NodeLemmas.{Reads-unique}
+use Rattle.ternary_clauses.proofs.ReadingLemmas.{Reads-more, All-within-more}
+use Rattle.ternary_clauses.proofs.GrowthLemmas.{Grows-refl, Grows-chain, model-here, model-after, rails-kept}
 
 pub unknown-read : (f : Formula) (m : List Bool) → IsFormula f → IsModel m f → Reads m unknown_rails X
 unknown-read f m formula h = let e : says m 1 ≡ false = ap not (formula.truth m h) in record { one = e; zero = e; known = e }
@@ -43,58 +42,38 @@ copies-none f formula = record {
       record { more = has.more; width = has.width; model = has.model; reads = λ i less. absurd (omega (arith, less)) };
 }
 
-module _ (start old new : Formula) (copies : List Rails) (k : ℕ) (r : Rails) (was : AreCopies start old copies k) (is : r ≡ new_rails old.variables) (variables : new.variables ≡ old.variables + 3) (literals : new.literals.items ≡ old.literals.items ++ wire_clauses r) where
-  within : AreWithin new.variables r
-  within = subst (AreWithin new.variables) (sym is) (record { one = omega (arith, variables); zero = omega (arith, variables); known = omega (arith, variables) })
+module _ (start old new : Formula) (copies : List Rails) (k : ℕ) (r : Rails) (was : AreCopies start old copies k) (made : HasNewRails old new false r) where
+  early : (i : ℕ) → i < k → rails_at (copies ++ r ∷ []) i ≡ rails_at copies i
+  early i low = get_or_append_left copies (r ∷ []) no_rails i (let x = was.size in omega (arith, low, x))
 
-  grown : Grows old new
-  grown = added-grows old new (wire_clauses r) was.grows.formula literals (omega (arith, variables)) (whole-wire r) (λ m more long. wire-more m more r (within-more new.variables (length m) r long within))
-
-  early : (i : ℕ) → i < k → rails_at copies i ≡ rails_at (copies ++ r ∷ []) i
-  early i less = sym (get_or_append_left copies (r ∷ []) no_rails i (let x = was.size in omega (arith, less, x)))
-
-  last : (i : ℕ) → i < k + 1 → k ≤ i → r ≡ rails_at (copies ++ r ∷ []) i
-  last i below high = sym (get_or-after copies (r ∷ []) i 0 no_rails (let x = was.size in omega (arith, below, high, x)))
-
-  copies-complete : (m : List Bool) (values : ℕ → Trit) → length m ≡ start.variables → IsModel m start → HasCopies new (copies ++ r ∷ []) (k + 1) m values
-  copies-complete m values len h =
-      let had : HasCopies old copies k m values = was.complete m values len h in
-      let t = values k in
-      let long = m ++ had.more in
-      let at : Reads ((m ++ had.more) ++ new_values (values k)) r (values k) = subst (λ (q : Rails). Reads ((m ++ had.more) ++ new_values (values k)) q (values k)) (sym is) (new-read (m ++ had.more) old.variables (values k) had.width) in
-      let model : IsModel ((m ++ had.more) ++ new_values (values k)) new = added-model old new (wire_clauses r) was.grows.formula literals ((m ++ had.more) ++ new_values (values k)) (model-kept {f = old} (m ++ had.more) (new_values (values k)) was.grows.formula had.width had.model) (wire-holds ((m ++ had.more) ++ new_values (values k)) r (values k) at) in
-      let wide : length ((m ++ had.more) ++ new_values (values k)) ≡ new.variables = length-append (m ++ had.more) (new_values (values k)) ∙ ap (λ l. l + 3) had.width ∙ sym variables in
-      let same : ((m ++ had.more) ++ new_values (values k)) ≡ (m ++ (had.more ++ new_values (values k))) = append_assoc m had.more (new_values (values k)) in
-      record {
-        more = had.more ++ new_values (values k);
-        width = ap length (sym same) ∙ wide;
-        model = subst (λ (l : List Bool). IsModel l new) same model;
-        reads = λ i below. subst (λ (l : List Bool). Reads l (rails_at (copies ++ r ∷ []) i) (values i)) same (by had at i below (cases_lt i k));
-      }
-    where
-      by : (had : HasCopies old copies k m values) → Reads ((m ++ had.more) ++ new_values (values k)) r (values k) → (i : ℕ) → i < k + 1 → (i < k) ⊎ (k ≤ i) → Reads ((m ++ had.more) ++ new_values (values k)) (rails_at (copies ++ r ∷ []) i) (values i)
-      by had at i below (inl low) =
-          subst (λ (q : Rails). Reads ((m ++ had.more) ++ new_values (values k)) q (values i)) (early i low)
-          (Reads-more (m ++ had.more) (new_values (values k)) (rails_at copies i) (values i) (subst (λ l. AreWithin l (rails_at copies i)) (sym had.width) (was.own i low).within) (had.reads i low))
-      by had at i below (inr high) =
-          let here : k ≡ i = omega (arith, below, high) in
-          subst (λ (q : Rails). Reads ((m ++ had.more) ++ new_values (values k)) q (values i)) (last i below high)
-          (subst (λ j. Reads ((m ++ had.more) ++ new_values (values k)) r (values j)) here at)
+  -- what holds of the copies before and of this one holds of all of them
+  each : (P : ℕ → Rails → Type 0) → ((i : ℕ) → i < k → P i (rails_at copies i)) → P k r → (i : ℕ) → i < k + 1 → P i (rails_at (copies ++ r ∷ []) i)
+  each P before here i below = elim (cases_lt i k) [
+    | inl low ↦ rw (early i low) (before i low)
+    | inr high ↦
+        let same : k ≡ i = omega (arith, below, high) in
+        rw (get_or_push copies r no_rails i (was.size ∙ same), ← same) here
+  ]
 
   pub copies-step : AreCopies start new (copies ++ r ∷ []) (k + 1)
   copies-step = record {
-    grows = Grows-chain was.grows grown;
-    within = All-push (AreWithin new.variables) copies r (All-within-more old.variables new.variables copies grown.more was.within) within;
+    grows = Grows-chain was.grows made.grows;
+    within = All-push (AreWithin new.variables) copies r (All-within-more old.variables new.variables copies made.grows.more was.within) made.own.within;
     size = (let x = was.size in let y = length_push copies r in omega (arith, x, y));
-    own = λ i below. own_by i below (cases_lt i k);
-    complete = copies-complete;
+    own = each (λ i. AreRailsOf new) (λ i low. rails-kept made.grows (was.own i low)) made.own;
+    complete = λ m values len h.
+        let had : HasCopies old copies k m values = was.complete m values len h in
+        let long = m ++ had.more in
+        let has : TakesValue new r (m ++ had.more) (values k) = made.takes long (values k) (λ e. absurd (true≢false (sym e))) had.width had.model in
+        let reads : (i : ℕ) → i < k + 1 → Reads ((m ++ had.more) ++ has.more) (rails_at (copies ++ r ∷ []) i) (values i) =
+        each (λ i q. Reads (long ++ has.more) q (values i)) (λ i low. Reads-more long has.more (rails_at copies i) (values i) (rw had.width (was.own i low).within) (had.reads i low)) has.reads in
+        record {
+          more = had.more ++ has.more;
+          width = rw (append_assoc m had.more has.more) at has.width;
+          model = rw (append_assoc m had.more has.more) at has.model;
+          reads = λ i below. rw (append_assoc m had.more has.more) at (reads i below);
+        };
   }
-    where
-      own_by : (i : ℕ) → i < k + 1 → (i < k) ⊎ (k ≤ i) → AreRailsOf new (rails_at (copies ++ r ∷ []) i)
-      own_by i below (inl low) = subst (AreRailsOf new) (early i low) (rails-kept grown (was.own i low))
-      own_by i below (inr high) =
-          subst (AreRailsOf new) (last i below high)
-          (record { within = within; reads = λ m h. wire-read m r (added-both old new (wire_clauses r) was.grows.formula literals m h).1 })
 
 -- ---- what gates see
 
@@ -107,24 +86,11 @@ seen-read c m see (pin ∷ pins) (r ∷ seen) all zip = (
   seen-read c m see pins seen (All-tail (λ p. (r : Rails) → IsSeen c p r → Reads m r (see p)) pin pins all) zip.1,
 )
 
-pub seen-push : (c : CopiedLoop) (pins : List Sig) (seen : List Rails) (pin : Sig) (r : Rails) → AllZip (IsSeen c) pins seen → IsSeen c pin r → AllZip (IsSeen c) (pins ++ pin ∷ []) (seen ++ r ∷ [])
-seen-push c [] [] pin r zip is = (is, tt)
-seen-push c [] (s ∷ seen) pin r zip is = absurd zip
-seen-push c (p ∷ pins) [] pin r zip is = absurd zip
-seen-push c (p ∷ pins) (s ∷ seen) pin r zip is = (zip.0, seen-push c pins seen pin r zip.1 is)
-
 -- one pin more
 pub seen-step : (c : CopiedLoop) (pins : List Sig) (i : ℕ) (none : Sig) (seen more : List Rails) (r : Rails) → i < length pins → more ≡ seen ++ r ∷ []
     → AllZip (IsSeen c) (take i pins) seen → IsSeen c (get_or pins i none) r → AllZip (IsSeen c) (take (i + 1) pins) more
 seen-step c pins i none seen more r inside items zip is =
-    subst (λ (ps : List Sig). AllZip (IsSeen c) ps more) (sym (take_more pins i none inside))
-    (subst (λ (rs : List Rails). AllZip (IsSeen c) (take i pins ++ get_or pins i none ∷ []) rs) (sym items) (seen-push c (take i pins) seen (get_or pins i none) r zip is))
-
-pub seen-length : (c : CopiedLoop) (pins : List Sig) (seen : List Rails) → AllZip (IsSeen c) pins seen → length seen ≡ length pins
-seen-length c [] [] zip = refl
-seen-length c [] (r ∷ seen) zip = absurd zip
-seen-length c (pin ∷ pins) [] zip = absurd zip
-seen-length c (pin ∷ pins) (r ∷ seen) zip = ap suc (seen-length c pins seen zip.1)
+    rw (take_more pins i none inside, items) (all_zipped_more (IsSeen c) (take i pins) seen (get_or pins i none) r zip is)
 
 -- ---- copies that are bound
 
@@ -137,20 +103,19 @@ copied-none c f formula = record {
 
 -- values of further variables change nothing of what rails are read as
 Seen-more : (c : CopiedLoop) (m more : List Bool) (see : ℕ → Sig → Trit) → ((pin : Sig) (r : Rails) → IsSeen c pin r → AreWithin (length m) r) → ReadsSeen c m see → ReadsSeen c (m ++ more) see
-Seen-more c m more see inside reads i less = by (gate_at c.net (get_or c.gates i 0)).pins (reads i less)
-  where
-    by : (pins : List Sig) → All (λ pin. (r : Rails) → IsSeen c pin r → Reads m r (see i pin)) pins → All (λ pin. (r : Rails) → IsSeen c pin r → Reads (m ++ more) r (see i pin)) pins
-    by pins all = All-weaker (λ pin. (r : Rails) → IsSeen c pin r → Reads m r (see i pin)) (λ pin. (r : Rails) → IsSeen c pin r → Reads (m ++ more) r (see i pin)) (λ pin here r is. Reads-more m more r (see i pin) (inside pin r is) (here r is)) pins all
+Seen-more c m more see inside reads i less =
+    All-weaker (λ pin. (r : Rails) → IsSeen c pin r → Reads m r (see i pin)) (λ pin. (r : Rails) → IsSeen c pin r → Reads (m ++ more) r (see i pin))
+    (λ pin here r is. Reads-more m more r (see i pin) (inside pin r is) (here r is)) (gate_at c.net (get_or c.gates i 0)).pins (reads i less)
 
 rails-in : (v : ℕ) (xs : List Rails) (i : ℕ) → 0 < v → All (AreWithin v) xs → AreWithin v (get_or xs i no_rails)
 rails-in v xs i some all = elim (cases_lt i (length xs)) [
   | inl low ↦ All-get_or (AreWithin v) xs i no_rails low all
-  | inr high ↦ subst (AreWithin v) (sym (get_or_past xs i no_rails high)) (record { one = omega (arith, some); zero = omega (arith, some); known = omega (arith, some) })
+  | inr high ↦ rw (get_or_past xs i no_rails high) (record { one = omega (arith, some); zero = omega (arith, some); known = omega (arith, some) })
 ]
 
 seen-within : (c : CopiedLoop) (v : ℕ) → 0 < v → IsCopyWithin v c → (pin : Sig) (r : Rails) → IsSeen c pin r → AreWithin v r
-seen-within c v some within pin r (inl out) = subst (AreWithin v) (sym out.is) (rails-in v c.rails pin.0 some within.rails)
-seen-within c v some within pin r (inr one) = subst (AreWithin v) (sym one.is) (by (is_cut c.cut (gate_of c.net pin)))
+seen-within c v some within pin r (inl out) = rw out.is (rails-in v c.rails pin.0 some within.rails)
+seen-within c v some within pin r (inr one) = rw one.is (by (is_cut c.cut (gate_of c.net pin)))
   where
     by : (x : Bool) → AreWithin v (if x then rails_at c.before one.place else rails_at c.after one.place)
     by true = rails-in v c.before one.place some within.before
@@ -178,23 +143,19 @@ module _ (c : CopiedLoop) (valid : IsNetlist c.net) (proper : IsCopiedLoop c) (s
   pub copied-step : AreCopied c start new (k + 1)
   copied-step = record {
     grows = Grows-chain was.grows bound.says_gate.grows;
-    reads = λ m see h reads i below. at m see h reads i below (cases_lt i k);
+    reads = λ m see h reads i below. elim (cases_lt i k) [
+      | inl low ↦ was.reads m see (bound.says_gate.grows.sound m h) reads i low
+      | inr high ↦
+          let here : k ≡ i = omega (arith, below, high) in
+          rw (← here) (bound.says_gate.reads m (map (see k) (gate_at c.net (get_or c.gates k 0)).pins) (pin-width see) h (pins-seen m see reads))
+    ];
     complete = λ m see len h reads still.
         let had : HasModelFrom old m = was.complete m see len h reads still in
-        let within : (pin : Sig) (r : Rails) → IsSeen c pin r → AreWithin (length m) r = subst (λ l. (pin : Sig) (r : Rails) → IsSeen c pin r → AreWithin l r) (sym len) (seen-within c start.variables is.formula.some is.within) in
-        let own : AreWithin (length m) (rails_at c.after k) = subst (λ l. AreWithin l (rails_at c.after k)) (sym len) (rails-in start.variables c.after k is.formula.some is.within.after) in
         model-after new m had.more
         (bound.says_gate.complete (m ++ had.more) (map (see k) (gate_at c.net (get_or c.gates k 0)).pins) (pin-width see) had.width had.model
-        (pins-seen (m ++ had.more) see (Seen-more c m had.more see within reads))
-        (Reads-more m had.more (rails_at c.after k) (value_seen c see k) own (still k inside)));
+        (pins-seen (m ++ had.more) see (Seen-more c m had.more see (λ pin r seen. rw len (seen-within c start.variables is.formula.some is.within pin r seen)) reads))
+        (Reads-more m had.more (rails_at c.after k) (value_seen c see k) (rw len (rails-in start.variables c.after k is.formula.some is.within.after)) (still k inside)));
   }
-    where
-      at : (m : List Bool) (see : ℕ → Sig → Trit) → IsModel m new → ReadsSeen c m see → (i : ℕ) → i < k + 1 → (i < k) ⊎ (k ≤ i) → Reads m (rails_at c.after i) (value_seen c see i)
-      at m see h reads i below (inl low) = was.reads m see (bound.says_gate.grows.sound m h) reads i low
-      at m see h reads i below (inr high) =
-          let here : k ≡ i = omega (arith, below, high) in
-          subst (λ j. Reads m (rails_at c.after j) (value_seen c see j)) here
-          (bound.says_gate.reads m (map (see k) (gate_at c.net (get_or c.gates k 0)).pins) (pin-width see) h (pins-seen m see reads))
 
 -- ---- a whole sweep
 
@@ -218,11 +179,11 @@ copy-at : (m : List Bool) (gates : List ℕ) (rs : List Rails) (i : ℕ) → Ris
 unfolding copy_value
 copy-at m [] rs i rise size less = absurd (omega (arith, less))
 copy-at m (g ∷ gates) [] i rise size less = absurd (omega (arith, size))
-copy-at m (g ∷ gates) (r ∷ rs) zero rise size less = ap (λ b. if b then value_read m r else copy_value m gates rs g) (eq-eqb g g refl)
+copy-at m (g ∷ gates) (r ∷ rs) zero rise size less = rw (eq-eqb g g refl) refl
 copy-at m (g ∷ gates) (r ∷ rs) (suc i) rise size less =
     let above : g < get_or gates i 0 = rise zero (suc i) (omega arith) less in
     let other : (g == get_or gates i 0) ≡ false = differ g (get_or gates i 0) above in
-    ap (λ b. if b then value_read m r else copy_value m gates rs (get_or gates i 0)) other ∙ copy-at m gates rs i (rise-tail g gates rise) (omega (arith, size)) (omega (arith, less))
+    rw other (copy-at m gates rs i (rise-tail g gates rise) (omega (arith, size)) (omega (arith, less)))
 
 abbrev pub copy_of : Parts → (gates : List ℕ) (cut : List Bool) (rails before after : List Rails) → CopiedLoop
 copy_of net gates cut rails before after = record { net = net; gates = gates; cut = cut; rails = rails; before = before; after = after }
@@ -230,27 +191,6 @@ copy_of net gates cut rails before after = record { net = net; gates = gates; cu
 -- the copy of the loop at a place of the blocks
 abbrev pub loop_copy : Parts → Blocks → Cut → ℕ → (rails before after : List Rails) → CopiedLoop
 loop_copy net blocks cut block rails before after = copy_of net (block_at blocks block).gates cut.wires rails before after
-
-pub copy-is : (looped : Looped) (block : ℕ) (rails before after : List Rails) (net : Parts) (gates : List ℕ) (cut : List Bool) (copies : List Rails)
-    → net ≡ looped.net → gates ≡ (block_at looped.blocks block).gates → cut ≡ looped.cut.wires → copies ≡ after
-    → copy_of net gates cut rails before copies ≡ loop_copy looped.net looped.blocks looped.cut block rails before after
-copy-is looped block rails before after net gates cut copies same_net same_gates same_cut same_copies =
-    ap (λ (n : Parts). copy_of n gates cut rails before copies) same_net
-    ∙ ap (λ (gs : List ℕ). copy_of looped.net gs cut rails before copies) same_gates
-    ∙ ap (λ (ws : List Bool). copy_of looped.net (block_at looped.blocks block).gates ws rails before copies) same_cut
-    ∙ ap (λ (rs : List Rails). copy_of looped.net (block_at looped.blocks block).gates looped.cut.wires rails before rs) same_copies
-
-pub copy-proper : (looped : Looped) → IsLooped looped → (block : ℕ) → block < length looped.blocks.list → (rails before after : List Rails) → length rails ≡ count looped.net
-    → length before ≡ length (block_at looped.blocks block).gates → length after ≡ length (block_at looped.blocks block).gates
-    → IsCopiedLoop (loop_copy looped.net looped.blocks looped.cut block rails before after)
-copy-proper looped is block bl rails before after rails_size before_size after_size = record {
-  rise = block_rises looped.net looped.blocks is.blocks block bl;
-  inside = block_within looped.net looped.blocks is.blocks block bl;
-  cut = is.cut.width;
-  rails = rails_size;
-  before = before_size;
-  after = after_size;
-}
 
 module _ (net : Parts) (blocks : Blocks) (are : AreBlocksOf net blocks) (cut : Cut) (cut_is : IsCutOf net cut) (block : ℕ) (bl : block < length blocks.list) (looped : (block_at blocks block).looped ≡ true) where
   home-looped : (n : ℕ) → home_of blocks n ≡ block → (block_at blocks (home_of blocks n)).looped ≡ true
@@ -271,8 +211,7 @@ module _ (net : Parts) (blocks : Blocks) (are : AreBlocksOf net blocks) (cut : C
     see-one : (n : ℕ) → Contains (block_at blocks block).gates n → (pin : Sig) (r : Rails) → IsSeen (loop_copy net blocks cut block rails before after) pin r → (in_loop_of net (loops_by blocks cut) n pin ≡ false → Reads m (rails_at rails pin.0) (wire (fix net v) pin)) → Reads m r (pin_in net (loops_by blocks cut) v c s n pin)
     see-one n listed pin r (inl out) at =
         let apart : in_loop_of net (loops_by blocks cut) n pin ≡ false = no-loop (in_loop_of net (loops_by blocks cut) n pin) refl in
-        subst (λ (q : Rails). Reads m q (pin_in net (loops_by blocks cut) v c s n pin)) (sym out.is)
-        (subst (Reads m (rails_at rails pin.0)) (sym (ap (λ b. if b then (if is_cut cut.wires (gate_of net pin) then value_in c (gate_of net pin) else value_in s (gate_of net pin)) else wire (fix net v) pin) apart)) (at apart))
+        rw (out.is, apart) (at apart)
       where
         no-loop : (b : Bool) → in_loop_of net (loops_by blocks cut) n pin ≡ b → in_loop_of net (loops_by blocks cut) n pin ≡ false
         no-loop false e = e
@@ -280,15 +219,13 @@ module _ (net : Parts) (blocks : Blocks) (are : AreBlocksOf net blocks) (cut : C
             let p = and_parts (leb (first_gate net) pin.0) (in_one_loop blocks n (gate_of net pin)) e in
             absurd (out.no_gate (leb-true (first_gate net) pin.0 p.0) (same-to n (gate_of net pin) listed p.1))
     see-one n listed pin r (inr one) at =
-        let g = gate_of net pin in
         let there : Contains (block_at blocks block).gates (gate_of net pin) = subst (Contains (block_at blocks block).gates) one.here (Contains-get_or (block_at blocks block).gates one.place 0 one.within) in
         let inside : in_loop_of net (loops_by blocks cut) n pin ≡ true = and_from (leb (first_gate net) pin.0) (in_one_loop blocks n (gate_of net pin)) (le-leb (first_gate net) pin.0 one.gate) (same-from n (gate_of net pin) listed there) in
-        subst (λ (q : Rails). Reads m q (pin_in net (loops_by blocks cut) v c s n pin)) (sym one.is)
-        (subst (Reads m (if is_cut cut.wires g then rails_at before one.place else rails_at after one.place)) (sym (ap (λ b. if b then (if is_cut cut.wires (gate_of net pin) then value_in c (gate_of net pin) else value_in s (gate_of net pin)) else wire (fix net v) pin) inside)) (by (is_cut cut.wires g)))
+        rw (one.is, inside) (by (is_cut cut.wires (gate_of net pin)))
       where
         by : (b : Bool) → Reads m (if b then rails_at before one.place else rails_at after one.place) (if b then value_in c (gate_of net pin) else value_in s (gate_of net pin))
-        by true = subst (λ g. Reads m (rails_at before one.place) (value_in c g)) one.here (reads_before one.place one.within)
-        by false = subst (λ g. Reads m (rails_at after one.place) (value_in s g)) one.here (reads_after one.place one.within)
+        by true = rw (← one.here) (reads_before one.place one.within)
+        by false = rw (← one.here) (reads_after one.place one.within)
 
     sees : ReadsSeen (loop_copy net blocks cut block rails before after) m (λ i pin. pin_in net (loops_by blocks cut) v c s (get_or (block_at blocks block).gates i 0) pin)
     sees i less =
@@ -306,7 +243,7 @@ module _ (net : Parts) (blocks : Blocks) (are : AreBlocksOf net blocks) (cut : C
         let value : value_in (map (copy_value m (block_at blocks block).gates after) (range_with_len 0 (length net.gates))) n ≡ value_read m (rails_at after i) =
         get_or-map-range_with_len (copy_value m (block_at blocks block).gates after) 0 (length net.gates) n n X (block_within net blocks are block bl i less) (omega arith)
         ∙ copy-at m (block_at blocks block).gates after i (block_rises net blocks are block bl) copies.size less in
-        subst (Reads m (rails_at after i)) (sym value) ((copies.own i less).reads m h)
+        rw value ((copies.own i less).reads m h)
 
     sweep-sound : (m : List Bool) (v c : List Trit) → IsModel m new → ReadsOutside net (loops_by blocks cut) (block_at blocks block).gates rails m v → ReadsPlaces (block_at blocks block).gates before m c → ReadsPlaces (block_at blocks block).gates after m (sweep net (loops_by blocks cut) v c)
     sweep-sound m v c h outside reads_before i less =
@@ -325,13 +262,13 @@ module _ (net : Parts) (blocks : Blocks) (are : AreBlocksOf net blocks) (cut : C
         at-gate : (s c v : List Trit) → ((j : ℕ) → j < length (block_at blocks block).gates → value_in s (get_or (block_at blocks block).gates j 0) ≡ gate_in net (loops_by blocks cut) v c s (get_or (block_at blocks block).gates j 0)) → (g : ℕ) → Contains (block_at blocks block).gates g → value_in s g ≡ gate_in net (loops_by blocks cut) v c s g
         at-gate s c v all g there =
             let is : get_or (block_at blocks block).gates there.0 0 ≡ g = get_or_default (block_at blocks block).gates there.0 0 g there.1 ∙ there.2 in
-            subst (λ k. value_in s k ≡ gate_in net (loops_by blocks cut) v c s k) is (all there.0 there.1)
+            rw (← is) (all there.0 there.1)
 
     outside-more : (m more : List Bool) (v : List Trit) → length m ≡ old.variables → ReadsOutside net (loops_by blocks cut) (block_at blocks block).gates rails m v → ReadsOutside net (loops_by blocks cut) (block_at blocks block).gates rails (m ++ more) v
     outside-more m more v len outside n listed =
         All-weaker (λ pin. in_loop_of net (loops_by blocks cut) n pin ≡ false → Reads m (rails_at rails pin.0) (wire (fix net v) pin))
         (λ pin. in_loop_of net (loops_by blocks cut) n pin ≡ false → Reads (m ++ more) (rails_at rails pin.0) (wire (fix net v) pin))
-        (λ pin at e. Reads-more m more (rails_at rails pin.0) (wire (fix net v) pin) (subst (λ l. AreWithin l (rails_at rails pin.0)) (sym len) (rails-in old.variables rails pin.0 some rails_in)) (at e)) (gate_at net n).pins (outside n listed)
+        (λ pin at e. Reads-more m more (rails_at rails pin.0) (wire (fix net v) pin) (rw len (rails-in old.variables rails pin.0 some rails_in)) (at e)) (gate_at net n).pins (outside n listed)
 
     sweep-complete : (m : List Bool) (v c : List Trit) → length m ≡ old.variables → IsModel m old → ReadsOutside net (loops_by blocks cut) (block_at blocks block).gates rails m v → ReadsPlaces (block_at blocks block).gates before m c → HasModelFrom new m
     sweep-complete m v c len h outside reads_before =
@@ -340,7 +277,7 @@ module _ (net : Parts) (blocks : Blocks) (are : AreBlocksOf net blocks) (cut : C
         let first : HasCopies mid after (length (block_at blocks block).gates) m values = copies.complete m values len h in
         let long = m ++ first.more in
         let there : ReadsOutside net (loops_by blocks cut) (block_at blocks block).gates rails long v = outside-more m first.more v len outside in
-        let early : ReadsPlaces (block_at blocks block).gates before long c = λ i less. Reads-more m first.more (rails_at before i) (value_in c (get_or (block_at blocks block).gates i 0)) (subst (λ l. AreWithin l (rails_at before i)) (sym len) (rails-in old.variables before i some before_in)) (reads_before i less) in
+        let early : ReadsPlaces (block_at blocks block).gates before long c = λ i less. Reads-more m first.more (rails_at before i) (value_in c (get_or (block_at blocks block).gates i 0)) (rw len (rails-in old.variables before i some before_in)) (reads_before i less) in
         let see : ℕ → Sig → Trit = λ j pin. pin_in net (loops_by blocks cut) v c s (get_or (block_at blocks block).gates j 0) pin in
         let seen : ReadsSeen (loop_copy net blocks cut block rails before after) long see = sees rails before after long v c s there early first.reads in
         let still : (i : ℕ) → i < length (block_at blocks block).gates → Reads long (rails_at after i) (value_seen (loop_copy net blocks cut block rails before after) see i) =
@@ -355,13 +292,3 @@ module _ (net : Parts) (blocks : Blocks) (are : AreBlocksOf net blocks) (cut : C
       sound = sweep-sound;
       complete = sweep-complete;
     }
-
--- and of the lists as the code holds them
-pub sweep-made : (looped : Looped) (is : IsLooped looped) (block : ℕ) (bl : block < length looped.blocks.list) (is_loop : (block_at looped.blocks block).looped ≡ true)
-    (rails before after : List Rails) (old mid new : Formula) (c : CopiedLoop) → c ≡ loop_copy looped.net looped.blocks looped.cut block rails before after
-    → All (AreWithin old.variables) rails → All (AreWithin old.variables) before → 0 < old.variables
-    → AreCopies old mid after (length c.gates) → AreCopied c mid new (length c.gates) → SaysSweep looped.net (loops_by looped.blocks looped.cut) (block_at looped.blocks block).gates rails before old new after
-sweep-made looped is block bl is_loop rails before after old mid new c same rails_in before_in some made bound =
-    sweep-says looped.net looped.blocks is.blocks looped.cut is.cut block bl is_loop rails before after old mid new rails_in before_in some
-    (subst (λ (d : CopiedLoop). AreCopies old mid after (length d.gates)) same made)
-    (subst (λ (d : CopiedLoop). AreCopied d mid new (length d.gates)) same bound)

@@ -1,5 +1,5 @@
 -- Rails for the gates of a netlist, and gates that are bound one after another.
-use Rattle.std.specs.Prelude.{◌≡◌, ℕ, ◌<◌, ◌+◌, Bool, false, List, length, All, map, ◌++◌, slice_index_or}
+use Rattle.std.specs.Prelude.{◌≡◌, ℕ, ◌<◌, ◌+◌, Bool, true, false, List, length, All, map, ◌++◌, slice_index_or}
 use Rattle.cyc_base.specs.declared.sig.Sig.{Sig}
 use Rattle.cyc_base.specs.declared.trit.Trit.{Trit}
 use Rattle.cyc_base.specs.declared.trit.Trit.TheVariants.{X}
@@ -11,8 +11,22 @@ use Rattle.loops.specs.Sweeps.{first_gate, value_in}
 use Rattle.ternary_clauses.specs.declared.formula.Formula.{Formula}
 use Rattle.ternary_clauses.specs.declared.formula.Rails.{Rails}
 use Rattle.ternary_clauses.specs.Formulas.{IsModel, HasModelFrom, Grows}
-use Rattle.ternary_clauses.specs.Rails.{Reads, AreWithin, AreRailsOf, no_rails, rails_at}
+use Rattle.ternary_clauses.specs.Rails.{is_known, Reads, AreWithin, AreRailsOf, no_rails, rails_at}
 use Rattle.ternary_clauses.specs.Encoding.{is_marked, IsWanted, IsStill, gate_rails, ReadsGates, Fits}
+
+-- a model, with values for these further variables, in which the rails stand for this value
+pub record TakesValue (f : Formula) (r : Rails) (m : List Bool) (t : Trit) : Type 0 where
+  pub more : List Bool
+  pub width : length (m ++ more) ≡ f.variables
+  pub model : IsModel (m ++ more) f
+  pub reads : Reads (m ++ more) r t
+
+-- The new formula says nothing but that new rails stand for a value, which may be each, or each that is known.
+pub record HasNewRails (old new : Formula) (sure : Bool) (r : Rails) : Type 0 where
+  pub grows : Grows old new
+  pub own : AreRailsOf new r
+  pub known : sure ≡ true → r.known ≡ 0
+  pub takes : (m : List Bool) (t : Trit) → (sure ≡ true → is_known t ≡ true) → length m ≡ old.variables → IsModel m old → TakesValue new r m t
 
 -- the rails of a gate's pins
 abbrev pub pin_rails : List Rails → Gate → List Rails

@@ -44,7 +44,7 @@ fn add_copies(
 {
     let mut copies = Vec::new(alloc);
     for _ in 0..count {
-        let wire = formula.add_new_wire()?;
+        let wire = formula.new_wire()?;
         copies.push(wire)?;
     }
     Ok(copies)
