@@ -1,13 +1,12 @@
 -- The number of a gate's block is one for each loop.
 use Rattle.std.proofs.Common.{ap}
 use Rattle.std.specs.List.{slice_index_or}
-use Rattle.unroll.proofs.Common.{Parts, AreLoopsOf, loops_by, sweeps_of, IsOfLoops}
+use Rattle.unroll.proofs.Common.{Parts, AreLoopsOf, loops_by, sweeps_of, IsOfLoops, Looped, IsLooped}
 use Rattle.loops.specs.declared.structure.Blocks.{Blocks}
 use Rattle.loops.specs.declared.structure.Cut.{Cut}
 use Rattle.loops.specs.declared.structure.SweepCounts.{SweepCounts}
 use Rattle.loops.specs.Blocks.{AreBlocksOf}
 use Rattle.loops.proofs.Told.{blocks_tell_loops, told_parts}
-use Rattle.loops.specs.Looped.{Looped, IsLooped}
 use Rattle.unroll.specs.Laws.{EnoughByBlocks}
 
 pub sweeps_are_of_loops : (net : Parts) (blocks : Blocks) (cut : Cut) (counts : SweepCounts) → AreBlocksOf net blocks → IsOfLoops (loops_by blocks cut) (sweeps_of blocks counts)

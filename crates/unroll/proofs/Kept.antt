@@ -1,10 +1,9 @@
 -- The netlist's own gates, by the table of the last copies.
-use Rattle.std.proofs.Common.{◌≡◌, ℕ, ◌+◌, ◌<◌, Bool, true, false, ◌&&◌, if◌then◌else◌, List, [], ◌∷◌, ◌++◌, length, map, take, slice_get, Some, refl, ap, sym, ◌∙◌}
-use Rattle.unroll.proofs.Common.{get_or_append_left, map-append, Sig, Gate, Parts, gate_at, Loops, AreLoopsOf, gate_of, in_loop_of, in_loop_from, same-sym, same-trans, same_within, copies_of, shift, moved, copy_signal, kept_pin, kept_gate, IsOfLoops, at_table, kept_pin_by, AreLastCopies}
-use Rattle.std.proofs.lemmas.List.{take_more}
-use Rattle.std.proofs.lemmas.Option.{get_or_from_slice_get, slice_get_within}
-use Rattle.unroll.specs.Tables.{kept_gate_by}
-use Rattle.unroll.proofs.Rounds.{has_same, map_same}
+use Rattle.std.proofs.Common.{◌≡◌, ℕ, ◌+◌, ◌<◌, List, [], ◌∷◌, ◌++◌, length, map, take, get_or, slice_get, Some, ap, sym, ◌∙◌, arith}
+use Rattle.unroll.proofs.Common.{get_or_append_left, map-append, take_more, Sig, Gate, Parts, gate_at, signal, Loops, AreLoopsOf, gate_of, in_loop_of, first_gate, in_loop_from, same_within, shift, old_signal, copy_signal, kept_gate, IsOfLoops, kept_pin, at_table, copy_pin_by, range_with_len, get_or-range_with_len, get_or_from_slice_get, slice_get_within}
+use Rattle.unroll.specs.Tables.{gate_by_tables, AreLast}
+use Rattle.unroll.proofs.Numbered.{choice_of_two, moved_high}
+use Rattle.unroll.proofs.Rounds.{has_same, many_of, self_of, map_same}
 
 -- one more item that was read by its place
 pub taken : {A : Type 0} (xs : List A) (i : ℕ) (x : A) → slice_get xs i ≡ Some x → take (i + 1) xs ≡ take i xs ++ x ∷ []
@@ -18,32 +17,25 @@ taken_first xs ys i x l e =
     take_more xs i x l
     ∙ ap (λ y. take i xs ++ y ∷ []) (sym (get_or_append_left xs ys x i l) ∙ get_or_from_slice_get (xs ++ ys) i x x e)
 
--- a choice between two signals in two ways
-pub either_same : (b d : Bool) (x y x' y' : Sig) → (b ≡ true → d ≡ true → x ≡ x') → y ≡ y' → (if b && d then x else y) ≡ (if b && d then x' else y')
-either_same true true x y x' y' h k = h refl refl
-either_same true false x y x' y' h k = k
-either_same false d x y x' y' h k = k
+module _ (net : Parts) (loops : Loops) (m : ℕ → ℕ) (are : AreLoopsOf net loops) (of_loops : IsOfLoops loops m) (last own : List ℕ) (tables : AreLast net loops m last own) where
+  pin_same : (n : ℕ) (s : Sig) → copy_pin_by net loops (shift net loops m) last own n s ≡ kept_pin net loops m n s
+  pin_same n s =
+      let h = gate_of net s in
+      sym (choice_of_two (in_loop_of net loops n s) (loops.cut h) (copy_signal net loops m (m n) h) (old_signal net loops m s) (at_table last h) (at_table own h)
+      (λ e.
+      let p = in_loop_from net loops n s e in
+      let many = has_same net loops m are of_loops n h p.1 ∙ many_of net loops m are of_loops n (self_of net loops m are of_loops n h p.1) in
+      sym (tables.copies.each h (same_within net loops are n h p.1) ∙ ap (λ j. copy_signal net loops m j h) many))
+      (λ e.
+      let p = in_loop_from net loops n s e in
+      let first = first_gate net + shift net loops m in
+      let at = get_or-range_with_len first (length net.gates) h 0 (same_within net loops are n h p.1) in
+      moved_high net (shift net loops m) s p.0
+      ∙ ap signal (let e : s.0 + shift net loops m ≡ get_or (range_with_len first (length net.gates)) h 0 = omega arith in e)
+      ∙ ap (λ t. at_table t h) (sym tables.itself)))
 
-module _ (net : Parts) (loops : Loops) (m : ℕ → ℕ) (are : AreLoopsOf net loops) (of_loops : IsOfLoops loops m) where
-  -- the gates of a loop have as many copies as it needs sweeps
-  pub many_of : (n : ℕ) → loops.same n n ≡ true → copies_of loops.same m n ≡ m n
-  many_of n e = rw e refl
-
-  pub self_of : (n h : ℕ) → loops.same n h ≡ true → loops.same n n ≡ true
-  self_of n h e = same-trans net loops are n h n e (same-sym net loops are n h e)
-
-  module _ (by : ℕ) (last : List ℕ) (up : by ≡ shift net loops m) (copies_last : AreLastCopies net loops m last) where
-    pin_same : (n : ℕ) (s : Sig) → kept_pin_by net loops by last n s ≡ kept_pin net loops m n s
-    pin_same n s =
-        let h = gate_of net s in
-        either_same (in_loop_of net loops n s) (loops.cut h) (at_table last h) (moved net by s) (copy_signal net loops m (m n) h) (moved net (shift net loops m) s)
-        (λ e c.
-        let p = in_loop_from net loops n s e in
-        let many : copies_of loops.same m h ≡ m n = has_same net loops m are of_loops n h p.1 ∙ many_of n (self_of n h p.1) in
-        copies_last.each h (same_within net loops are n h p.1) ∙ ap (λ j. copy_signal net loops m j h) many)
-        (ap (λ j. moved net j s) up)
-
-    pub kept_same : (n : ℕ) → kept_gate_by net loops by last n ≡ kept_gate net loops m n
-    kept_same n =
-        ap (λ pins. let g : Gate = record { name = (gate_at net n).name; pins = pins; cover = (gate_at net n).cover } in g)
-        (map_same (kept_pin_by net loops by last n) (kept_pin net loops m n) (gate_at net n).pins (pin_same n))
+  pub kept_same : (by n : ℕ) → by ≡ shift net loops m → gate_by_tables net loops by last own (gate_at net n).name n ≡ kept_gate net loops m n
+  kept_same by n up =
+      ap (λ j. gate_by_tables net loops j last own (gate_at net n).name n) up
+      ∙ ap (λ pins. let g : Gate = record { name = (gate_at net n).name; pins = pins; cover = (gate_at net n).cover } in g)
+      (map_same (copy_pin_by net loops (shift net loops m) last own n) (kept_pin net loops m n) (gate_at net n).pins (pin_same n))

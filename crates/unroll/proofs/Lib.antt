@@ -6,11 +6,12 @@ pub mod TableLemmas
 pub mod Counts
 pub mod Places
 pub mod Rounds
-pub mod Kept
 pub mod Measures
 pub mod NameLemmas
 pub mod Valid
 pub mod Standing
+pub mod Numbered
+pub mod Kept
 pub mod Above
 pub mod Opened
 pub mod Telling

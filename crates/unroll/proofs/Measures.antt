@@ -1,33 +1,21 @@
 -- The unrolled netlist's size.
-use Rattle.std.proofs.Common.{◌≡◌, ℕ, zero, suc, ◌+◌, ◌<◌, ◌≤◌, min, leb, Bool, true, false, if◌then◌else◌, List, [], ◌∷◌, ◌++◌, length, map, filter, get_or, refl, ap₂, sym, ◌∙◌, arith}
-use Rattle.unroll.proofs.Common.{leb-true, length-append, length-map, get_or-range_with_len, length-range_with_len, sum_by-cons, range_with_len, sum_by, Parts, Loops, copies_of, copies_upto, copies, most, has_loop, constants, shift, copy_gate, kept_gate, kept_latch, unrolled}
-use Rattle.std.proofs.lemmas.Bool.{leb-false}
+use Rattle.std.proofs.Common.{◌≡◌, inl, inr, ℕ, zero, suc, ◌+◌, ◌<◌, ◌≤◌, min, leb, Bool, true, false, if◌then◌else◌, List, [], ◌∷◌, ◌++◌, length, map, filter, get_or, refl, ap₂, sym, ◌∙◌, arith}
+use Rattle.unroll.proofs.Common.{cases_lt, le-leb, lt-leb, length-append, length-map, get_or-range_with_len, length-range_with_len, range_with_len, sum_by, Parts, Loops, copies_of, copies_upto, copies, most, has_loop, constants, shift, copy_gate, kept_gate, kept_latch, unrolled, unrolled_size, count}
 use Rattle.std.proofs.lemmas.List.FromFn.{length-map-range_with_len}
-use Rattle.netlist.specs.Netlists.{count}
-use Rattle.unroll.specs.Unrolled.{unrolled_size}
+use Rattle.std.proofs.lemmas.List.Sums.{sum_by-cons}
 use Rattle.unroll.proofs.Places.{most-above, length-round}
 
--- how much one gate adds to the copies number k + 1
-adds : (c : ℕ → ℕ) (k x : ℕ) (xs : List ℕ) → (e : ℕ) × (length (filter (λ n. leb (suc k) (c n)) (x ∷ xs)) ≡ e + length (filter (λ n. leb (suc k) (c n)) xs)) × (min (suc k) (c x) ≡ min k (c x) + e)
-adds c k x xs = by (leb (suc k) (c x)) refl
-  where
-    by : (b : Bool) → leb (suc k) (c x) ≡ b → (e : ℕ) × (length (filter (λ n. leb (suc k) (c n)) (x ∷ xs)) ≡ e + length (filter (λ n. leb (suc k) (c n)) xs)) × (min (suc k) (c x) ≡ min k (c x) + e)
-    by true f = let l = leb-true (suc k) (c x) f in (1, rw f (omega arith), omega arith)
-    by false f = let l = leb-false (suc k) (c x) f in (0, rw f (omega arith), omega arith)
-
+-- one more number adds the gates that have a copy of it
 count_more : (c : ℕ → ℕ) (k : ℕ) (xs : List ℕ) → sum_by (λ n. min (suc k) (c n)) xs ≡ sum_by (λ n. min k (c n)) xs + length (filter (λ n. leb (suc k) (c n)) xs)
 count_more c k [] = refl
 count_more c k (x ∷ xs) =
     let rest = count_more c k xs in
-    let one = adds c k x xs in
-    let two = one.1 in
-    let three = one.2 in
-    sum_by-cons (λ n. min (suc k) (c n)) x xs
-    ∙ (let four = sum_by-cons (λ n. min k (c n)) x xs in
-    more_of _ _ _ _ _ _ _ _ three rest four two)
-  where
-    more_of : (f g e s t n l u : ℕ) → f ≡ g + e → s ≡ t + n → u ≡ g + t → l ≡ e + n → f + s ≡ u + l
-    more_of f g e s t n l u a b c d = omega arith
+    let more = sum_by-cons (λ n. min (suc k) (c n)) x xs in
+    let old = sum_by-cons (λ n. min k (c n)) x xs in
+    elim (cases_lt k (c x)) [
+      | inl has ↦ rw (le-leb (suc k) (c x) has) (omega arith)
+      | inr none ↦ rw (lt-leb (suc k) (c x) (omega arith)) (omega arith)
+    ]
 
 none_at_first : (c : ℕ → ℕ) (xs : List ℕ) → sum_by (λ n. min 0 (c n)) xs ≡ 0
 none_at_first c [] = refl

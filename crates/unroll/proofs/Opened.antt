@@ -1,21 +1,15 @@
 -- The unrolled netlist has no loop: a walk in it is a walk of the netlist, in which the numbers of the copies rise at each
 -- cut wire.
-use Rattle.std.proofs.Common.{◌≡◌, ◌⊎◌, inl, inr, ℕ, zero, suc, ◌+◌, ◌-◌, ◌<◌, ◌≤◌, leb, ltb, Bool, true, false, ◌&&◌, if◌then◌else◌, List, [], ◌∷◌, length, map, get_or, refl, ap, sym, ◌∙◌, subst, arith, Contains, true≢false}
-use Rattle.unroll.proofs.Common.{cases_lt, and_from, le-leb, get_or-map, get_or_append_left, length-map, AllByRecursion, Sig, all_weaker, Gate, Parts, signal, gate_at, Loops, AreLoopsOf, first_gate, gate_of, in_loop_of, in_loop_from, same-sym, same-trans, same_within, Copy, copy_of, copies_of, copies, most, place, has_loop, constants, shift, copy_signal, old_signal, copy_pin, kept_pin, copy_gate, kept_gate, kept_latch, unrolled, IsOfLoops}
-use Rattle.std.proofs.lemmas.Bool.{cases_Bool, lt-ltb, le-ltb}
-use Rattle.netlist.specs.Netlists.{gate_sig}
-use Rattle.netlist.specs.Walks.{Feeds, Walk}
+use Rattle.std.proofs.Common.{◌≡◌, ◌⊎◌, inl, inr, ℕ, zero, suc, ◌+◌, ◌<◌, ◌≤◌, leb, Bool, true, false, if◌then◌else◌, List, [], ◌∷◌, length, map, get_or, refl, ap, sym, ◌∙◌, subst, arith, Contains, true≢false}
+use Rattle.unroll.proofs.Common.{cases_lt, and_from, le-leb, cases_Bool, get_or-map, get_or_append_left, length-map, AllByRecursion, Sig, all_weaker, all_map, Gate, Parts, signal, gate_at, gate_sig, Loops, AreLoopsOf, first_gate, gate_of, in_loop_of, in_loop_from, same-sym, same-trans, same_within, has_loop, constants, shift, kept_latch, unrolled, IsOfLoops, Feeds, feeds_at}
+use Rattle.netlist.specs.Walks.{Walk}
 use Rattle.loops.specs.Walks.{SameLoop}
-use Rattle.loops.proofs.Unique.{feeds_at}
 use Rattle.loops.proofs.Walks.{on_closed_walk, leads-any, cuts_leave_no_loop}
 use Rattle.unroll.specs.Laws.{UnrolledIsLoopFree}
-use Rattle.unroll.proofs.Kept.{many_of, self_of}
 use Rattle.unroll.proofs.Measures.{length-unrolled}
-use Rattle.unroll.proofs.Places.{copy_placed, most-above}
-use Rattle.unroll.proofs.Rounds.{has_same}
+use Rattle.unroll.proofs.Numbered.{has, spot, numbered, pin_of, origin as origin_by, level as level_by, is_at, has_number, stands, old_numbered, moved_low, moved_high}
+use Rattle.unroll.proofs.Rounds.{has_same, self_of}
 use Rattle.unroll.proofs.SizeLemmas.{one_in_range}
-use Rattle.unroll.proofs.Standing.{gate_at_copy, gate_at_kept}
-use Rattle.unroll.proofs.Valid.{IsCopy, upto_are, moved_low, moved_high}
 
 -- an item of a list that a function makes comes from some place
 record FromPlace {A B : Type 0} (f : A → B) (xs : List A) (y : B) : Type 0 where
@@ -30,33 +24,9 @@ from_place f xs y c =
     let inside : c.0 < length xs = omega arith in
     record { at = c.0; within = inside; is = λ d. sym (get_or-map f xs c.0 d y inside) ∙ c.2 }
 
--- a choice of signals, where the tests are known
-pub pick_first : (b d : Bool) (x y z : Sig) → b ≡ true → d ≡ true → (if b then (if d then x else y) else z) ≡ x
-pick_first b d x y z e f = rw (e, f) refl
-
-pub pick_second : (b d : Bool) (x y z : Sig) → b ≡ true → d ≡ false → (if b then (if d then x else y) else z) ≡ y
-pick_second b d x y z e f = rw (e, f) refl
-
-pub pick_third : (b d : Bool) (x y z : Sig) → b ≡ false → (if b then (if d then x else y) else z) ≡ z
-pick_third b d x y z e = rw e refl
-
-pub pick_cut : (b d : Bool) (x y : Sig) → b ≡ true → d ≡ true → (if b && d then x else y) ≡ x
-pick_cut b d x y e f = rw (e, f) refl
-
-pub pick_free : (b d : Bool) (x y : Sig) → d ≡ false → (if b && d then x else y) ≡ y
-pick_free true d x y f = rw f refl
-pick_free false d x y f = refl
-
-pub pick_out : (b d : Bool) (x y : Sig) → b ≡ false → (if b && d then x else y) ≡ y
-pick_out b d x y e = rw e refl
-
 all_unmap : (P : ℕ → Type 0) (f : ℕ → ℕ) (xs : List ℕ) → AllByRecursion P (map f xs) → AllByRecursion (λ n. P (f n)) xs
 all_unmap P f [] h = tt
 all_unmap P f (x ∷ xs) h = (h.0, all_unmap P f xs h.1)
-
-all_map : (P : ℕ → Type 0) (f : ℕ → ℕ) (xs : List ℕ) → AllByRecursion (λ n. P (f n)) xs → AllByRecursion P (map f xs)
-all_map P f [] h = tt
-all_map P f (x ∷ xs) h = (h.0, all_map P f xs h.1)
 
 one_or_none : (b : Bool) (g d : Gate) (q : ℕ) → g.pins ≡ [] → q < length (if b then g ∷ [] else []) → (get_or (if b then g ∷ [] else []) q d).pins ≡ []
 one_or_none true g d zero e l = e
@@ -88,195 +58,85 @@ module _ (net : Parts) (loops : Loops) (m : ℕ → ℕ) where
   new_sig : (p : ℕ) → gate_sig (unrolled net loops m) p ≡ signal (first_gate net + p)
   new_sig p = ap (λ n. signal (length net.inputs + n + p)) (length-map net.latches (kept_latch net (shift net loops m)))
 
-  -- the gate that a gate of the unrolled netlist stands for, and the number of its copy, which for the gate itself is over all
-  abbrev no_copy : Copy
-  no_copy = copy_of 0 0
-
-  abbrev top : ℕ
-  top = suc (most loops.same m (length net.gates))
-
+  -- the gate that a gate of the unrolled netlist stands for, and its number
   abbrev origin : ℕ → ℕ
-  origin q =
-      if ltb q (length (constants net loops) + length (copies net loops m))
-      then (get_or (copies net loops m) (q - length (constants net loops)) no_copy).gate
-      else q - (length (constants net loops) + length (copies net loops m))
+  origin q = origin_by net loops m q
 
   abbrev level : ℕ → ℕ
-  level q =
-      if ltb q (length (constants net loops) + length (copies net loops m))
-      then (get_or (copies net loops m) (q - length (constants net loops)) no_copy).number
-      else top
-
-  copy_at : (q i : ℕ) → q ≡ length (constants net loops) + i → get_or (copies net loops m) (q - length (constants net loops)) no_copy ≡ get_or (copies net loops m) i no_copy
-  copy_at q i e =
-      let d : q - length (constants net loops) ≡ i = omega arith in
-      ap (λ j. get_or (copies net loops m) j no_copy) d
-
-  origin_of_copy : (q i : ℕ) → q ≡ length (constants net loops) + i → i < length (copies net loops m) → origin q ≡ (get_or (copies net loops m) i no_copy).gate
-  origin_of_copy q i e l =
-      rw (lt-ltb q (length (constants net loops) + length (copies net loops m)) (omega arith)) (ap (λ c. c.gate) (copy_at q i e))
-
-  level_of_copy : (q i : ℕ) → q ≡ length (constants net loops) + i → i < length (copies net loops m) → level q ≡ (get_or (copies net loops m) i no_copy).number
-  level_of_copy q i e l =
-      rw (lt-ltb q (length (constants net loops) + length (copies net loops m)) (omega arith)) (ap (λ c. c.number) (copy_at q i e))
-
-  origin_of_kept : (q n : ℕ) → q ≡ length (constants net loops) + (length (copies net loops m) + n) → origin q ≡ n
-  origin_of_kept q n e =
-      rw (le-ltb q (length (constants net loops) + length (copies net loops m)) (omega arith)) (omega arith)
-
-  level_of_kept : (q n : ℕ) → q ≡ length (constants net loops) + (length (copies net loops m) + n) → level q ≡ top
-  level_of_kept q n e =
-      rw (le-ltb q (length (constants net loops) + length (copies net loops m)) (omega arith)) refl
+  level q = level_by net loops m q
 
   -- a step of a walk from p to a gate that stands for n at this level
   record Step (p n high : ℕ) : Type 0 where
     feeds : Feeds net (origin p) n
     rises : loops.same n (origin p) ≡ true → (level p < high) ⊎ ((level p ≡ high) × (loops.cut (origin p) ≡ false))
 
+  -- where p is number j + 1 of gate h
+  step_from : (p k n j h : ℕ) → Feeds net h n → h < length net.gates → j ≤ has net loops m h → spot net loops m (suc j) h ≡ p → (loops.same n h ≡ true → (j < k) ⊎ ((j ≡ k) × (loops.cut h ≡ false))) → Step p n (suc k)
+  step_from p k n j h feeds l few at up =
+      let is = is_at net loops m p j h l few at in
+      let number = is.level in
+      record {
+        feeds = subst (λ (g : ℕ). Feeds net g n) (sym is.origin) feeds;
+        rises = λ s. elim (up (subst (λ (g : ℕ). loops.same n g ≡ true) is.origin s)) [
+          | inl less ↦ inl (omega arith)
+          | inr w ↦ (let e = w.0 in inr (omega arith, ap loops.cut is.origin ∙ w.1))
+        ];
+      }
+
   module _ (are : AreLoopsOf net loops) (of_loops : IsOfLoops loops m) where
-    -- a pin that reads a copy
-    step_from_copy : (p n high i : ℕ) (d : Sig) (k : ℕ) → n < length net.gates → i < length (gate_at net n).pins → in_loop_of net loops n (get_or (gate_at net n).pins i d) ≡ true → suc k ≤ copies_of loops.same m n → p ≡ length (constants net loops) + place (copies net loops m) (suc k) (gate_of net (get_or (gate_at net n).pins i d)) → (suc k < high) ⊎ ((suc k ≡ high) × (loops.cut (gate_of net (get_or (gate_at net n).pins i d)) ≡ false)) → Step p n high
-    step_from_copy p n high i d k l here inside few e up =
-        let r = get_or (gate_at net n).pins i d in
-        let h = gate_of net r in
-        let q = in_loop_from net loops n r inside in
-        let hl = same_within net loops are n h q.1 in
-        let many = has_same net loops m are of_loops n h q.1 in
-        let at = copy_placed net loops m k h hl (omega arith) in
-        let o : origin p ≡ h = origin_of_copy p (place (copies net loops m) (suc k) h) e at.within ∙ ap (λ c. c.gate) (at.is no_copy) in
-        let v : level p ≡ suc k = level_of_copy p (place (copies net loops m) (suc k) h) e at.within ∙ ap (λ c. c.number) (at.is no_copy) in
-        record {
-          feeds = subst (λ (g : ℕ). Feeds net g n) (sym o) (feeds_at net n i d l here q.0 hl);
-          rises = λ s. elim up [
-            | inl less ↦ inl (omega arith)
-            | inr w ↦ inr (v ∙ w.0, subst (λ (g : ℕ). loops.cut g ≡ false) (sym o) w.1)
-          ];
-        }
-
-    -- a pin that reads a gate itself, either from outside the loop or where the reader is a gate itself too
-    step_from_kept : (p n high i : ℕ) (d : Sig) → n < length net.gates → i < length (gate_at net n).pins → p < length (unrolled net loops m).gates → signal (first_gate net + p) ≡ old_signal net loops m (get_or (gate_at net n).pins i d) → (in_loop_of net loops n (get_or (gate_at net n).pins i d) ≡ false) ⊎ ((top ≡ high) × (loops.cut (gate_of net (get_or (gate_at net n).pins i d)) ≡ false)) → Step p n high
-    step_from_kept p n high i d l here short e kind =
-        let r = get_or (gate_at net n).pins i d in
-        let number = ap (λ (s : Sig). s.0) e in
-        elim (cases_lt r.0 (first_gate net)) [
-          | inl low ↦
-              let is = ap (λ (s : Sig). s.0) (moved_low net (shift net loops m) r low) in
-              absurd (omega arith)
-          | inr from ↦
-              let h = gate_of net r in
-              let is = ap (λ (s : Sig). s.0) (moved_high net (shift net loops m) r from) in
-              let len = length-unrolled net loops m in
-              let place_of : p ≡ length (constants net loops) + (length (copies net loops m) + h) = omega arith in
-              let o = origin_of_kept p h place_of in
-              let v = level_of_kept p h place_of in
-              record {
-                feeds = subst (λ (g : ℕ). Feeds net g n) (sym o) (feeds_at net n i d l here from (omega arith));
-                rises = λ s. elim kind [
-                  | inl out ↦
-                      let same : loops.same n h ≡ true = subst (λ (g : ℕ). loops.same n g ≡ true) o s in
-                      absurd (true≢false (sym (and_from (leb (first_gate net) r.0) (loops.same n h) (le-leb (first_gate net) r.0 from) same) ∙ out))
-                  | inr w ↦ inr (v ∙ w.0, subst (λ (g : ℕ). loops.cut g ≡ false) (sym o) w.1)
-                ];
-              }
-        ]
-
     -- the constant 0 is read by no gate on a walk
-    not_the_constant : (p n : ℕ) (s : Sig) → n < length net.gates → in_loop_of net loops n s ≡ true → length (constants net loops) ≤ p → first_gate net + p ≡ first_gate net → ⊥
-    not_the_constant p n s l inside real e =
-        let q = in_loop_from net loops n s inside in
-        let one = constant_is_there n l (self_of net loops m are of_loops n (gate_of net s) q.1) in
-        omega arith
-
-    step_from_cut : (p n high i : ℕ) (d : Sig) (k : ℕ) → n < length net.gates → i < length (gate_at net n).pins → in_loop_of net loops n (get_or (gate_at net n).pins i d) ≡ true → length (constants net loops) ≤ p → k ≤ copies_of loops.same m n → k < high → signal (first_gate net + p) ≡ copy_signal net loops m k (gate_of net (get_or (gate_at net n).pins i d)) → Step p n high
-    step_from_cut p n high i d zero l here inside real few less e =
-        absurd (not_the_constant p n (get_or (gate_at net n).pins i d) l inside real (ap (λ (s : Sig). s.0) e))
-    step_from_cut p n high i d (suc k) l here inside real few less e =
+    step_from_cut : (p k n h : ℕ) → Feeds net h n → n < length net.gates → loops.same n h ≡ true → k ≤ has net loops m h → length (constants net loops) ≤ p → numbered net loops m k h ≡ signal (first_gate net + p) → Step p n (suc k)
+    step_from_cut p zero n h feeds l same few real e =
         let number = ap (λ (s : Sig). s.0) e in
-        step_from_copy p n high i d k l here inside few (omega arith) (inl less)
+        let one = constant_is_there n l (self_of net loops m are of_loops n h same) in
+        absurd (omega arith)
+    step_from_cut p (suc j) n h feeds l same few real e =
+        let number = ap (λ (s : Sig). s.0) e in
+        step_from p (suc j) n j h feeds (same_within net loops are n h same) (omega arith) (omega arith) (λ s. inl (omega arith))
 
-    step_to_copy : (p k n : ℕ) → length (constants net loops) ≤ p → p < length (unrolled net loops m).gates → IsCopy net loops m (copy_of k n) → Contains (copy_gate net loops m (copy_of k n)).pins (signal (first_gate net + p)) → Step p n k
-    step_to_copy p zero n real short good c = absurd (let l = good.positive in omega arith)
-    step_to_copy p (suc k) n real short good c =
-        let w = from_place (copy_pin net loops m k n) (gate_at net n).pins (signal (first_gate net + p)) c in
-        let d = signal 0 in
-        let r = get_or (gate_at net n).pins w.at d in
-        let h = gate_of net r in
-        let l = good.gate in
-        let few = good.few in
-        elim (cases_Bool (in_loop_of net loops n r)) [
+    step_by_pin : (p k n i : ℕ) (d : Sig) → n < length net.gates → k ≤ has net loops m n → length (constants net loops) ≤ p → p < length (unrolled net loops m).gates → i < length (gate_at net n).pins → pin_of net loops m k n (get_or (gate_at net n).pins i d) ≡ signal (first_gate net + p) → Step p n (suc k)
+    step_by_pin p k n i d l few real short here reads =
+        let s = get_or (gate_at net n).pins i d in
+        let h = gate_of net s in
+        let all = length-unrolled net loops m in
+        elim (cases_Bool (in_loop_of net loops n s)) [
           | inl inside ↦
+              let q = in_loop_from net loops n s inside in
+              let hl = same_within net loops are n h q.1 in
+              let many = has_same net loops m are of_loops n h q.1 in
+              let feeds = feeds_at net n i d l here q.0 hl in
               elim (cases_Bool (loops.cut h)) [
-                | inl cut ↦
-                    step_from_cut p n (suc k) w.at d k l w.within inside real (omega arith) (omega arith)
-                    (sym (w.is d) ∙ pick_first (in_loop_of net loops n r) (loops.cut h) (copy_signal net loops m k h) (copy_signal net loops m (suc k) h) (old_signal net loops m r) inside cut)
+                | inl cut ↦ step_from_cut p k n h feeds l q.1 (omega arith) real (rw (inside, cut) at reads)
                 | inr free ↦
-                    let e = sym (w.is d) ∙ pick_second (in_loop_of net loops n r) (loops.cut h) (copy_signal net loops m k h) (copy_signal net loops m (suc k) h) (old_signal net loops m r) inside free in
-                    let number = ap (λ (s : Sig). s.0) e in
-                    step_from_copy p n (suc k) w.at d k l w.within inside few (omega arith) (inr (refl, free))
+                    let number = ap (λ (s : Sig). s.0) (rw (inside, free) at reads) in
+                    step_from p k n k h feeds hl (omega arith) (omega arith) (λ same. inr (refl, free))
               ]
           | inr out ↦
-              step_from_kept p n (suc k) w.at d l w.within short
-              (sym (w.is d) ∙ pick_third (in_loop_of net loops n r) (loops.cut h) (copy_signal net loops m k h) (copy_signal net loops m (suc k) h) (old_signal net loops m r) out)
-              (inl out)
-        ]
-
-    step_to_kept : (p n : ℕ) → n < length net.gates → length (constants net loops) ≤ p → p < length (unrolled net loops m).gates → Contains (kept_gate net loops m n).pins (signal (first_gate net + p)) → Step p n top
-    step_to_kept p n l real short c =
-        let w = from_place (kept_pin net loops m n) (gate_at net n).pins (signal (first_gate net + p)) c in
-        let d = signal 0 in
-        let r = get_or (gate_at net n).pins w.at d in
-        let h = gate_of net r in
-        let highest = most-above loops.same m (length net.gates) n l in
-        elim (cases_Bool (in_loop_of net loops n r)) [
-          | inl inside ↦
-              elim (cases_Bool (loops.cut h)) [
-                | inl cut ↦
-                    let q = in_loop_from net loops n r inside in
-                    let own = many_of net loops m are of_loops n (self_of net loops m are of_loops n h q.1) in
-                    step_from_cut p n top w.at d (m n) l w.within inside real (omega arith) (omega arith)
-                    (sym (w.is d) ∙ pick_cut (in_loop_of net loops n r) (loops.cut h) (copy_signal net loops m (m n) h) (old_signal net loops m r) inside cut)
-                | inr free ↦
-                    step_from_kept p n top w.at d l w.within short
-                    (sym (w.is d) ∙ pick_free (in_loop_of net loops n r) (loops.cut h) (copy_signal net loops m (m n) h) (old_signal net loops m r) free)
-                    (inr (refl, free))
+              let old = rw out at reads in
+              elim (cases_lt s.0 (first_gate net)) [
+                | inl low ↦
+                    let number = ap (λ (s : Sig). s.0) (sym (moved_low net (shift net loops m) s low) ∙ old) in
+                    absurd (omega arith)
+                | inr high ↦
+                    let number = ap (λ (s : Sig). s.0) (sym (old_numbered net loops m s high) ∙ old) in
+                    let moves = ap (λ (s : Sig). s.0) (sym (moved_high net (shift net loops m) s high) ∙ old) in
+                    let hl : h < length net.gates = omega arith in
+                    step_from p k n (has net loops m h) h (feeds_at net n i d l here high hl) hl (omega arith) (omega arith)
+                    (λ same. absurd (true≢false (sym (and_from (leb (first_gate net) s.0) (loops.same n h) (le-leb (first_gate net) s.0 high) same) ∙ out)))
               ]
-          | inr out ↦
-              step_from_kept p n top w.at d l w.within short
-              (sym (w.is d) ∙ pick_out (in_loop_of net loops n r) (loops.cut h) (copy_signal net loops m (m n) h) (old_signal net loops m r) out)
-              (inl out)
         ]
 
     step : (p q : ℕ) → Feeds (unrolled net loops m) p q → length (constants net loops) ≤ p → Step p (origin q) (level q)
     step p q f real =
-        let pin : Contains (gate_at (unrolled net loops m) q).pins (signal (first_gate net + p)) =
-        subst (λ (s : Sig). Contains (gate_at (unrolled net loops m) q).pins s) (new_sig p) f.pin in
-        let real_q = real_from_pin q (signal (first_gate net + p)) pin in
-        let short = f.source in
-        let len = length-unrolled net loops m in
-        let high = f.reader in
-        elim (cases_lt q (length (constants net loops) + length (copies net loops m))) [
-          | inl low ↦
-              let i = q - length (constants net loops) in
-              let il : i < length (copies net loops m) = omega arith in
-              let qi : q ≡ length (constants net loops) + i = omega arith in
-              let copy = get_or (copies net loops m) i no_copy in
-              let reads : Contains (copy_gate net loops m copy).pins (signal (first_gate net + p)) =
-              subst (λ (g : Gate). Contains g.pins (signal (first_gate net + p)))
-              (ap (gate_at (unrolled net loops m)) qi ∙ gate_at_copy net loops m i copy no_copy il refl) pin in
-              let made = step_to_copy p copy.number copy.gate real short (upto_are net loops m (most loops.same m (length net.gates)) i no_copy il) reads in
-              subst (λ (n : ℕ). Step p n (level q)) (sym (origin_of_copy q i qi il))
-              (subst (λ (n : ℕ). Step p copy.gate n) (sym (level_of_copy q i qi il)) made)
-          | inr past ↦
-              let n = q - (length (constants net loops) + length (copies net loops m)) in
-              let qn : q ≡ length (constants net loops) + (length (copies net loops m) + n) = omega arith in
-              let nl : n < length net.gates = omega arith in
-              let reads : Contains (kept_gate net loops m n).pins (signal (first_gate net + p)) =
-              subst (λ (g : Gate). Contains g.pins (signal (first_gate net + p)))
-              (ap (gate_at (unrolled net loops m)) qn ∙ gate_at_kept net loops m n nl) pin in
-              let made = step_to_kept p n nl real short reads in
-              subst (λ (g : ℕ). Step p g (level q)) (sym (origin_of_kept q n qn))
-              (subst (λ (j : ℕ). Step p n j) (sym (level_of_kept q n qn)) made)
-        ]
+        let pin = subst (Contains (gate_at (unrolled net loops m) q).pins) (new_sig p) f.pin in
+        let it = has_number net loops m q (real_from_pin q (signal (first_gate net + p)) pin) f.reader in
+        let is = is_at net loops m q it.number it.gate it.within it.few it.at in
+        let reads = stands net loops m are of_loops it.number it.gate it.within it.few in
+        let w = from_place (pin_of net loops m it.number it.gate) (gate_at net it.gate).pins (signal (first_gate net + p))
+        (subst (λ (pins : List Sig). Contains pins (signal (first_gate net + p))) (ap (λ k. (gate_at (unrolled net loops m) k).pins) (sym it.at) ∙ reads.pins) pin) in
+        subst (λ (n : ℕ). Step p n (level q)) (sym is.origin)
+        (subst (Step p it.gate) (sym is.level)
+        (step_by_pin p it.number it.gate w.at (signal 0) it.within it.few real f.source w.within (w.is (signal 0))))
 
     ends_real : (a b : ℕ) (via : List ℕ) → Walk (unrolled net loops m) a via b → length (constants net loops) ≤ b
     ends_real a b [] h = real_from_pin b (gate_sig (unrolled net loops m) a) h.pin

@@ -1,10 +1,7 @@
 -- What the source of a pin says of the pin.
 use Rattle.std.proofs.Common.{◌≡◌, ◌≤◌, ℕ, Bool, true, false, ◌&&◌, nat_le, if◌then◌else◌, Some, None, refl, sym, ap, ap₂, ◌∙◌}
-use Rattle.unroll.proofs.Common.{le-leb, Sig, Parts, Loops, loops_by, first_gate, gate_of, in_loop_of}
+use Rattle.unroll.proofs.Common.{le-leb, Sig, Parts, Loops, loops_by, first_gate, gate_of, in_loop_of, Option, loops_of, Looped, IsLooped}
 use Rattle.std.specs.Bool.{then_some}
-use Rattle.std.specs.declared.option.Option.{Option}
-use Rattle.loops.specs.Found.{loops_of}
-use Rattle.loops.specs.Looped.{Looped, IsLooped}
 use Rattle.loops.proofs.LoopedLemmas.{one_loop_is_told}
 
 some_where : (b : Bool) (x : ℕ) → then_some b x ≡ (if b then Some x else None)
@@ -36,5 +33,11 @@ pub none_if : (b : Bool) (g : ℕ) (r : Option ℕ) → r ≡ None → r ≡ (if
 none_if true g r n e = cc
 none_if false g r n e = refl
 
-pub if_true : (b : Bool) (x y : Sig) → b ≡ true → (if b then x else y) ≡ x
-if_true b x y e = rw e refl
+-- what is read where a choice gave a gate, or none
+pub read_some : (b : Bool) (g x : ℕ) (cut : ℕ → Bool) (cuts inner : ℕ → Sig) (outer : Sig) → Some x ≡ (if b then Some g else None) → (if cut x then cuts x else inner x) ≡ (if b then (if cut g then cuts g else inner g) else outer)
+read_some true g x cut cuts inner outer e = (let is : x ≡ g = cc in ap (λ y. if cut y then cuts y else inner y) is)
+read_some false g x cut cuts inner outer e = cc
+
+pub read_none : (b : Bool) (g : ℕ) (cut : ℕ → Bool) (cuts inner : ℕ → Sig) (outer : Sig) → None ≡ (if b then Some g else None) → outer ≡ (if b then (if cut g then cuts g else inner g) else outer)
+read_none true g cut cuts inner outer e = cc
+read_none false g cut cuts inner outer e = refl

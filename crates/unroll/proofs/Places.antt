@@ -1,24 +1,30 @@
 -- Where the copies stand: each at one place, and those of one number one after another.
-use Rattle.std.proofs.Common.{◌≡◌, ◌==◌, inl, inr, ℕ, zero, suc, ◌+◌, ◌<◌, ◌≤◌, leb, Bool, true, false, ◌&&◌, List, [], ◌∷◌, ◌++◌, length, map, filter, get_or, refl, ap, ap₂, sym, ◌∙◌, subst, arith, Contains, All}
-use Rattle.unroll.proofs.Common.{cases_eq, and_from, leb-true, le-leb, get_or_append_left, get_or-map, length-append, length-map, get_or-range_with_len, length-range_with_len, AllByRecursion, range_with_len, all_weaker, all_append, Parts, Loops, Copy, copy_of, copies_of, copied, copies_upto, most, copies, place}
-use Rattle.std.proofs.lemmas.Bool.{and_parts, eqb-true, eq-eqb}
-use Rattle.std.proofs.lemmas.List.{get_or-append-add}
-use Rattle.std.proofs.lemmas.List.Elements.{Contains-append_left, Contains-append_right, All-filter, filter_passes}
-use Rattle.cyc_base.proofs.ListLemmas.{Contains-map, Contains-filter, Contains-range, all_filter}
-use Rattle.loops.proofs.OrderLemmas.{range_above}
+use Rattle.std.proofs.Common.{◌≡◌, ◌==◌, inl, inr, ℕ, zero, suc, ◌+◌, ◌<◌, ◌≤◌, leb, Bool, true, ◌&&◌, if◌then◌else◌, List, [], ◌∷◌, ◌++◌, length, map, get_or, refl, ap, ap₂, sym, ◌∙◌, subst, arith, Contains, All, true≢false}
+use Rattle.unroll.proofs.Common.{append_assoc, get_or_append_left, get_or-map, length-append, length-map, get_or-append-add, append-nil, cases_lt, and_from, le-leb, leb-true, false_from_ne_true, get_or-range_with_len, length-range_with_len, range_with_len, Parts, Loops, Copy, copy_of, copies_of, copies_upto, most, copies, place, copied, All-append, All-map}
+use Rattle.std.proofs.lemmas.Bool.{cases_eq, and_parts, eqb-true, eq-eqb}
+use Rattle.std.specs.List.{AllPairs, position_or_len}
+use Rattle.std.proofs.lemmas.List.Elements.{Contains-append_left, Contains-append_right, All-filter, All-weaker, filter_passes}
+use Rattle.std.proofs.lemmas.List.Kept.{AllPairs-cons, AllPairs-filter}
+use Rattle.std.proofs.lemmas.List.Recursion.{is_position_or_len}
+use Rattle.std.proofs.lemmas.List.Sums.{fails_before_first, passes_at_first, position_or_len_is}
+use Rattle.cyc_base.proofs.ListLemmas.{Contains-map, Contains-filter, Contains-range}
 
--- what two numbers of copies and their gates tell of the copies
-one_copy : (a b : Copy) → a.number ≡ b.number → a.gate ≡ b.gate → a ≡ b
-one_copy a b e f = ap₂ copy_of e f
+abbrev is_copy : ℕ → ℕ → Copy → Bool
+is_copy k n copy = copy.number == k && copy.gate == n
 
-same_copy : (copy : Copy) (k n : ℕ) → copy ≡ copy_of k n → (copy.number == k && copy.gate == n) ≡ true
-same_copy copy k n e =
+is_this : (copy : Copy) (k n : ℕ) → copy ≡ copy_of k n → is_copy k n copy ≡ true
+is_this copy k n e =
     and_from (copy.number == k) (copy.gate == n) (eq-eqb copy.number k (ap (λ c. c.number) e)) (eq-eqb copy.gate n (ap (λ c. c.gate) e))
 
-from_same : (copy : Copy) (k n : ℕ) → (copy.number == k && copy.gate == n) ≡ true → copy ≡ copy_of k n
-from_same copy k n e =
+this_is : (copy : Copy) (k n : ℕ) → is_copy k n copy ≡ true → copy ≡ copy_of k n
+this_is copy k n e =
     let p = and_parts (copy.number == k) (copy.gate == n) e in
-    one_copy copy (copy_of k n) (eqb-true copy.number k p.0) (eqb-true copy.gate n p.1)
+    ap₂ copy_of (eqb-true copy.number k p.0) (eqb-true copy.gate n p.1)
+
+place_is : (cs : List Copy) (k n : ℕ) → place cs k n ≡ position_or_len (is_copy k n) cs
+place_is cs k n =
+    is_position_or_len (λ xs. place xs k n) (is_copy k n) refl
+    (λ x xs. (let one : suc (place xs k n) ≡ 1 + place xs k n = omega arith in ap (λ p. if is_copy k n x then 0 else p) one)) cs
 
 -- a copy stands at its place
 pub record Placed (cs : List Copy) (k n : ℕ) : Type 0 where
@@ -26,77 +32,49 @@ pub record Placed (cs : List Copy) (k n : ℕ) : Type 0 where
   pub is : (d : Copy) → get_or cs (place cs k n) d ≡ copy_of k n
 
 pub placed : (cs : List Copy) (k n : ℕ) → Contains cs (copy_of k n) → Placed cs k n
-placed [] k n c = absurd (let l = c.1 in omega arith)
-placed (copy ∷ cs) k n (zero, l, e) =
-    let same = same_copy copy k n e in
-    record { within = rw same (omega arith); is = λ d. rw same e }
-placed (copy ∷ cs) k n (suc i, l, e) = by (copy.number == k && copy.gate == n) refl (placed cs k n (i, omega arith, e))
-  where
-    by : (b : Bool) → (copy.number == k && copy.gate == n) ≡ b → Placed cs k n → Placed (copy ∷ cs) k n
-    by true same rest =
-        let it = from_same copy k n same in
-        record { within = rw same (omega arith); is = λ d. rw same it }
-    by false same rest =
-        let less = rest.within in
-        record { within = rw same (omega arith); is = λ d. rw same (rest.is d) }
+placed cs k n c =
+    let at = place_is cs k n in
+    let here = c.1 in
+    let within : place cs k n < length cs =
+    elim (cases_lt c.0 (place cs k n)) [
+      | inl early ↦
+          absurd (true≢false (sym (is_this (get_or cs c.0 (copy_of k n)) k n c.2) ∙ fails_before_first (is_copy k n) cs c.0 (copy_of k n) (omega arith)))
+      | inr late ↦ omega arith
+    ] in
+    record {
+      within = within;
+      is = λ d. ap (λ p. get_or cs p d) at ∙ this_is (get_or cs (position_or_len (is_copy k n) cs) d) k n (passes_at_first (is_copy k n) cs d (omega arith));
+    }
 
--- each differs from those behind it
+-- copies that differ
 abbrev pub Apart : List Copy → Type 0
-Apart [] = Unit {0}
-Apart (x ∷ xs) = AllByRecursion (λ y. x ≡ y → ⊥) xs × Apart xs
+Apart cs = AllPairs (λ x y. x ≡ y → ⊥) cs
 
-all_at : (P : Copy → Type 0) (xs : List Copy) (p : ℕ) (d : Copy) → p < length xs → AllByRecursion P xs → P (get_or xs p d)
-all_at P [] p d l h = absurd (omega arith)
-all_at P (x ∷ xs) zero d l h = h.0
-all_at P (x ∷ xs) (suc p) d l h = all_at P xs p d (omega arith) h.1
+pub place_at : (cs : List Copy) (p : ℕ) (d : Copy) → Apart cs → p < length cs → place cs (get_or cs p d).number (get_or cs p d).gate ≡ p
+place_at cs p d apart l =
+    let it = get_or cs p d in
+    place_is cs it.number it.gate
+    ∙ position_or_len_is (is_copy it.number it.gate) cs p d (omega arith)
+    (λ i less. false_from_ne_true (is_copy it.number it.gate (get_or cs i d)) (λ e. apart i p d less l (this_is (get_or cs i d) it.number it.gate e)))
+    (λ here. is_this it it.number it.gate refl)
 
-place_at : (cs : List Copy) (p : ℕ) (d : Copy) → Apart cs → p < length cs → place cs (get_or cs p d).number (get_or cs p d).gate ≡ p
-place_at [] p d h l = absurd (omega arith)
-place_at (x ∷ xs) zero d h l = let same = same_copy x x.number x.gate refl in rw same refl
-place_at (x ∷ xs) (suc p) d h l =
-    by (x.number == (get_or xs p d).number && x.gate == (get_or xs p d).gate) refl (all_at (λ y. x ≡ y → ⊥) xs p d (omega arith) h.0) (place_at xs p d h.1 (omega arith))
-  where
-    by : (b : Bool) → (x.number == (get_or xs p d).number && x.gate == (get_or xs p d).gate) ≡ b → (x ≡ get_or xs p d → ⊥) → place xs (get_or xs p d).number (get_or xs p d).gate ≡ p → place (x ∷ xs) (get_or xs p d).number (get_or xs p d).gate ≡ suc p
-    by true e apart rest = absurd (apart (from_same x (get_or xs p d).number (get_or xs p d).gate e))
-    by false e apart rest = rw e (ap suc rest)
-
-abbrev pub Increasing : List ℕ → Type 0
-Increasing [] = Unit {0}
-Increasing (x ∷ xs) = AllByRecursion (λ y. x < y) xs × Increasing xs
-
-pub range_increasing : (a n : ℕ) → Increasing (range_with_len a n)
-range_increasing a zero = tt
-range_increasing a (suc n) = (range_above a (a + 1) n (omega arith), range_increasing (a + 1) n)
-
-pub filter_increasing : (p : ℕ → Bool) (xs : List ℕ) → Increasing xs → Increasing (filter p xs)
-filter_increasing p [] h = tt
-filter_increasing p (x ∷ xs) h = by (p x) refl (filter_increasing p xs h.1)
-  where
-    by : (b : Bool) → p x ≡ b → Increasing (filter p xs) → Increasing (filter p (x ∷ xs))
-    by true e rest = rw e (all_filter (λ y. x < y) p xs h.0, rest)
-    by false e rest = rw e rest
-
-all_copies : (P : Copy → Type 0) (k : ℕ) (ns : List ℕ) → AllByRecursion (λ n. P (copy_of k n)) ns → AllByRecursion P (map (copy_of k) ns)
-all_copies P k [] h = tt
-all_copies P k (n ∷ ns) h = (h.0, all_copies P k ns h.1)
-
-all_of : (P : ℕ → Type 0) (ns : List ℕ) → ((n : ℕ) → P n) → AllByRecursion P ns
-all_of P [] h = tt
-all_of P (n ∷ ns) h = (h n, all_of P ns h)
-
-round_apart : (k : ℕ) (ns : List ℕ) → Increasing ns → Apart (map (copy_of k) ns)
-round_apart k [] h = tt
-round_apart k (n ∷ ns) h = (
-  all_copies (λ y. copy_of k n ≡ y → ⊥) k ns
-      (all_weaker (λ g. n < g) (λ g. copy_of k n ≡ copy_of k g → ⊥) ns
-      (λ g l e. (let d : n ≡ g = ap (λ c. c.gate) e in omega arith)) h.0),
-  round_apart k ns h.1,
-)
-
-apart_append : (xs ys : List Copy) → Apart xs → Apart ys → AllByRecursion (λ x. AllByRecursion (λ y. x ≡ y → ⊥) ys) xs → Apart (xs ++ ys)
+apart_append : (xs ys : List Copy) → Apart xs → Apart ys → All (λ x. All (λ y. x ≡ y → ⊥) ys) xs → Apart (xs ++ ys)
 apart_append [] ys h k far = k
 apart_append (x ∷ xs) ys h k far =
-    (all_append (λ y. x ≡ y → ⊥) xs ys h.0 far.0, apart_append xs ys h.1 k far.1)
+    AllPairs-cons (λ x y. x ≡ y → ⊥) x (xs ++ ys)
+    (All-append (λ y. x ≡ y → ⊥) xs ys (λ i d l. h 0 (suc i) d (omega arith) (omega arith)) (far 0 x (omega arith)))
+    (apart_append xs ys (λ i j d less l. h (suc i) (suc j) d (omega arith) (omega arith)) k (λ i d l. far (suc i) d (omega arith)))
+
+-- numbers that rise
+abbrev pub Increasing : List ℕ → Type 0
+Increasing ns = AllPairs (λ x y. x < y) ns
+
+round_apart : (k : ℕ) (ns : List ℕ) → Increasing ns → Apart (map (copy_of k) ns)
+round_apart k ns up i j d less l e =
+    let len = length-map ns (copy_of k) in
+    let rise = up i j 0 less (omega arith) in
+    let one = ap (λ c. c.gate) (sym (get_or-map (copy_of k) ns i 0 d (omega arith)) ∙ e ∙ get_or-map (copy_of k) ns j 0 d (omega arith)) in
+    omega arith
 
 pub most-above : (same : ℕ → ℕ → Bool) (m : ℕ → ℕ) (bound n : ℕ) → n < bound → copies_of same m n ≤ most same m bound
 most-above same m zero n l = absurd (omega arith)
@@ -110,10 +88,14 @@ module _ (net : Parts) (loops : Loops) (m : ℕ → ℕ) where
   abbrev has : ℕ → ℕ
   has n = copies_of loops.same m n
 
+  range_within : All (λ n. n < length net.gates) (range_with_len 0 (length net.gates))
+  range_within i d l =
+      let len = length-range_with_len 0 (length net.gates) in
+      let at = get_or-range_with_len 0 (length net.gates) i d (omega arith) in
+      omega arith
+
   pub copied_within : (k : ℕ) → All (λ n. n < length net.gates) (copied net loops m k)
-  copied_within k =
-      All-filter (λ n. leb k (has n)) (λ n. n < length net.gates) (range_with_len 0 (length net.gates))
-      (λ i d l. (let e = length-range_with_len 0 (length net.gates) in let r = get_or-range_with_len 0 (length net.gates) i d (omega arith) in omega arith))
+  copied_within k = All-filter (λ n. leb k (has n)) (λ n. n < length net.gates) (range_with_len 0 (length net.gates)) range_within
 
   pub copied_has : (k i d : ℕ) → i < length (copied net loops m k) → k ≤ has (get_or (copied net loops m k) i d)
   copied_has k i d l =
@@ -124,7 +106,13 @@ module _ (net : Parts) (loops : Loops) (m : ℕ → ℕ) where
       Contains-filter (λ g. leb k (has g)) (range_with_len 0 (length net.gates)) n (le-leb k (has n) few) (Contains-range (length net.gates) n l)
 
   pub copied_increasing : (k : ℕ) → Increasing (copied net loops m k)
-  copied_increasing k = filter_increasing (λ n. leb k (has n)) (range_with_len 0 (length net.gates)) (range_increasing 0 (length net.gates))
+  copied_increasing k =
+      AllPairs-filter (λ x y. x < y) (λ n. leb k (has n)) (range_with_len 0 (length net.gates))
+      (λ i j d less l.
+      let len = length-range_with_len 0 (length net.gates) in
+      let at_i = get_or-range_with_len 0 (length net.gates) i d (omega arith) in
+      let at_j = get_or-range_with_len 0 (length net.gates) j d (omega arith) in
+      omega arith)
 
   upto_has : (top k n : ℕ) → n < length net.gates → suc k ≤ has n → suc k ≤ top → Contains (copies_upto net loops m top) (copy_of (suc k) n)
   upto_has zero k n l few less = absurd (omega arith)
@@ -144,44 +132,45 @@ module _ (net : Parts) (loops : Loops) (m : ℕ → ℕ) where
       placed (copies net loops m) (suc k) n
       (upto_has (most loops.same m (length net.gates)) k n l few (let g = most-above loops.same m (length net.gates) n l in omega arith))
 
-  numbers : (k : ℕ) → AllByRecursion (λ c. c.number ≤ k) (copies_upto net loops m k)
-  numbers zero = tt
-  numbers (suc k) =
-      all_append (λ c. c.number ≤ suc k) (copies_upto net loops m k) (map (copy_of (suc k)) (copied net loops m (suc k)))
-      (all_weaker (λ c. c.number ≤ k) (λ c. c.number ≤ suc k) (copies_upto net loops m k) (λ c l. omega arith) (numbers k))
-      (all_copies (λ c. c.number ≤ suc k) (suc k) (copied net loops m (suc k)) (all_of (λ n. suc k ≤ suc k) (copied net loops m (suc k)) (λ n. omega arith)))
+  -- what each copy up to one number is
+  pub record IsCopy (top : ℕ) (copy : Copy) : Type 0 where
+    pub positive : 1 ≤ copy.number
+    pub upto : copy.number ≤ top
+    pub gate : copy.gate < length net.gates
+    pub few : copy.number ≤ has copy.gate
+
+  pub upto_are : (k : ℕ) → All (IsCopy k) (copies_upto net loops m k)
+  upto_are zero = λ i d l. absurd (omega arith)
+  upto_are (suc k) =
+      All-append (IsCopy (suc k)) (copies_upto net loops m k) (map (copy_of (suc k)) (copied net loops m (suc k)))
+      (All-weaker (IsCopy k) (IsCopy (suc k)) (λ copy c. record { positive = c.positive; upto = (let l = c.upto in omega arith); gate = c.gate; few = c.few }) (copies_upto net loops m k) (upto_are k))
+      (All-map (IsCopy (suc k)) (copy_of (suc k)) (copied net loops m (suc k))
+      (λ i d l. record {
+        positive = omega arith;
+        upto = omega arith;
+        gate = copied_within (suc k) i d l;
+        few = copied_has (suc k) i d l;
+      }))
 
   pub upto_apart : (k : ℕ) → Apart (copies_upto net loops m k)
-  upto_apart zero = tt
+  upto_apart zero = λ i j d less l. absurd (omega arith)
   upto_apart (suc k) =
       apart_append (copies_upto net loops m k) (map (copy_of (suc k)) (copied net loops m (suc k)))
       (upto_apart k)
       (round_apart (suc k) (copied net loops m (suc k)) (copied_increasing (suc k)))
-      (all_weaker (λ c. c.number ≤ k) (λ x. AllByRecursion (λ y. x ≡ y → ⊥) (map (copy_of (suc k)) (copied net loops m (suc k)))) (copies_upto net loops m k)
-      (λ c l. all_copies (λ y. c ≡ y → ⊥) (suc k) (copied net loops m (suc k))
-      (all_of (λ n. c ≡ copy_of (suc k) n → ⊥) (copied net loops m (suc k)) (λ n e. (let d : c.number ≡ suc k = ap (λ x. x.number) e in omega arith))))
-      (numbers k))
+      (λ i c l. All-map (λ y. get_or (copies_upto net loops m k) i c ≡ y → ⊥) (copy_of (suc k)) (copied net loops m (suc k))
+      (λ j d here e. (let up = (upto_are k i c l).upto in let one = ap (λ x. x.number) e in omega arith)))
 
   -- the copies up to one number begin those up to a later one
-  record Begins (k top : ℕ) : Type 0 where
-    short : length (copies_upto net loops m k) ≤ length (copies_upto net loops m top)
-    same : (p : ℕ) (d : Copy) → p < length (copies_upto net loops m k) → get_or (copies_upto net loops m top) p d ≡ get_or (copies_upto net loops m k) p d
-
-  begins : (k top : ℕ) → k ≤ top → Begins k top
-  begins k zero l =
-      let e : k ≡ 0 = omega arith in
-      subst (λ (j : ℕ). Begins j 0) (sym e) (record { short = omega arith; same = λ p d h. refl })
+  begins : (k top : ℕ) → k ≤ top → (rest : List Copy) × (copies_upto net loops m top ≡ copies_upto net loops m k ++ rest)
+  begins k zero l = ([], ap (copies_upto net loops m) (let e : 0 ≡ k = omega arith in e) ∙ sym (append-nil (copies_upto net loops m k)))
   begins k (suc top) l =
       elim (cases_eq k (suc top)) [
-        | inl e ↦ subst (λ (j : ℕ). Begins j (suc top)) (sym e) (record { short = omega arith; same = λ p d h. refl })
+        | inl e ↦ ([], ap (copies_upto net loops m) (sym e) ∙ sym (append-nil (copies_upto net loops m k)))
         | inr ne ↦
             let rest = begins k top (omega (arith, ne)) in
-            let len = length-append (copies_upto net loops m top) (map (copy_of (suc top)) (copied net loops m (suc top))) in
-            let short = rest.short in
-            record {
-              short = omega arith;
-              same = λ p d h. get_or_append_left (copies_upto net loops m top) (map (copy_of (suc top)) (copied net loops m (suc top))) d p (omega arith) ∙ rest.same p d h;
-            }
+            let more = map (copy_of (suc top)) (copied net loops m (suc top)) in
+            (rest.0 ++ more, ap (λ cs. cs ++ more) rest.1 ∙ append_assoc (copies_upto net loops m k) rest.0 more)
       ]
 
   pub length-round : (k : ℕ) → length (copies_upto net loops m (suc k)) ≡ length (copies_upto net loops m k) + length (copied net loops m (suc k))
@@ -190,19 +179,22 @@ module _ (net : Parts) (loops : Loops) (m : ℕ → ℕ) where
       ∙ ap (λ n. length (copies_upto net loops m k) + n) (length-map (copied net loops m (suc k)) (copy_of (suc k)))
 
   pub upto_short : (k : ℕ) → k ≤ most loops.same m (length net.gates) → length (copies_upto net loops m k) ≤ length (copies net loops m)
-  upto_short k l = (begins k (most loops.same m (length net.gates)) l).short
+  upto_short k l =
+      let rest = begins k (most loops.same m (length net.gates)) l in
+      let len = ap length rest.1 ∙ length-append (copies_upto net loops m k) rest.0 in
+      omega arith
 
   -- the copies of one number stand one after another, behind those of lower numbers
   pub place_in_round : (k i : ℕ) → suc k ≤ most loops.same m (length net.gates) → i < length (copied net loops m (suc k)) → place (copies net loops m) (suc k) (get_or (copied net loops m (suc k)) i 0) ≡ length (copies_upto net loops m k) + i
   place_in_round k i top l =
       let d = copy_of 0 0 in
-      let b = begins (suc k) (most loops.same m (length net.gates)) top in
+      let rest = begins (suc k) (most loops.same m (length net.gates)) top in
       let p = length (copies_upto net loops m k) + i in
       let len = length-round k in
-      let short = b.short in
+      let short = upto_short (suc k) top in
       let here : p < length (copies_upto net loops m (suc k)) = omega arith in
       let is : get_or (copies net loops m) p d ≡ copy_of (suc k) (get_or (copied net loops m (suc k)) i 0) =
-      b.same p d here
+      ap (λ cs. get_or cs p d) rest.1 ∙ get_or_append_left (copies_upto net loops m (suc k)) rest.0 d p here
       ∙ get_or-append-add (copies_upto net loops m k) (map (copy_of (suc k)) (copied net loops m (suc k))) i d
       ∙ get_or-map (copy_of (suc k)) (copied net loops m (suc k)) i 0 d l in
       ap₂ (place (copies net loops m)) (sym (ap (λ c. c.number) is)) (sym (ap (λ c. c.gate) is))

@@ -1,31 +1,10 @@
 -- One number of copies after another, by tables.
 use Rattle.std.proofs.Common.{◌≡◌, inl, inr, ℕ, zero, suc, ◌+◌, ◌<◌, ◌≤◌, min, leb, ltb, Bool, true, false, if◌then◌else◌, List, [], ◌∷◌, ◌++◌, length, map, filter, replicate, get_or, set, refl, ap, ap₂, sym, ◌∙◌, subst, arith, Contains, All, true≢false, get_or-set_same, get_or-set_other, length-set}
-use Rattle.unroll.proofs.Common.{cases_lt, leb-true, le-leb, length-append, length-map, map-append, append_assoc, AllByRecursion, range_with_len, Sig, map-map, Gate, Parts, signal, gate_at, Loops, AreLoopsOf, first_gate, gate_of, in_loop_of, in_loop_from, same-sym, same-trans, same_within, mark, copy_name, copy_of, copies_of, copied, copies_upto, most, copies, place, constants, shift, moved, copy_signal, copy_pin, copy_gate, IsOfLoops, at_table, copy_pin_by, copy_gate_by, entered, AreLastCopies}
-use Rattle.std.proofs.lemmas.List.{append-nil, get_or-replicate, get_or_default, length-replicate}
-use Rattle.netlist.specs.Netlists.{count}
+use Rattle.unroll.proofs.Common.{cases_lt, le-leb, leb-true, length-append, length-map, map-append, append_assoc, append-nil, get_or-replicate, get_or_default, length-replicate, range_with_len, Sig, map-map, Gate, Parts, signal, gate_at, count, Loops, AreLoopsOf, first_gate, gate_of, in_loop_of, in_loop_from, same-sym, same-trans, same_within, mark, copy_name, copy_of, copies_of, copies_upto, most, copies, place, constants, shift, moved, copy_signal, copy_gate, IsOfLoops, copied, copy_pin, at_table, copy_gate_by, entered, copy_pin_by, AreMade}
 use Rattle.loops.proofs.Reading.{map_agree}
-use Rattle.unroll.specs.Tables.{AreCopies, AreMade}
+use Rattle.unroll.specs.Tables.{AreLastCopies, AreCopies}
 use Rattle.unroll.proofs.TableLemmas.{length_entered}
 use Rattle.unroll.proofs.Places.{Increasing, copied_within, copied_has, copied_increasing, Contains-copied, length-round, upto_short, place_in_round, most-above}
-
--- an entry that isn't made again
-entered_past : (table gates : List ℕ) (first n : ℕ) → AllByRecursion (λ g. n < g) gates → get_or (entered table gates first) n 0 ≡ get_or table n 0
-entered_past table [] first n h = refl
-entered_past table (g ∷ gates) first n h =
-    entered_past (set table g first) gates (suc first) n h.1
-    ∙ get_or-set_other table g n first 0 (λ e. (let l = h.0 in omega arith))
-
--- the entry of a gate of the list
-pub entered_at : (table gates : List ℕ) (first i : ℕ) → Increasing gates → All (λ g. g < length table) gates → i < length gates → get_or (entered table gates first) (get_or gates i 0) 0 ≡ first + i
-entered_at table [] first i up within l = absurd (omega arith)
-entered_at table (g ∷ gates) first zero up within l =
-    entered_past (set table g first) gates (suc first) g up.0
-    ∙ get_or-set_same table g first 0 (within 0 0 (omega arith))
-    ∙ (let e : first ≡ first + 0 = omega arith in e)
-entered_at table (g ∷ gates) first (suc i) up within l =
-    let len = length-set table g first in
-    entered_at (set table g first) gates (suc first) i up.1 (λ j d h. (let w = within (suc j) d (omega arith) in omega arith)) (omega arith)
-    ∙ (let e : suc first + i ≡ first + suc i = omega arith in e)
 
 -- the entry of another gate
 pub entered_other : (table gates : List ℕ) (first n : ℕ) → (Contains gates n → ⊥) → get_or (entered table gates first) n 0 ≡ get_or table n 0
@@ -33,6 +12,19 @@ entered_other table [] first n h = refl
 entered_other table (g ∷ gates) first n h =
     entered_other (set table g first) gates (suc first) n (λ c. h (suc c.0, (let l = c.1 in omega arith), c.2))
     ∙ get_or-set_other table g n first 0 (λ e. h (zero, omega arith, sym e))
+
+-- the entry of a gate of the list
+pub entered_at : (table gates : List ℕ) (first i : ℕ) → Increasing gates → All (λ g. g < length table) gates → i < length gates → get_or (entered table gates first) (get_or gates i 0) 0 ≡ first + i
+entered_at table [] first i up within l = absurd (omega arith)
+entered_at table (g ∷ gates) first zero up within l =
+    entered_other (set table g first) gates (suc first) g (λ c. (let h = up 0 (suc c.0) g (omega arith) (let l = c.1 in omega arith) in let e = c.2 in omega arith))
+    ∙ get_or-set_same table g first 0 (within 0 0 (omega arith))
+    ∙ (let e : first ≡ first + 0 = omega arith in e)
+entered_at table (g ∷ gates) first (suc i) up within l =
+    let len = length-set table g first in
+    entered_at (set table g first) gates (suc first) i (λ i j d less h. up (suc i) (suc j) d (omega arith) (omega arith))
+    (λ j d h. (let w = within (suc j) d (omega arith) in omega arith)) (omega arith)
+    ∙ (let e : suc first + i ≡ first + suc i = omega arith in e)
 
 pub map_same : {A B : Type 0} (f g : A → B) (xs : List A) → ((x : A) → f x ≡ g x) → map f xs ≡ map g xs
 map_same f g [] h = refl
@@ -141,13 +133,16 @@ module _ (net : Parts) (loops : Loops) (m : ℕ → ℕ) where
       omega arith
 
   module _ (are : AreLoopsOf net loops) (of_loops : IsOfLoops loops m) where
-    -- gates of one loop have as many copies
+    -- the gates of a loop have as many copies as it needs sweeps
+    pub many_of : (n : ℕ) → loops.same n n ≡ true → has n ≡ m n
+    many_of n e = rw e refl
+
+    pub self_of : (n h : ℕ) → loops.same n h ≡ true → loops.same n n ≡ true
+    self_of n h e = same-trans net loops are n h n e (same-sym net loops are n h e)
+
     pub has_same : (n h : ℕ) → loops.same n h ≡ true → has h ≡ has n
     has_same n h e =
-        let back = same-sym net loops are n h e in
-        let first : has n ≡ m n = rw (same-trans net loops are n h n e back) refl in
-        let second : has h ≡ m h = rw (same-trans net loops are h n h back e) refl in
-        second ∙ sym (of_loops n h e) ∙ sym first
+        many_of h (self_of h n (same-sym net loops are n h e)) ∙ sym (of_loops n h e) ∙ sym (many_of n (self_of n h e))
 
     module _ (k by : ℕ) (earlier current : List ℕ) (top : suc k ≤ most loops.same m (length net.gates)) (up : by ≡ shift net loops m) (copies_before : AreCopies net loops m k earlier) (width : length current ≡ length net.gates) where
       abbrev beside : List ℕ

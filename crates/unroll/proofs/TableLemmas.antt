@@ -1,7 +1,7 @@
 -- Tables of copies, entered one after another.
 use Rattle.std.proofs.Common.{◌≡◌, ℕ, suc, ◌+◌, ◌<◌, List, [], ◌∷◌, ◌++◌, length, take, get_or, set, refl, ap, sym, ◌∙◌, arith, length-set}
-use Rattle.std.proofs.lemmas.List.{length-take, take_more}
-use Rattle.unroll.proofs.Common.{entered}
+use Rattle.unroll.proofs.Common.{take_more, entered}
+use Rattle.std.proofs.lemmas.List.{length-take}
 
 entered_append : (table gates : List ℕ) (n first : ℕ) → entered table (gates ++ n ∷ []) first ≡ set (entered table gates first) n (first + length gates)
 entered_append table [] n first = ap (set table n) (let e : first ≡ first + 0 = omega arith in e)

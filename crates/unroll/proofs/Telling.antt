@@ -1,17 +1,17 @@
 -- The unrolled netlist keeps the interface, and tells of outputs and latches what the netlist does.
 use Rattle.std.proofs.Common.{◌≡◌, inl, inr, ℕ, zero, suc, ◌+◌, ◌-◌, ◌<◌, ◌≤◌, List, [], ◌++◌, length, map, get_or, refl, ap, ap₂, sym, ◌∙◌, subst, arith}
-use Rattle.unroll.proofs.Common.{cases_lt, append_assoc, get_or_append_left, length-append, length-map, Sig, Trit, map-map, Parts, wire, fix, gate_at, signal_names, Loops, first_gate, gate_of, mark, copy_name, copy_of, copies_of, copies, place, shift, copy_signal, old_signal, copy_gate, kept_gate, kept_latch, constants, unrolled}
+use Rattle.unroll.proofs.Common.{cases_lt, get_or_append_left, length-append, length-map, get_or-append-add, Sig, Trit, map-map, Parts, wire, fix, gate_at, signal_names, gate_sig, Loops, first_gate, gate_of, mark, copy_name, copy_of, copies_of, copies, place, shift, copy_signal, old_signal, copy_gate, kept_gate, kept_latch, constants, unrolled}
 use Rattle.std.proofs.lemmas.List.{get_or-append_right}
 use Rattle.cyc_base.specs.Values.{EachBelow}
 use Rattle.cyc_base.proofs.OrderLemmas.{EachBelow-map}
-use Rattle.netlist.specs.Netlists.{gate_sig}
 use Rattle.unroll.specs.Laws.{UnrolledHasItsSize, GatesStandAtTheirSignals, UnrolledIsNetlist, UnrolledTellsAsMuch, UnrolledKeepsInterface}
 use Rattle.unroll.proofs.Above.{unrolled_is_above}
 use Rattle.unroll.proofs.Measures.{size_is_size}
+use Rattle.unroll.proofs.Numbered.{moved_low, moved_high}
 use Rattle.unroll.proofs.Places.{copy_placed}
 use Rattle.unroll.proofs.Rounds.{map_same}
 use Rattle.unroll.proofs.Standing.{gate_at_copy, gate_at_kept}
-use Rattle.unroll.proofs.Valid.{moved_low, moved_high, names_new, names_old, old_names, zero_names, copy_names, gate_names, unrolled_is_netlist}
+use Rattle.unroll.proofs.Valid.{names_new, names_old, old_names, old_wide, new_names, zero_names, copy_names, gate_names, unrolled_is_netlist}
 
 pub unrolled_has_its_size : UnrolledHasItsSize
 unrolled_has_its_size net loops are m of_loops = size_is_size net loops m
@@ -41,29 +41,30 @@ gates_stand_at_their_signals net loops are m of_loops = (copies_stand net loops 
 -- a signal keeps its name
 name_kept : (net : Parts) (loops : Loops) (m : ℕ → ℕ) (s : Sig) → get_or (signal_names net) s.0 [] ≡ get_or (signal_names (unrolled net loops m)) (old_signal net loops m s).0 []
 name_kept net loops m s =
-    let O = old_names net loops m in
-    let Z = zero_names net loops m in
-    let C = copy_names net loops m (copies net loops m) in
-    let Gs = gate_names net.gates in
-    let wide : length O ≡ first_gate net = length-append net.inputs (map (λ latch. latch.name) net.latches) ∙ ap (λ n. length net.inputs + n) (length-map net.latches (λ latch. latch.name)) in
+    let other = unrolled net loops m in
+    let by = shift net loops m in
+    let old = old_names net loops m in
+    let new = new_names net loops m in
+    let own = gate_names net.gates in
+    let wide = old_wide net loops m in
     let zero_many = length-map (constants net loops) (λ gate. gate.name) in
     let many = length-map (copies net loops m) (λ copy. copy_name (mark net) copy.number (gate_at net copy.gate).name) in
-    let both = length-append Z C in
+    let both = length-append (zero_names net loops m) (copy_names net loops m (copies net loops m)) in
     elim (cases_lt s.0 (first_gate net)) [
       | inl low ↦
           ap (λ xs. get_or xs s.0 []) (names_old net loops m)
-          ∙ get_or_append_left O Gs [] s.0 (omega arith)
-          ∙ sym (ap₂ (λ xs (t : Sig). get_or xs t.0 []) (names_new net loops m) (moved_low net (shift net loops m) s low)
-          ∙ get_or_append_left O (Z ++ (C ++ Gs)) [] s.0 (omega arith))
+          ∙ get_or_append_left old own [] s.0 (omega arith)
+          ∙ sym (ap₂ (λ xs (t : Sig). get_or xs t.0 []) (names_new net loops m) (moved_low net by s low)
+          ∙ get_or_append_left old (new ++ own) [] s.0 (omega arith))
       | inr high ↦
-          let k = s.0 - first_gate net in
+          let n = s.0 - first_gate net in
+          let at : (s.0 + by) - first_gate net ≡ length new + n = omega arith in
           ap (λ xs. get_or xs s.0 []) (names_old net loops m)
-          ∙ get_or-append_right O Gs (first_gate net) s.0 [] wide high
-          ∙ sym (ap₂ (λ xs (t : Sig). get_or xs t.0 []) (names_new net loops m) (moved_high net (shift net loops m) s high)
-          ∙ get_or-append_right O (Z ++ (C ++ Gs)) (first_gate net) (s.0 + shift net loops m) [] wide (omega arith)
-          ∙ ap (λ xs. get_or xs ((s.0 + shift net loops m) - first_gate net) []) (sym (append_assoc Z C Gs))
-          ∙ get_or-append_right (Z ++ C) Gs (shift net loops m) ((s.0 + shift net loops m) - first_gate net) [] (omega arith) (omega arith)
-          ∙ ap (λ i. get_or Gs i []) (let e : ((s.0 + shift net loops m) - first_gate net) - shift net loops m ≡ k = omega arith in e))
+          ∙ get_or-append_right old own (first_gate net) s.0 [] wide high
+          ∙ sym (ap₂ (λ xs (t : Sig). get_or xs t.0 []) (names_new net loops m) (moved_high net by s high)
+          ∙ get_or-append_right old (new ++ own) (first_gate net) (s.0 + by) [] wide (omega arith)
+          ∙ ap (λ i. get_or (new ++ own) i []) at
+          ∙ get_or-append-add new own n [])
     ]
 
 pub unrolled_keeps_interface : UnrolledKeepsInterface

@@ -6,12 +6,12 @@ ghost use Rattle.netlist.specs.Netlists.{count};
 ghost use Rattle.loops.specs.Cuts.{loops_by};
 ghost use Rattle.unroll.specs.Plans.{loops_in, net_of, sweeps_in};
 ghost use Rattle.unroll.specs.Unrolled.{sweeps_of, shift, constants as constants_of, kept_gate as kept_gate_of, kept_latch as kept_latch_by, moved as moved_by, unrolled};
-ghost use Rattle.unroll.specs.Tables.{AreLastCopies};
+ghost use Rattle.unroll.specs.Tables.{AreLast};
 
 use crate::copies::add_copies;
 use crate::gates::{kept_gate, zero_gate};
 use crate::names::mark;
-use crate::pins::moved;
+use crate::pins::{Tables, moved};
 use crate::plan::Plan;
 use cyc_base::{Items, Name, Sig};
 use loops::{LoopedNetlist, SweepCounts};
@@ -70,12 +70,10 @@ fn kept_outputs(alloc: Global, net: &Netlist, by: u32) -> Result<Vec<Sig>, Alloc
     requires { count net.now + by ≤ 4294967295 }
     ensures { IfOk result (λ outputs. outputs.items ≡ map (moved_by net.now by) net.now.outputs) }
 {
-    let own = net.outputs();
-    let mut outputs = Vec::with_capacity(alloc, own.len())?;
-    for output in own {
-        outputs.push(moved(net, by, *output))?;
-    }
-    Ok(outputs)
+    net.outputs()
+        .iter()
+        .map(|output| moved(net, by, *output))
+        .collect(alloc)
 }
 
 /// The constant 0, where there is a loop.
@@ -93,14 +91,14 @@ fn constants(alloc: Global, plan: &Plan<'_>) -> Result<Vec<Gate>, AllocError>
 fn add_kept(
     alloc: Global,
     plan: &Plan<'_>,
-    last: &[u32],
+    tables: &Tables,
     gates: &mut Vec<Gate>,
 ) -> Result<(), AllocError>
-    requires { AreLastCopies (net_of plan.now) (loops_in plan.now) (sweeps_in plan.now) last.now }
+    requires { AreLast (net_of plan.now) (loops_in plan.now) (sweeps_in plan.now) tables.now.earlier.items tables.now.current.items }
     ensures { OnOk result (gates.new.items ≡ gates.old.items ++ map (kept_gate_of (net_of plan.now) (loops_in plan.now) (sweeps_in plan.now)) (range_with_len 0 (length (net_of plan.now).gates))) }
 {
     for gate in 0..plan.looped.net().gates() {
-        gates.push(kept_gate(alloc, plan, last, gate)?)?;
+        gates.push(kept_gate(alloc, plan, tables, gate)?)?;
     }
     Ok(())
 }
@@ -110,8 +108,8 @@ fn unrolled_gates(alloc: Global, plan: &Plan<'_>) -> Result<Vec<Gate>, AllocErro
     ensures { IfOk result (λ gates. gates.items ≡ (unrolled (net_of plan.now) (loops_in plan.now) (sweeps_in plan.now)).gates) }
 {
     let mut gates = constants(alloc, plan)?;
-    let last = add_copies(alloc, plan, &mut gates)?;
-    add_kept(alloc, plan, &last, &mut gates)?;
+    let tables = add_copies(alloc, plan, &mut gates)?;
+    add_kept(alloc, plan, &tables, &mut gates)?;
     Ok(gates)
 }
 

@@ -5,7 +5,7 @@ ghost use Rattle.std.specs.List.{range_with_len};
 ghost use Rattle.loops.specs.Sweeps.{first_gate};
 ghost use Rattle.unroll.specs.Plans.{loops_in, net_of, sweeps_in};
 ghost use Rattle.unroll.specs.Unrolled.{copies_of, copies, constants, copy_gate as copy_gate_of};
-ghost use Rattle.unroll.specs.Tables.{copy_gate_by, entered, AreLastCopies};
+ghost use Rattle.unroll.specs.Tables.{copy_gate_by, entered, AreLast, AreLastCopies};
 
 use crate::gates::copy_gate;
 use crate::pins::Tables;
@@ -13,11 +13,12 @@ use crate::plan::Plan;
 use netlist::{Gate, Netlist};
 use std::alloc::{AllocError, Global};
 
-/// The numbers of all gates.
-fn all_gates(alloc: Global, gates: u32) -> Result<Vec<u32>, AllocError>
-    ensures { IfOk result (λ numbers. numbers.items ≡ range_with_len 0 gates) }
+/// So many numbers, one after another.
+fn numbers_from(alloc: Global, first: u32, count: u32) -> Result<Vec<u32>, AllocError>
+    requires { first + count ≤ 4294967295 }
+    ensures { IfOk result (λ numbers. numbers.items ≡ range_with_len first count) }
 {
-    let numbers: Vec<u32> = (0..gates).collect(alloc)?;
+    let numbers: Vec<u32> = (first..first + count).collect(alloc)?;
     Ok(numbers)
 }
 
@@ -31,13 +32,11 @@ fn with_more_copies(
     requires { All (λ n. n < length (net_of plan.now).gates) gates.now }
     ensures { IfOk result (λ more. more.items ≡ filter (λ n. nat_lt number (copies_of (loops_in plan.now).same (sweeps_in plan.now) n)) gates.now) }
 {
-    let mut more = Vec::new(alloc);
-    for gate in gates {
-        if plan.copies_of(*gate) > number {
-            more.push(*gate)?;
-        }
-    }
-    Ok(more)
+    gates
+        .iter()
+        .copied()
+        .filter(|gate| plan.copies_of(*gate) > number)
+        .collect(alloc)
 }
 
 /// Enters copies of these gates, whose signals stand one after another from `first` on.
@@ -104,7 +103,7 @@ fn add_round(
 fn copied_gates(alloc: Global, plan: &Plan<'_>) -> Result<Vec<u32>, AllocError>
     ensures { IfOk result (λ gates. gates.items ≡ filter (λ n. nat_lt 0 (copies_of (loops_in plan.now).same (sweeps_in plan.now) n)) (range_with_len 0 (length (net_of plan.now).gates))) }
 {
-    let all = all_gates(alloc, plan.looped.net().gates())?;
+    let all = numbers_from(alloc, 0, plan.looped.net().gates())?;
     with_more_copies(alloc, plan, &all, 0)
 }
 
@@ -144,19 +143,21 @@ fn add_rounds(
     Ok(())
 }
 
-/// Adds all copies behind the constant, and answers for each gate the signal of its last copy, or that of the
-/// constant where it has none.
+/// Adds all copies behind the constant, and answers what the gates themselves read: for each gate the signal of its last
+/// copy, or that of the constant where it has none, and its own.
 pub(crate) fn add_copies(
     alloc: Global,
     plan: &Plan<'_>,
     gates: &mut Vec<Gate>,
-) -> Result<Vec<u32>, AllocError>
+) -> Result<Tables, AllocError>
     requires { gates.old.items ≡ constants (net_of plan.now) (loops_in plan.now) }
     ensures gates { OnOk result (gates.new.items ≡ constants (net_of plan.now) (loops_in plan.now)
         ++ map (copy_gate_of (net_of plan.now) (loops_in plan.now) (sweeps_in plan.now)) (copies (net_of plan.now) (loops_in plan.now) (sweeps_in plan.now))) }
-    ensures last { IfOk result (λ last. AreLastCopies (net_of plan.now) (loops_in plan.now) (sweeps_in plan.now) last.items) }
+    ensures last { IfOk result (λ tables. AreLast (net_of plan.now) (loops_in plan.now) (sweeps_in plan.now) tables.earlier.items tables.current.items) }
 {
-    let mut tables = first_tables(alloc, plan.looped.net())?;
+    let net = plan.looped.net();
+    let mut tables = first_tables(alloc, net)?;
     add_rounds(alloc, plan, &mut tables, gates)?;
-    Ok(tables.earlier)
+    tables.current = numbers_from(alloc, net.columns() + plan.by, net.gates())?;
+    Ok(tables)
 }

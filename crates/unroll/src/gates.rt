@@ -1,12 +1,13 @@
 //! The gates of the unrolled netlist, each by itself.
 
 ghost use Rattle.std.specs.Prelude.{◌≡◌, ◌<◌, true, [], length, IfOk};
+ghost use Rattle.netlist.specs.Netlists.{gate_at};
 ghost use Rattle.unroll.specs.Plans.{loops_in, net_of};
 ghost use Rattle.unroll.specs.Unrolled.{zero_gate as zero_gate_by};
-ghost use Rattle.unroll.specs.Tables.{copy_gate_by, kept_gate_by};
+ghost use Rattle.unroll.specs.Tables.{copy_gate_by, gate_by_tables};
 
 use crate::names::{copy_name, zero_name};
-use crate::pins::{Tables, copy_pins, kept_pins};
+use crate::pins::{Tables, pins_by};
 use crate::plan::Plan;
 use cover_logic::Cover;
 use cyc_base::{Items, Name};
@@ -35,6 +36,24 @@ pub(crate) fn zero_gate(alloc: Global, mark: &Name) -> Result<Gate, AllocError>
     })
 }
 
+/// A gate of this name that has a gate's cover, and whose pins read by these tables.
+fn gate_by(
+    alloc: Global,
+    plan: &Plan<'_>,
+    tables: &Tables,
+    name: Name,
+    gate: u32,
+) -> Result<Gate, AllocError>
+    requires earlier { length tables.now.earlier.items ≡ length (net_of plan.now).gates }
+    requires current { length tables.now.current.items ≡ length (net_of plan.now).gates }
+    requires gate { gate < length (net_of plan.now).gates }
+    ensures { IfOk result (λ other. other ≡ gate_by_tables (net_of plan.now) (loops_in plan.now) plan.now.by tables.now.earlier.items tables.now.current.items name gate) }
+{
+    let pins = Items::of(pins_by(alloc, plan, tables, gate)?);
+    let cover = plan.looped.net().gate(gate).cover.copy()?;
+    Ok(Gate { name, pins, cover })
+}
+
 /// A copy of a gate.
 pub(crate) fn copy_gate(
     alloc: Global,
@@ -50,25 +69,21 @@ pub(crate) fn copy_gate(
 {
     let own = plan.looped.net().gate(gate);
     let name = copy_name(alloc, &plan.mark, number, &own.name)?;
-    let pins = Items::of(copy_pins(alloc, plan, tables, gate)?);
-    let cover = own.cover.copy()?;
-    Ok(Gate { name, pins, cover })
+    gate_by(alloc, plan, tables, name, gate)
 }
 
 /// A gate itself.
 pub(crate) fn kept_gate(
     alloc: Global,
     plan: &Plan<'_>,
-    last: &[u32],
+    tables: &Tables,
     gate: u32,
 ) -> Result<Gate, AllocError>
-    requires last { length last.now ≡ length (net_of plan.now).gates }
+    requires earlier { length tables.now.earlier.items ≡ length (net_of plan.now).gates }
+    requires current { length tables.now.current.items ≡ length (net_of plan.now).gates }
     requires gate { gate < length (net_of plan.now).gates }
-    ensures { IfOk result (λ kept. kept ≡ kept_gate_by (net_of plan.now) (loops_in plan.now) plan.now.by last.now gate) }
+    ensures { IfOk result (λ kept. kept ≡ gate_by_tables (net_of plan.now) (loops_in plan.now) plan.now.by tables.now.earlier.items tables.now.current.items (gate_at (net_of plan.now) gate).name gate) }
 {
-    let own = plan.looped.net().gate(gate);
-    let name = own.name.copy()?;
-    let pins = Items::of(kept_pins(alloc, plan, last, gate)?);
-    let cover = own.cover.copy()?;
-    Ok(Gate { name, pins, cover })
+    let name = plan.looped.net().gate(gate).name.copy()?;
+    gate_by(alloc, plan, tables, name, gate)
 }

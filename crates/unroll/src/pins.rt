@@ -1,13 +1,13 @@
 //! What pins read in the unrolled netlist.
 
 ghost use Rattle.std.specs.Prelude.{◌≡◌, ◌<◌, ◌≤◌, ◌+◌, Some, None, if◌then◌else◌, length, map, IfSome, IfOk};
-ghost use Rattle.netlist.specs.Netlists.{gate_at, IsNetlist, IsSignal};
+ghost use Rattle.netlist.specs.Netlists.{gate_at, IsSignal};
 ghost use Rattle.loops.specs.Found.{loops_of};
 ghost use Rattle.loops.specs.Sweeps.{gate_of, in_loop_of};
 ghost use Rattle.loops.specs.Looped.{IsLooped};
 ghost use Rattle.unroll.specs.Plans.{loops_in, net_of};
 ghost use Rattle.unroll.specs.Unrolled.{moved as moved_by};
-ghost use Rattle.unroll.specs.Tables.{at_table, copy_pin_by, kept_pin_by};
+ghost use Rattle.unroll.specs.Tables.{at_table, copy_pin_by as pin_by_tables};
 
 use crate::plan::Plan;
 use cyc_base::Sig;
@@ -15,12 +15,12 @@ use loops::LoopedNetlist;
 use netlist::Netlist;
 use std::alloc::{AllocError, Global};
 
-/// The signals of copies, one for each gate.
+/// The signals of copies, one for each gate. The gates themselves stand behind the last copies.
 #[derive(Debug, Drop)]
 pub(crate) struct Tables {
     /// Of the copies before those that are made, and of the last copies of gates that have no more.
     pub(crate) earlier: Vec<u32>,
-    /// Of the copies that are made, where a gate has one.
+    /// Of the copies that are made, where a gate has one, or at the end of the gates themselves.
     pub(crate) current: Vec<u32>,
 }
 
@@ -50,8 +50,8 @@ pub fn source_in_loop(looped: &LoopedNetlist<'_>, gate: u32, pin: Sig) -> Option
     looped.are_in_one_loop(gate, source).then_some(source)
 }
 
-/// What the copies read of a gate of their loop: the copy before where it is a cut wire, else the one beside them.
-fn copy_read(tables: &Tables, source: u32, cut: bool) -> Sig
+/// What is read of a gate of the same loop: the copy before where it is a cut wire, else the one beside it.
+fn table_read(tables: &Tables, source: u32, cut: bool) -> Sig
     requires earlier { source < length tables.now.earlier.items }
     requires current { source < length tables.now.current.items }
     ensures { result ≡ (if cut then at_table tables.now.earlier.items source else at_table tables.now.current.items source) }
@@ -63,35 +63,22 @@ fn copy_read(tables: &Tables, source: u32, cut: bool) -> Sig
     }
 }
 
-/// What a pin of a gate's copy reads.
-fn copy_pin(plan: &Plan<'_>, tables: &Tables, gate: u32, pin: Sig) -> Sig
+/// What a pin of a gate's copy, or of the gate itself, reads.
+fn pin_by(plan: &Plan<'_>, tables: &Tables, gate: u32, pin: Sig) -> Sig
     requires earlier { length tables.now.earlier.items ≡ length (net_of plan.now).gates }
     requires current { length tables.now.current.items ≡ length (net_of plan.now).gates }
     requires gate { gate < length (net_of plan.now).gates }
     requires pin { IsSignal (net_of plan.now) pin }
-    ensures { result ≡ copy_pin_by (net_of plan.now) (loops_in plan.now) plan.now.by tables.now.earlier.items tables.now.current.items gate pin }
+    ensures { result ≡ pin_by_tables (net_of plan.now) (loops_in plan.now) plan.now.by tables.now.earlier.items tables.now.current.items gate pin }
 {
     match source_in_loop(plan.looped, gate, pin) {
-        Some(source) => copy_read(tables, source, plan.looped.is_cut(source)),
+        Some(source) => table_read(tables, source, plan.looped.is_cut(source)),
         None => moved(plan.looped.net(), plan.by, pin),
     }
 }
 
-/// What a pin of a gate itself reads, by the signals of the last copies.
-fn kept_pin(plan: &Plan<'_>, last: &[u32], gate: u32, pin: Sig) -> Sig
-    requires last { length last.now ≡ length (net_of plan.now).gates }
-    requires gate { gate < length (net_of plan.now).gates }
-    requires pin { IsSignal (net_of plan.now) pin }
-    ensures { result ≡ kept_pin_by (net_of plan.now) (loops_in plan.now) plan.now.by last.now gate pin }
-{
-    match source_in_loop(plan.looped, gate, pin) {
-        Some(source) if plan.looped.is_cut(source) => Sig(last[source as usize]),
-        _ => moved(plan.looped.net(), plan.by, pin),
-    }
-}
-
-/// What the pins of a gate's copy read.
-pub(crate) fn copy_pins(
+/// What the pins of a gate's copy, or of the gate itself, read.
+pub(crate) fn pins_by(
     alloc: Global,
     plan: &Plan<'_>,
     tables: &Tables,
@@ -100,33 +87,13 @@ pub(crate) fn copy_pins(
     requires earlier { length tables.now.earlier.items ≡ length (net_of plan.now).gates }
     requires current { length tables.now.current.items ≡ length (net_of plan.now).gates }
     requires gate { gate < length (net_of plan.now).gates }
-    ensures pins { IfOk result (λ pins. pins.items ≡ map (copy_pin_by (net_of plan.now) (loops_in plan.now) plan.now.by tables.now.earlier.items tables.now.current.items gate) (gate_at (net_of plan.now) gate).pins) }
-    ensures valid { IsNetlist (net_of plan.now) }
+    ensures { IfOk result (λ pins. pins.items ≡ map (pin_by_tables (net_of plan.now) (loops_in plan.now) plan.now.by tables.now.earlier.items tables.now.current.items gate) (gate_at (net_of plan.now) gate).pins) }
 {
-    let own = plan.looped.net().gate(gate).pins.items();
-    let mut pins = Vec::with_capacity(alloc, own.len())?;
-    for pin in own {
-        pins.push(copy_pin(plan, tables, gate, *pin))?;
-    }
-    Ok(pins)
-}
-
-/// What the pins of a gate itself read.
-pub(crate) fn kept_pins(
-    alloc: Global,
-    plan: &Plan<'_>,
-    last: &[u32],
-    gate: u32,
-) -> Result<Vec<Sig>, AllocError>
-    requires last { length last.now ≡ length (net_of plan.now).gates }
-    requires gate { gate < length (net_of plan.now).gates }
-    ensures pins { IfOk result (λ pins. pins.items ≡ map (kept_pin_by (net_of plan.now) (loops_in plan.now) plan.now.by last.now gate) (gate_at (net_of plan.now) gate).pins) }
-    ensures valid { IsNetlist (net_of plan.now) }
-{
-    let own = plan.looped.net().gate(gate).pins.items();
-    let mut pins = Vec::with_capacity(alloc, own.len())?;
-    for pin in own {
-        pins.push(kept_pin(plan, last, gate, *pin))?;
-    }
-    Ok(pins)
+    let net = plan.looped.net();
+    net.gate(gate)
+        .pins
+        .items()
+        .iter()
+        .map(|pin| pin_by(plan, tables, gate, *pin))
+        .collect(alloc)
 }

@@ -47,16 +47,10 @@ fn all_copies(looped: &LoopedNetlist<'_>, sweeps: &SweepCounts) -> u64
 }
 
 /// Whether the netlist has a loop.
-#[tactic(auto, using(crate::proofs::SizeLemmas::none_in_range, crate::proofs::SizeLemmas::one_in_range))]
 pub(crate) fn has_loop(looped: &LoopedNetlist<'_>) -> bool
     ensures { result ≡ has_some_loop looped.now.net (in_one_loop looped.now.blocks) }
 {
-    for gate in 0..looped.net().gates() {
-        if is_looped(looped, gate) {
-            return true;
-        }
-    }
-    false
+    (0..looped.net().gates()).any(|gate| is_looped(looped, gate))
 }
 
 /// How many gates and latches the unrolled netlist has, also where these are too many for `unroll`. No memory is

@@ -1,9 +1,12 @@
-use Rattle.std.proofs.Common.{◌++◌, ◌∷◌, [], map, ap, ap₂, sym, ◌∙◌}
-use Rattle.unroll.proofs.Common.{append_assoc, map-append, range_with_len, loops_in, net_of, sweeps_in, kept_gate}
+use Rattle.std.proofs.Common.{◌++◌, ◌∷◌, [], length, map, ap, ap₂, sym, ◌∙◌}
+use Rattle.unroll.proofs.Common.{append_assoc, map-append, length-range_with_len, range_with_len, loops_in, net_of, sweeps_in, kept_gate}
 use Rattle.unroll.proofs.Counts.{looped_loops, looped_sweeps}
 use Rattle.unroll.proofs.Kept.{kept_same}
 use Rattle.unroll.proofs.SizeLemmas.{range_next}
 use Rattle.unroll.proofs.assembly.add_kept.Goals as goal
+
+pub kept_gate-requires-clause-current : goal.kept_gate-requires-clause-current
+kept_gate-requires-clause-current c = ap length c.requires.itself ∙ length-range_with_len _ _
 
 pub loop-gate-preserved : goal.loop-gate-preserved
 loop-gate-preserved c =
@@ -13,7 +16,8 @@ loop-gate-preserved c =
     let n = c.loop-gate.gate in
     let kept = kept_gate (net_of plan) (loops_in plan) (sweeps_in plan) in
     let old = c.args.gates.now.items in
-    let same = kept_same (net_of plan) (loops_in plan) (sweeps_in plan) (looped_loops looped is) (looped_sweeps looped is plan.sweeps.now) plan.by c.args.last.now plan.shifted c.requires n in
+    let tables = c.args.tables.now in
+    let same = kept_same (net_of plan) (loops_in plan) (sweeps_in plan) (looped_loops looped is) (looped_sweeps looped is plan.sweeps.now) tables.earlier.items tables.current.items c.requires plan.by n plan.shifted in
     c.in_ok-push.ensures.items
     ∙ ap₂ (λ gates gate. gates ++ gate ∷ []) c.loop-gate.invariant (c.in_ok-kept_gate.ensures ∙ same)
     ∙ append_assoc old (map kept (range_with_len 0 n)) (kept n ∷ [])

@@ -1,11 +1,6 @@
-use Rattle.std.proofs.Common.{◌++◌, length, map, ap, subst, sym, ◌∙◌, List, ℕ}
-use Rattle.unroll.proofs.Common.{append_assoc, range_with_len, loops_in, net_of, sweeps_in, constants, copies, copy_gate, kept_gate, AreLastCopies}
+use Rattle.std.proofs.Common.{◌++◌, length, map, ap, ◌∙◌}
+use Rattle.unroll.proofs.Common.{append_assoc, range_with_len, loops_in, net_of, sweeps_in, constants, copies, copy_gate, kept_gate}
 use Rattle.unroll.proofs.assembly.unrolled_gates.Goals as goal
-
-pub add_kept-requires : goal.add_kept-requires
-add_kept-requires c =
-    let plan = c.args.plan.now in
-    subst (λ (table : List ℕ). AreLastCopies (net_of plan) (loops_in plan) (sweeps_in plan) table) (sym c.deref.ensures.value) c.in_ok-last.ensures.last
 
 pub returns : goal.returns
 returns c =
@@ -15,5 +10,5 @@ returns c =
     let m = sweeps_in plan in
     let kept = map (kept_gate net loops m) (range_with_len 0 (length net.gates)) in
     c.in_ok-add_kept.ensures
-    ∙ ap (λ gates. gates ++ kept) c.in_ok-last.ensures.gates
+    ∙ ap (λ gates. gates ++ kept) c.in_ok-tables.ensures.gates
     ∙ append_assoc (constants net loops) (map (copy_gate net loops m) (copies net loops m)) kept

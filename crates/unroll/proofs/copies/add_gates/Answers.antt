@@ -1,5 +1,6 @@
 use Rattle.std.proofs.Common.{◌<◌, ◌++◌, ◌∷◌, [], length, get_or, map, take, ap, ap₂, sym, ◌∙◌, arith}
-use Rattle.unroll.proofs.Common.{append_assoc, map_more, loops_in, net_of, copy_gate_by}
+use Rattle.unroll.proofs.Common.{append_assoc, loops_in, net_of, copy_gate_by}
+use Rattle.std.proofs.lemmas.List.{map_more}
 use Rattle.unroll.proofs.copies.add_gates.Goals as goal
 
 pub loop-gate-preserved : goal.loop-gate-preserved

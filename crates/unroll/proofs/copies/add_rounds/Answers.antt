@@ -1,6 +1,5 @@
 use Rattle.std.proofs.Common.{◌≡◌, ◌<◌, ◌≤◌, ◌++◌, ℕ, suc, List, length, map, All, ap, sym, ◌∙◌, subst, arith}
-use Rattle.std.proofs.lemmas.List.{length-replicate}
-use Rattle.unroll.proofs.Common.{first_gate, loops_in, net_of, sweeps_in, most, constants, copies_upto, copy_gate}
+use Rattle.unroll.proofs.Common.{length-replicate, first_gate, loops_in, net_of, sweeps_in, most, constants, copies_upto, copy_gate}
 use Rattle.unroll.proofs.Places.{copied_within}
 use Rattle.unroll.proofs.Rounds.{none_made, none_entered, all_entered, round_fits, made_next}
 use Rattle.unroll.proofs.Counts.{looped_loops, looped_sweeps}
@@ -17,12 +16,6 @@ loop-number-init c =
       before = none_entered net loops m c.args.tables.now.earlier.items c.requires.earlier;
       width = ap length c.requires.current ∙ length-replicate (length net.gates) (first_gate net);
     }
-
-pub add_round-requires-clause-earlier : goal.add_round-requires-clause-earlier
-add_round-requires-clause-earlier c = c.loop-number.invariant.before.width
-
-pub add_round-requires-clause-current : goal.add_round-requires-clause-current
-add_round-requires-clause-current c = c.loop-number.invariant.width
 
 pub add_round-requires-clause-active : goal.add_round-requires-clause-active
 add_round-requires-clause-active c =

@@ -1,5 +1,4 @@
-use Rattle.unroll.proofs.Common.{loops_in, net_of, sweeps_in}
-use Rattle.unroll.specs.Tables.{AreMade}
+use Rattle.unroll.proofs.Common.{loops_in, net_of, sweeps_in, AreMade}
 use Rattle.unroll.proofs.copies.add_rounds.Given as goal
 
 abbrev pub invariant-loop-number : goal.invariant-loop-number

@@ -1,5 +1,5 @@
 use Rattle.std.proofs.Common.{◌<◌, length, get_or, set, ap₂, sym, ◌∙◌, arith, length-set}
-use Rattle.std.proofs.lemmas.List.{get_or_default}
+use Rattle.unroll.proofs.Common.{get_or_default}
 use Rattle.unroll.proofs.TableLemmas.{entered_more}
 use Rattle.unroll.proofs.copies.enter.Goals as goal
 

@@ -1,5 +1,6 @@
 use Rattle.std.proofs.Common.{◌≡◌, ◌≤◌, ◌*◌}
-use Rattle.unroll.proofs.Common.{range_with_len, sum_by, in_one_loop, copies_of, sweeps_of}
+use Rattle.unroll.proofs.Common.{range_with_len, sum_by, copies_of, sweeps_of}
+use Rattle.loops.specs.Cuts.{in_one_loop}
 use Rattle.unroll.proofs.sizes.all_copies.Given as goal
 
 abbrev pub invariant-loop-gate : goal.invariant-loop-gate
