@@ -1,6 +1,6 @@
 -- A written schedule has no fault: each line is fine where it stands.
-use Rattle.std.proofs.Common.{◌≡◌, ◌<◌, ◌+◌, ◌==◌, ℕ, suc, Bool, true, false, not, cond, ◌&&◌, nat_lt, List, [], ◌∷◌, ◌++◌, length, map, refl, ap, sym, ◌∙◌, subst, arith, All, Some, None, append_assoc}
-use Rattle.sched_text.proofs.Common.{codes, decimal, is_some, option_map, if◌then◌else◌, list_all, flat_map, option_or, ne_eqb, nat_tests, All-head, All-tail, sum_by-cons, Latch, Parts, gate_at, IsNetlist, PlannedEvent, RoundPlan, Schedule, Line, numbered, SchedFault, BadLine, WrongWidth, IsOfGates, AreOfGates, FitsNetlist, is_tick, lacks_lines, arguments, bit_of, bits_of, permits, first_refused, nearest, begins_tick, ticks_begun, is_cut_off, fault_at, fault_at_end, first_fault, IsSmall, HasSmallAges, AreSmall, TicksAreSmall, bits_words, past_line, start_word, event_line, round_lines, tick_lines, lines_of}
+use Rattle.std.proofs.Common.{◌≡◌, ◌+◌, ◌==◌, ℕ, suc, Bool, true, false, not, cond, ◌&&◌, nat_lt, List, [], ◌∷◌, ◌++◌, length, map, refl, ap, sym, ◌∙◌, subst, arith, All, Some, None, append_assoc}
+use Rattle.sched_text.proofs.Common.{codes, decimal, is_some, option_map, if◌then◌else◌, list_all, flat_map, ne_eqb, nat_tests, All-head, All-tail, sum_by-cons, Latch, Parts, IsNetlist, PlannedEvent, RoundPlan, Schedule, Line, numbered, WrongWidth, FitsNetlist, is_tick, lacks_lines, arguments, bit_of, bits_of, permits, first_refused, nearest, begins_tick, ticks_begun, is_cut_off, first_fault, IsSmall, bits_words, past_line, start_word, event_line, round_lines, tick_lines, lines_of}
 use Rattle.std.specs.List.{AllZip}
 use Rattle.cyc_io.specs.Bits.{bits_text}
 use Rattle.std.specs.declared.option.Option.{Option}
@@ -9,12 +9,14 @@ use Rattle.netlist.specs.declared.parts.Init.{Init}
 use Rattle.netlist.specs.declared.parts.Init.TheVariants.{Zero, One, Either}
 use Rattle.netlist.specs.Netlists.{count}
 use Rattle.netlist.specs.Fixpoint.{Permits, IsInitialState}
-use Rattle.sched_text.specs.declared.fault.SchedFault.TheVariants.{BadStart, UnknownGate, TickCount}
+use Rattle.sched_text.specs.declared.fault.SchedFault.TheVariants.{BadStart}
 use Rattle.sched_text.specs.declared.kind.Kind.{Kind}
 use Rattle.sched_text.specs.declared.kind.Kind.TheVariants.{FormatTwo, Window, Past, Latches, State, Gates, Tick, Round, Event}
 use Rattle.sched_text.specs.Kinds.{kind_of_words, may_follow}
-use Rattle.sched_text.specs.LineFaults.{are_bits, is_bit, is_age, has_words_of, width_fault, start_fault, fault_of_kind, fault_of_words}
+use Rattle.sched_text.specs.LineFaults.{are_bits, is_bit, is_age, has_words_of, width_fault, start_fault, fault_of_kind}
+use Rattle.sched_text.proofs.FitLemmas.{head_before}
 use Rattle.sched_text.proofs.GateLemmas.{gate_of_name}
+use Rattle.sched_text.proofs.LevelLemmas.{IsWritable, AreWritable}
 use Rattle.sched_text.proofs.WrittenNumbers.{number_decimal}
 
 -- ---- bits
@@ -64,11 +66,34 @@ start_is net n bits initial =
 
 ages_are : (ages : List ℕ) → All IsSmall ages → list_all is_age (map decimal ages) ≡ true
 ages_are [] small = refl
-ages_are (age ∷ ages) small =
-    ap (λ o. is_some o && list_all is_age (map decimal ages)) (number_decimal age (All-head IsSmall age ages small))
-    ∙ ages_are ages (All-tail IsSmall age ages small)
+ages_are (age ∷ ages) small = rw (number_decimal age (All-head IsSmall age ages small)) (ages_are ages (All-tail IsSmall age ages small))
 
--- ---- a line without a fault
+-- ---- which lines may stand where
+
+round_is_in_tick : (before : Option Kind) → may_follow before Round ≡ true → may_follow before Tick ≡ true
+round_is_in_tick (Some Tick) may = refl
+round_is_in_tick (Some Round) may = refl
+round_is_in_tick (Some Event) may = refl
+round_is_in_tick before may = absurd (cc may)
+
+event_is_in_tick : (before : Option Kind) → may_follow before Event ≡ true → may_follow before Round ≡ true
+event_is_in_tick (Some Round) may = refl
+event_is_in_tick (Some Event) may = refl
+event_is_in_tick before may = absurd (cc may)
+
+-- what the latches start with, free or as their inits permit
+abbrev start_kind : Bool → Kind
+start_kind true = State
+start_kind false = Latches
+
+start_behind_past : (free : Bool) (before : Option Kind) → may_follow before Past ≡ true → may_follow before (start_kind free) ≡ true
+start_behind_past true (Some Window) may = refl
+start_behind_past true (Some Past) may = refl
+start_behind_past false (Some Window) may = refl
+start_behind_past false (Some Past) may = refl
+start_behind_past free before may = absurd (cc may)
+
+-- ---- lines without a fault
 
 -- behind a line of this kind, with so many ticks begun
 record At (k : Option Kind) (b : ℕ) (earlier : List Line) : Type 0 where
@@ -86,203 +111,122 @@ module _ (net : Parts) (ticks end : ℕ) where
   abbrev Free : Option Kind → ℕ → ℕ → List (List (List ℕ)) → Type 0
   Free before begun n ws = (earlier : List Line) → At before begun earlier → first_fault net ticks end earlier (numbered n ws) ≡ None
 
+  -- nor wherever a line of this kind may stand
+  abbrev FreeAt : Kind → ℕ → List (List (List ℕ)) → Type 0
+  FreeAt k begun ws = (before : Option Kind) (n : ℕ) → may_follow before k ≡ true → n + length ws ≡ end → Free before begun n ws
+
   -- a line that isn't the text's last
   before_end : (n : ℕ) (words : List (List ℕ)) (ws : List (List (List ℕ))) → n + suc (length ws) ≡ end → is_cut_off end (record { number = n; words = words }) (numbered (n + 1) ws) ≡ false
   before_end n words [] size = ap (λ t. t && lacks_lines (Some (kind_of_words words))) (ne_eqb n end (λ e. omega (arith, size, e)))
   before_end n words (next ∷ ws) size = refl
 
-  line_is_fine : (before : Option Kind) (begun n : ℕ) (k : Kind) (words : List (List ℕ)) (earlier : List Line) (cut : Bool) → IsFine before begun k words → At before begun earlier → cut ≡ false
-      → fault_at net ticks (nearest earlier) (ticks_begun earlier) cut (record { number = n; words = words }) ≡ None
-  line_is_fine before begun n k words earlier cut fine at whole =
-      ap (λ o. fault_at net ticks o (ticks_begun earlier) cut (record { number = n; words = words })) at.before
-      ∙ ap (λ b. fault_at net ticks before b cut (record { number = n; words = words })) at.begun
-      ∙ ap (λ t. fault_at net ticks before begun t (record { number = n; words = words })) whole
-      ∙ ap (λ kd. if may_follow before kd && true then fault_of_words net ticks kd n begun (arguments words) else Some (BadLine n)) fine.kind
-      ∙ ap (λ (t : Bool). if t && true then fault_of_words net ticks k n begun (arguments words) else Some (BadLine n)) fine.follows
-      ∙ ap (λ (t : Bool). if t then fault_of_kind net ticks k n begun (arguments words) else Some (BadLine n)) fine.words
-      ∙ fine.fault n
-
-  next_at : (before : Option Kind) (begun n : ℕ) (k : Kind) (words : List (List ℕ)) (earlier : List Line) → IsFine before begun k words → At before begun earlier
-      → At (Some k) (cond (is_tick k) 1 0 + begun) (record { number = n; words = words } ∷ earlier)
-  next_at before begun n k words earlier fine at = record {
-    before = ap (λ kd. Some kd) fine.kind;
-    begun =
-        sum_by-cons (λ line. cond (begins_tick line) 1 0) (record { number = n; words = words }) earlier
-        ∙ ap (λ kd. cond (is_tick kd) 1 0 + ticks_begun earlier) fine.kind
-        ∙ ap (λ b. cond (is_tick k) 1 0 + b) at.begun;
-  }
-
   -- a fine line before lines without a fault
-  step : (before : Option Kind) (begun n : ℕ) (k : Kind) (words : List (List ℕ)) (ws : List (List (List ℕ))) → IsFine before begun k words → n + suc (length ws) ≡ end
-      → Free (Some k) (cond (is_tick k) 1 0 + begun) (n + 1) ws → Free before begun n (words ∷ ws)
-  step before begun n k words ws fine size free earlier at =
-      ap (λ o. option_or o (first_fault net ticks end (record { number = n; words = words } ∷ earlier) (numbered (n + 1) ws)))
-      (line_is_fine before begun n k words earlier (is_cut_off end (record { number = n; words = words }) (numbered (n + 1) ws)) fine at (before_end n words ws size))
-      ∙ free (record { number = n; words = words } ∷ earlier) (next_at before begun n k words earlier fine at)
-
-  -- ---- the places of lines
-
-  record InHead (before : Option Kind) : Type 0 where
-    pub past : may_follow before Past ≡ true
-    pub latches : may_follow before Latches ≡ true
-    pub state : may_follow before State ≡ true
-
-  record Open (before : Option Kind) : Type 0 where
-    pub tick : may_follow before Tick ≡ true
-    pub whole : lacks_lines before ≡ false
-
-  record InTick (before : Option Kind) : Type 0 where
-    pub round : may_follow before Round ≡ true
-    pub open' : Open before
-
-  record InRound (before : Option Kind) : Type 0 where
-    pub event : may_follow before Event ≡ true
-    pub tick : InTick before
-
-  open_tick : Open (Some Tick)
-  open_tick = record { tick = refl; whole = refl }
-
-  open_round : Open (Some Round)
-  open_round = record { tick = refl; whole = refl }
-
-  open_event : Open (Some Event)
-  open_event = record { tick = refl; whole = refl }
-
-  in_tick : InTick (Some Tick)
-  in_tick = record { round = refl; open' = open_tick }
-
-  in_round : InRound (Some Round)
-  in_round = record { event = refl; tick = record { round = refl; open' = open_round } }
-
-  in_event : InRound (Some Event)
-  in_event = record { event = refl; tick = record { round = refl; open' = open_event } }
-
-  -- lines that have no fault at each place of a kind
-  abbrev FreeIn : (Option Kind → Type 0) → ℕ → List (List (List ℕ)) → Type 0
-  FreeIn P begun ws = (before : Option Kind) (n : ℕ) → P before → n + length ws ≡ end → Free before begun n ws
+  step : (before : Option Kind) (begun now n : ℕ) (k : Kind) (words : List (List ℕ)) (ws : List (List (List ℕ))) → IsFine before begun k words → now ≡ cond (is_tick k) 1 0 + begun → n + suc (length ws) ≡ end
+      → Free (Some k) now (n + 1) ws → Free before begun n (words ∷ ws)
+  step before begun now n k words ws fine count size free earlier at =
+      rw (at.before, at.begun, before_end n words ws size, fine.kind, fine.follows, fine.words, fine.fault n)
+      (free (record { number = n; words = words } ∷ earlier) (record {
+        before = ap (λ kd. Some kd) fine.kind;
+        begun = sum_by-cons (λ line. cond (begins_tick line) 1 0) (record { number = n; words = words }) earlier ∙ rw (fine.kind, at.begun) (sym count);
+      }))
 
   module _ (valid : IsNetlist net) where
-    event_fine : (before : Option Kind) (begun : ℕ) (planned : PlannedEvent) → InRound before → planned.event.gate < length net.gates → HasSmallAges planned → IsFine before begun Event (event_line net planned)
-    event_fine before begun planned place inside small = record {
+    event_fine : (before : Option Kind) (begun : ℕ) (planned : PlannedEvent) → may_follow before Event ≡ true → IsWritable net planned → IsFine before begun Event (event_line net planned)
+    event_fine before begun planned may good = record {
       kind = refl;
-      follows = place.event;
-      words = ages_are planned.event.ages small;
-      fault = λ n. ap (λ o. if is_some o then None else Some (UnknownGate n (gate_at net planned.event.gate).name)) (gate_of_name net planned.event.gate valid inside);
+      follows = may;
+      words = ages_are planned.event.ages good.1;
+      fault = λ n. rw (gate_of_name net planned.event.gate valid good.0) refl;
     }
 
-    events_free : (begun : ℕ) (planned : List PlannedEvent) (more : List (List (List ℕ))) → All (IsOfGates (length net.gates)) planned → All HasSmallAges planned
-        → FreeIn InRound begun more → FreeIn InRound begun (map (event_line net) planned ++ more)
-    events_free begun [] more inside small free = free
-    events_free begun (p ∷ planned) more inside small free = λ before n place size.
-        step before begun n Event (event_line net p) (map (event_line net) planned ++ more)
-        (event_fine before begun p place (All-head (IsOfGates (length net.gates)) p planned inside) (All-head HasSmallAges p planned small)) size
-        (subst (λ b. Free (Some Event) b (n + 1) (map (event_line net) planned ++ more)) (let e : begun ≡ 0 + begun = omega arith in e)
-        (events_free begun planned more (All-tail (IsOfGates (length net.gates)) p planned inside) (All-tail HasSmallAges p planned small) free (Some Event) (n + 1) in_event (omega (arith, size))))
+    events_free : (begun : ℕ) (planned : List PlannedEvent) (more : List (List (List ℕ))) → All (IsWritable net) planned → FreeAt Event begun more → FreeAt Event begun (map (event_line net) planned ++ more)
+    events_free begun [] more good free = free
+    events_free begun (p ∷ planned) more good free = λ before n may size.
+        step before begun begun n Event (event_line net p) (map (event_line net) planned ++ more)
+        (event_fine before begun p may (All-head (IsWritable net) p planned good)) (omega arith) size
+        (events_free begun planned more (All-tail (IsWritable net) p planned good) free (Some Event) (n + 1) refl (omega (arith, size)))
 
-    round_fine : (before : Option Kind) (begun : ℕ) → InTick before → IsFine before begun Round (codes "round" ∷ [])
-    round_fine before begun place = record { kind = refl; follows = place.round; words = refl; fault = λ n. refl }
-
-    rounds_free : (begun : ℕ) (rounds : List RoundPlan) (more : List (List (List ℕ))) → All (AreOfGates (length net.gates)) rounds → All AreSmall rounds
-        → FreeIn InTick begun more → FreeIn InTick begun (flat_map (round_lines net) rounds ++ more)
-    rounds_free begun [] more inside small free = free
-    rounds_free begun (round ∷ rounds) more inside small free = λ before n place size.
+    rounds_free : (begun : ℕ) (rounds : List RoundPlan) (more : List (List (List ℕ))) → All (AreWritable net) rounds → FreeAt Round begun more → FreeAt Round begun (flat_map (round_lines net) rounds ++ more)
+    rounds_free begun [] more good free = free
+    rounds_free begun (round ∷ rounds) more good free = λ before n may size.
         let rest : List (List (List ℕ)) = flat_map (round_lines net) rounds ++ more in
         let events : List (List (List ℕ)) = map (event_line net) round.events in
         let same : (events ++ flat_map (round_lines net) rounds) ++ more ≡ events ++ rest = append_assoc events (flat_map (round_lines net) rounds) more in
-        let later : FreeIn InTick begun rest =
-        rounds_free begun rounds more (All-tail (AreOfGates (length net.gates)) round rounds inside) (All-tail AreSmall round rounds small) free in
-        step before begun n Round (codes "round" ∷ []) ((events ++ flat_map (round_lines net) rounds) ++ more) (round_fine before begun place) size
-        (subst (λ ws. Free (Some Round) (0 + begun) (n + 1) ws) (sym same)
-        (subst (λ b. Free (Some Round) b (n + 1) (events ++ rest)) (let e : begun ≡ 0 + begun = omega arith in e)
-        (events_free begun round.events rest (All-head (AreOfGates (length net.gates)) round rounds inside) (All-head AreSmall round rounds small)
-        (λ k m p l. later k m p.tick l) (Some Round) (n + 1) in_round
-        (let width : length ((events ++ flat_map (round_lines net) rounds) ++ more) ≡ length (events ++ rest) = ap length same in omega (arith, size, width)))))
+        let width = ap length same in
+        let later : FreeAt Round begun rest = rounds_free begun rounds more (All-tail (AreWritable net) round rounds good) free in
+        step before begun begun n Round (codes "round" ∷ []) ((events ++ flat_map (round_lines net) rounds) ++ more)
+        (record { kind = refl; follows = may; words = refl; fault = λ n. refl }) (omega arith) size
+        (subst (Free (Some Round) begun (n + 1)) (sym same)
+        (events_free begun round.events rest (All-head (AreWritable net) round rounds good) (λ k m p l. later k m (event_is_in_tick k p) l) (Some Round) (n + 1) refl (omega (arith, size, width))))
 
-    tick_fine : (before : Option Kind) (begun : ℕ) → Open before → begun < ticks → IsFine before begun Tick (codes "tick" ∷ [])
-    tick_fine before begun place few = record {
-      kind = refl;
-      follows = place.tick;
-      words = refl;
-      fault = λ n. ap (λ (t : Bool). if t then None else Some (TickCount n)) (lt-ltb begun ticks few);
-    }
+    end_free : (begun : ℕ) → ticks ≡ begun → FreeAt Tick begun []
+    end_free begun all before n may size earlier at =
+        let enough : nat_lt begun ticks ≡ false = grind (arith, nat_tests) in
+        rw (at.before, at.begun, head_before Tick refl before may, enough) refl
 
-    end_free : (begun : ℕ) → ticks ≡ begun → FreeIn Open begun []
-    end_free begun all before n place size earlier at =
-        ap (λ o. fault_at_end ticks end o (ticks_begun earlier)) at.before
-        ∙ ap (fault_at_end ticks end before) at.begun
-        ∙ ap (λ (t : Bool). if t then Some (BadLine end) else (if nat_lt begun ticks then Some (TickCount end) else None)) place.whole
-        ∙ ap (λ (t : Bool). if t then Some (TickCount end) else None) (let none : nat_lt begun ticks ≡ false = grind (arith, nat_tests) in none)
-
-    ticks_free : (begun : ℕ) (ts : List (List RoundPlan)) → begun + length ts ≡ ticks → All (All (AreOfGates (length net.gates))) ts → TicksAreSmall ts
-        → FreeIn Open begun (flat_map (tick_lines net) ts)
-    ticks_free begun [] all inside small = end_free begun (omega (arith, all))
-    ticks_free begun (t ∷ ts) all inside small = λ before n place size.
+    ticks_free : (begun : ℕ) (ts : List (List RoundPlan)) → begun + length ts ≡ ticks → All (All (AreWritable net)) ts → FreeAt Tick begun (flat_map (tick_lines net) ts)
+    ticks_free begun [] all good = end_free begun (omega (arith, all))
+    ticks_free begun (t ∷ ts) all good = λ before n may size.
         let rest : List (List (List ℕ)) = flat_map (tick_lines net) ts in
-        let later : FreeIn Open (1 + begun) rest =
-        ticks_free (1 + begun) ts (omega (arith, all)) (All-tail (All (AreOfGates (length net.gates))) t ts inside) (All-tail (All AreSmall) t ts small) in
-        step before begun n Tick (codes "tick" ∷ []) (flat_map (round_lines net) t ++ rest) (tick_fine before begun place (omega (arith, all))) size
-        (rounds_free (1 + begun) t rest (All-head (All (AreOfGates (length net.gates))) t ts inside) (All-head (All AreSmall) t ts small)
-        (λ k m p l. later k m p.open' l) (Some Tick) (n + 1) in_tick (omega (arith, size)))
+        let later : FreeAt Tick (1 + begun) rest = ticks_free (1 + begun) ts (omega (arith, all)) (All-tail (All (AreWritable net)) t ts good) in
+        let few = lt-ltb begun ticks (omega (arith, all)) in
+        step before begun (1 + begun) n Tick (codes "tick" ∷ []) (flat_map (round_lines net) t ++ rest)
+        (record { kind = refl; follows = may; words = refl; fault = λ n. rw few refl }) refl size
+        (rounds_free (1 + begun) t rest (All-head (All (AreWritable net)) t ts good) (λ k m p l. later k m (round_is_in_tick k p) l) (Some Tick) (n + 1) refl (omega (arith, size)))
 
     -- ---- the head
 
-    past_fine : (before : Option Kind) (moment : List Bool) → InHead before → length moment ≡ count net → IsFine before 0 Past (past_line moment)
-    past_fine before moment place width = record { kind = refl; follows = place.past; words = words_are_bits moment; fault = λ n. width_is n (count net) moment width }
-
-    in_past : InHead (Some Past)
-    in_past = record { past = refl; latches = refl; state = refl }
-
-    in_window : InHead (Some Window)
-    in_window = record { past = refl; latches = refl; state = refl }
-
     past_free : (past : List (List Bool)) (more : List (List (List ℕ))) → All (λ (moment : List Bool). length moment ≡ count net) past
-        → FreeIn InHead 0 more → FreeIn InHead 0 (map past_line past ++ more)
+        → FreeAt Past 0 more → FreeAt Past 0 (map past_line past ++ more)
     past_free [] more widths free = free
-    past_free (moment ∷ past) more widths free = λ before n place size.
-        step before 0 n Past (past_line moment) (map past_line past ++ more) (past_fine before moment place (All-head (λ (m : List Bool). length m ≡ count net) moment past widths)) size
-        (past_free past more (All-tail (λ (m : List Bool). length m ≡ count net) moment past widths) free (Some Past) (n + 1) in_past (omega (arith, size)))
+    past_free (moment ∷ past) more widths free = λ before n may size.
+        let width = All-head (λ (m : List Bool). length m ≡ count net) moment past widths in
+        step before 0 0 n Past (past_line moment) (map past_line past ++ more)
+        (record { kind = refl; follows = may; words = words_are_bits moment; fault = λ n. width_is n (count net) moment width }) refl size
+        (past_free past more (All-tail (λ (m : List Bool). length m ≡ count net) moment past widths) free (Some Past) (n + 1) refl (omega (arith, size)))
 
-    abbrev start_kind : Bool → Kind
-    start_kind true = State
-    start_kind false = Latches
-
-    or_none : (a b : Option SchedFault) → a ≡ None → b ≡ None → option_or a b ≡ None
-    or_none a b ea eb = ap (λ o. option_or o b) ea ∙ eb
-
-    start_fine : (before : Option Kind) (free : Bool) (bits : List Bool) → InHead before → length bits ≡ length net.latches → (free ≡ false → IsInitialState net bits)
+    start_fine : (before : Option Kind) (free : Bool) (bits : List Bool) → may_follow before Past ≡ true → length bits ≡ length net.latches → (free ≡ false → IsInitialState net bits)
         → IsFine before 0 (start_kind free) (start_word free ∷ bits_words bits)
-    start_fine before true bits place width initial = record { kind = refl; follows = place.state; words = words_are_bits bits; fault = λ n. width_is n (length net.latches) bits width }
-    start_fine before false bits place width initial = record {
+    start_fine before true bits may width initial = record {
       kind = refl;
-      follows = place.latches;
+      follows = start_behind_past true before may;
       words = words_are_bits bits;
-      fault = λ n. or_none (width_fault n (length net.latches) (bits_of (bits_words bits))) (start_fault n net.latches (bits_of (bits_words bits)))
-          (width_is n (length net.latches) bits width) (start_is net n bits (initial refl));
+      fault = λ n. width_is n (length net.latches) bits width;
+    }
+    start_fine before false bits may width initial = record {
+      kind = refl;
+      follows = start_behind_past false before may;
+      words = words_are_bits bits;
+      fault = λ n. rw (width_is n (length net.latches) bits width) (start_is net n bits (initial refl));
     }
 
     gates_fine : (free : Bool) (bits : List Bool) → length bits ≡ length net.gates → IsFine (Some (start_kind free)) 0 Gates (codes "gates" ∷ bits_words bits)
-    gates_fine true bits width = record { kind = refl; follows = refl; words = words_are_bits bits; fault = λ n. width_is n (length net.gates) bits width }
-    gates_fine false bits width = record { kind = refl; follows = refl; words = words_are_bits bits; fault = λ n. width_is n (length net.gates) bits width }
-
-    open_gates : Open (Some Gates)
-    open_gates = record { tick = refl; whole = refl }
-
-    start_begun : (free : Bool) → cond (is_tick (start_kind free)) 1 0 + 0 ≡ 0
-    start_begun true = refl
-    start_begun false = refl
+    gates_fine free bits width = record {
+      kind = refl;
+      follows = by free;
+      words = words_are_bits bits;
+      fault = λ n. width_is n (length net.gates) bits width;
+    }
+      where
+        by : (free : Bool) → may_follow (Some (start_kind free)) Gates ≡ true
+        by true = refl
+        by false = refl
 
     start_free : (free : Bool) (latches gates : List Bool) (more : List (List (List ℕ))) → length latches ≡ length net.latches → length gates ≡ length net.gates → (free ≡ false → IsInitialState net latches)
-        → FreeIn Open 0 more → FreeIn InHead 0 ((start_word free ∷ bits_words latches) ∷ ((codes "gates" ∷ bits_words gates) ∷ more))
-    start_free free latches gates more width widths initial later before n place size =
-        step before 0 n (start_kind free) (start_word free ∷ bits_words latches) ((codes "gates" ∷ bits_words gates) ∷ more) (start_fine before free latches place width initial) size
-        (subst (λ b. Free (Some (start_kind free)) b (n + 1) ((codes "gates" ∷ bits_words gates) ∷ more)) (sym (start_begun free))
-        (step (Some (start_kind free)) 0 (n + 1) Gates (codes "gates" ∷ bits_words gates) more (gates_fine free gates widths) (omega (arith, size))
-        (later (Some Gates) (n + 1 + 1) open_gates (omega (arith, size)))))
+        → FreeAt Tick 0 more → FreeAt Past 0 ((start_word free ∷ bits_words latches) ∷ ((codes "gates" ∷ bits_words gates) ∷ more))
+    start_free free latches gates more width widths initial later before n may size =
+        step before 0 0 n (start_kind free) (start_word free ∷ bits_words latches) ((codes "gates" ∷ bits_words gates) ∷ more) (start_fine before free latches may width initial) (by free) size
+        (step (Some (start_kind free)) 0 0 (n + 1) Gates (codes "gates" ∷ bits_words gates) more (gates_fine free gates widths) refl (omega (arith, size))
+        (later (Some Gates) (n + 1 + 1) refl (omega (arith, size))))
+      where
+        by : (free : Bool) → 0 ≡ cond (is_tick (start_kind free)) 1 0 + 0
+        by true = refl
+        by false = refl
 
 -- a written schedule has no fault
-pub no_fault : (net : Parts) (schedule : Schedule) (end : ℕ) → IsNetlist net → FitsNetlist net (length schedule.ticks) schedule → IsSmall schedule.window → TicksAreSmall schedule.ticks
+pub no_fault : (net : Parts) (schedule : Schedule) (end : ℕ) → IsNetlist net → FitsNetlist net (length schedule.ticks) schedule → IsSmall schedule.window → All (All (AreWritable net)) schedule.ticks
     → 1 + length (lines_of net schedule) ≡ end → first_fault net (length schedule.ticks) end [] (numbered 1 (lines_of net schedule)) ≡ None
-no_fault net schedule end valid fits window small size =
+no_fault net schedule end valid fits window good size =
     let ticks : ℕ = length schedule.ticks in
     let tick_part : List (List (List ℕ)) = flat_map (tick_lines net) schedule.ticks in
     let start : List (List ℕ) = start_word schedule.free ∷ bits_words schedule.latches in
@@ -290,20 +234,15 @@ no_fault net schedule end valid fits window small size =
     let past : List (List (List ℕ)) = map past_line schedule.past in
     let rest : List (List (List ℕ)) = past ++ (start ∷ (gates ∷ tick_part)) in
     let same : (past ++ (start ∷ (gates ∷ []))) ++ tick_part ≡ rest = append_assoc past (start ∷ (gates ∷ [])) tick_part in
-    let width : length ((past ++ (start ∷ (gates ∷ []))) ++ tick_part) ≡ length rest = ap length same in
+    let width = ap length same in
     let window_word : List (List ℕ) = codes "window" ∷ decimal schedule.window ∷ [] in
     let format_word : List (List ℕ) = codes "schedule" ∷ codes "2" ∷ [] in
-    let later : FreeIn net ticks end (Open net ticks end) 0 tick_part = ticks_free net ticks end valid 0 schedule.ticks (omega arith) fits.events small in
-    let head : FreeIn net ticks end (InHead net ticks end) 0 rest =
+    let later : FreeAt net ticks end Tick 0 tick_part = ticks_free net ticks end valid 0 schedule.ticks (omega arith) good in
+    let head : FreeAt net ticks end Past 0 rest =
     past_free net ticks end valid schedule.past (start ∷ (gates ∷ tick_part)) fits.past (start_free net ticks end valid schedule.free schedule.latches schedule.gates tick_part fits.latches fits.gates fits.start later) in
-    let window_fine : IsFine net ticks end (Some FormatTwo) 0 Window window_word = record {
-      kind = refl;
-      follows = refl;
-      words = ap is_some (number_decimal schedule.window window);
-      fault = λ n. refl;
-    } in
-    let format_fine : IsFine net ticks end None 0 FormatTwo format_word = record { kind = refl; follows = refl; words = refl; fault = λ n. refl } in
-    step net ticks end None 0 1 FormatTwo format_word (window_word ∷ ((past ++ (start ∷ (gates ∷ []))) ++ tick_part)) format_fine (omega (arith, size))
-    (step net ticks end (Some FormatTwo) 0 2 Window window_word ((past ++ (start ∷ (gates ∷ []))) ++ tick_part) window_fine (omega (arith, size))
-    (subst (λ ws. Free net ticks end (Some Window) 0 3 ws) (sym same) (head (Some Window) 3 (in_window net ticks end valid) (omega (arith, size, width)))))
+    step net ticks end None 0 0 1 FormatTwo format_word (window_word ∷ ((past ++ (start ∷ (gates ∷ []))) ++ tick_part))
+    (record { kind = refl; follows = refl; words = refl; fault = λ n. refl }) refl (omega (arith, size))
+    (step net ticks end (Some FormatTwo) 0 0 2 Window window_word ((past ++ (start ∷ (gates ∷ []))) ++ tick_part)
+    (record { kind = refl; follows = refl; words = ap is_some (number_decimal schedule.window window); fault = λ n. refl }) refl (omega (arith, size))
+    (subst (Free net ticks end (Some Window) 0 3) (sym same) (head (Some Window) 3 refl (omega (arith, size, width)))))
     [] (record { before = refl; begun = refl })

@@ -3,6 +3,7 @@ mod AgeLemmas
 mod FaultlessLemmas
 mod FitLemmas
 mod GateLemmas
+mod LevelLemmas
 mod NamedLemmas
 mod NumberLemmas
 mod PieceLemmas

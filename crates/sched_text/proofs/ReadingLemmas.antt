@@ -1,5 +1,5 @@
 -- A schedule is read piece by piece.
-use Rattle.std.proofs.Common.{◌≡◌, ◌≢◌, ◌<◌, ◌≤◌, ℕ, ◌+◌, inl, inr, ◌⊎◌, Bool, cond, List, [], ◌++◌, length, drop, Some, None, Ok, Err, refl, sym, ap, subst, ◌∙◌, arith, length-append, length-drop, drop_of_length-le}
+use Rattle.std.proofs.Common.{◌≡◌, ◌≢◌, ◌<◌, ◌≤◌, ℕ, ◌+◌, inl, inr, ◌⊎◌, Bool, cond, List, [], ◌++◌, length, drop, Some, None, Ok, Err, refl, sym, ap, ◌∙◌, arith, length-append, length-drop, drop_of_length-le}
 use Rattle.sched_text.proofs.Common.{Option, Result, option_map, drop-cons, cases_lt, ne_eqb, Parts, Schedule, Line, end_number, line_at, SchedFault, BadLine, kind, is_tick, lacks_lines, is_cut_off, fault_at, fault_at_end, statement, schedule, Draft, new_draft, follow, ended, bad_line, ReadsPiece, FitsNetlist}
 use Rattle.std.specs.Prelude.{◌==◌, ◌&&◌}
 use Rattle.std.proofs.Math.Seq.{drop-append_seam}
@@ -13,7 +13,7 @@ use Rattle.sched_text.specs.Pieces.{lines_from, IsNext}
 use Rattle.sched_text.specs.ReadingOn.{ReadsAt, IsPieceOf, FailsPiece}
 use Rattle.sched_text.proofs.FitLemmas.{fits}
 use Rattle.sched_text.proofs.PieceLemmas.{numbered_few, rising, size_of_physical}
-use Rattle.sched_text.proofs.ScheduleLemmas.{at_start, at_next, at_fault, at_end, fault_at_the_end}
+use Rattle.sched_text.proofs.ScheduleLemmas.{at_start, at_next, at_fault, answers_end}
 
 -- ---- the lines of a piece
 
@@ -23,39 +23,30 @@ ends_here end line = (line.number == end) && lacks_lines (Some (kind line))
 
 module _ (net : Parts) (ticks end : ℕ) (piece : List Line) (place : Place) (draft : Draft) where
   pub nothing_read : ReadsPiece net ticks end piece place draft place draft 0
-  nothing_read lines base is reads =
-      let P : ℕ → Type 0 = λ n. ReadsAt net ticks end lines place draft n in
-      let e : base ≡ base + 0 = omega arith in
-      subst P e reads
+  nothing_read lines base is reads = let e : base + 0 ≡ base = omega arith in rw e reads
 
-  module _ (now : Place) (so_far : Draft) (i : ℕ) (cut_off : Bool) (before : ReadsPiece net ticks end piece place draft now so_far i)
-      (inside : i < length piece) (cut : cut_off ≡ ends_here end (line_at piece i)) where
-    cut_here : (lines : List Line) (base : ℕ) → IsPieceOf end lines base piece → cut_off ≡ is_cut_off end (line_at lines (base + i)) (drop (base + i + 1) lines)
-    cut_here lines base is =
-        let within = is.within in
-        cut ∙ ap (ends_here end) (sym (is.same i inside)) ∙ sym (is.ends (base + i) (omega arith))
+  module _ (now : Place) (so_far : Draft) (i : ℕ) (before : ReadsPiece net ticks end piece place draft now so_far i) (inside : i < length piece) where
+    cut_here : (lines : List Line) (base : ℕ) → IsPieceOf end lines base piece
+        → is_cut_off end (line_at lines (base + i)) (drop (base + i + 1) lines) ≡ ends_here end (line_at lines (base + i))
+    cut_here lines base is = let within = is.within in is.ends (base + i) (omega arith)
 
-    pub piece_next : (next : Place) (after : Draft) → fault_at net ticks now.before now.begun cut_off (line_at piece i) ≡ None
+    pub piece_next : (next : Place) (after : Draft) → fault_at net ticks now.before now.begun (ends_here end (line_at piece i)) (line_at piece i) ≡ None
         → after ≡ follow so_far (statement net (line_at piece i))
-        → next.before ≡ Some (kind (line_at piece i)) → next.begun ≡ cond (is_tick (kind (line_at piece i))) 1 0 + now.begun
+        → next.before ≡ Some (kind (line_at piece i)) → next.begun ≡ cond (is_tick (kind (line_at piece i))) 1 0 + now.begun → next.begun ≤ now.begun + 1
         → ReadsPiece net ticks end piece place draft next after (i + 1)
-    piece_next next after none said is_behind count lines base is reads =
+    piece_next next after none said behind count one lines base is reads =
         let within = is.within in
-        let same : line_at piece i ≡ line_at lines (base + i) = sym (is.same i inside) in
-        let P : ℕ → Type 0 = λ n. ReadsAt net ticks end lines next after n in
-        let e : base + i + 1 ≡ base + (i + 1) = omega arith in
-        subst P e
-        (at_next net ticks end lines now next so_far after (base + i) cut_off (before lines base is reads) (omega arith) (cut_here lines base is)
-        (ap (fault_at net ticks now.before now.begun cut_off) (sym same) ∙ none)
-        (said ∙ ap (λ line. follow so_far (statement net line)) same)
-        (is_behind ∙ ap (λ line. Some (kind line)) same)
-        (count ∙ ap (λ line. cond (is_tick (kind line)) 1 0 + now.begun) same))
+        let same = is.same i inside in
+        let e : base + (i + 1) ≡ base + i + 1 = omega arith in
+        rw e
+        (at_next net ticks end lines now next so_far after (base + i) (ends_here end (line_at lines (base + i))) (before lines base is reads) (omega arith) (cut_here lines base is)
+        (rw same none) (rw same said) (rw same behind) (rw same count) one)
 
-    pub piece_fault : (fault : SchedFault) → fault_at net ticks now.before now.begun cut_off (line_at piece i) ≡ Some fault → FailsPiece net ticks end piece place draft fault
+    pub piece_fault : (fault : SchedFault) → fault_at net ticks now.before now.begun (ends_here end (line_at piece i)) (line_at piece i) ≡ Some fault → FailsPiece net ticks end piece place draft fault
     piece_fault fault some lines base is reads =
         let within = is.within in
-        at_fault net ticks end lines now so_far (base + i) cut_off fault (before lines base is reads) (omega arith) (cut_here lines base is)
-        (ap (fault_at net ticks now.before now.begun cut_off) (is.same i inside) ∙ some)
+        let same = is.same i inside in
+        at_fault net ticks end lines now so_far (base + i) (ends_here end (line_at lines (base + i))) fault (before lines base is reads) (omega arith) (cut_here lines base is) (rw same some)
 
 -- ---- the pieces of a text
 
@@ -170,10 +161,10 @@ module _ (net : Parts) (ticks end : ℕ) (text : List ℕ) (end_is : end ≡ end
       good_last = good (ap (bad_line (done + 1)) nothing)
 
       pub read_last : fault_at_end ticks end place.before place.begun ≡ None → schedule_read text net ticks ≡ Ok (ended draft)
-      read_last none = good_last ∙ at_end net ticks end all_lines place draft at.base at.reads over none
+      read_last none = good_last ∙ answers_end net ticks end all_lines place draft at.base None at.reads over none
 
       pub fails_last : (fault : SchedFault) → fault_at_end ticks end place.before place.begun ≡ Some fault → schedule_read text net ticks ≡ Err fault
-      fails_last fault is = good_last ∙ fault_at_the_end net ticks end all_lines place draft at.base fault at.reads over is
+      fails_last fault is = good_last ∙ answers_end net ticks end all_lines place draft at.base (Some fault) at.reads over is
 
 -- what is read fits the netlist
 pub fits_read : (net : Parts) (ticks : ℕ) (text : List ℕ) (found : Schedule) → schedule_read text net ticks ≡ Ok found → FitsNetlist net ticks found

@@ -1,5 +1,5 @@
 -- The answer that there is once the lines that are left are read, and what vectors are like.
-use Rattle.std.proofs.Common.{◌≡◌, ◌≢◌, ◌≤◌, ◌<◌, ℕ, suc, ◌+◌, Bool, true, false, List, [], ◌∷◌, ◌++◌, All, length, drop, map, Some, None, Ok, Err, refl, sym, ap, subst, ◌∙◌, arith, drop_of_length-le, eqb-true}
+use Rattle.std.proofs.Common.{◌≡◌, ◌≢◌, ◌≤◌, ◌<◌, ℕ, suc, ◌+◌, Bool, true, false, List, [], ◌∷◌, ◌++◌, All, length, drop, map, Some, None, Ok, Err, refl, sym, ap, subst, ◌∙◌, add-one, drop_of_length-le, eqb-true}
 use Rattle.sched_text.proofs.Common.{Option, Result, codes, if◌then◌else◌, list_all, option_or, drop-cons, length-map, All-nil, All-cons, Line, line_at, SchedFault, unless, BadLine, WrongWidth, value_of}
 use Rattle.std.specs.Prelude.{◌||◌, ◌==◌, bytes_eq}
 use Rattle.std.proofs.lemmas.Bool.{and_parts}
@@ -24,10 +24,7 @@ fault_here : (width : ℕ) (unknowns : Bool) (lines : List Line) (done : List (L
     → ReadsAt width unknowns lines done i → i < length lines → vector_fault width unknowns (line_at lines i) ≡ found
     → unless (option_or found (first_fault width unknowns (drop (suc i) lines))) (done ++ vector_of width (line_at lines i) ∷ vectors_of width (drop (suc i) lines)) ≡ vectors width unknowns lines
 fault_here width unknowns lines done i found at inside is =
-    let rest = drop (suc i) lines in
-    ap (λ f. unless (option_or f (first_fault width unknowns rest)) (done ++ vector_of width (line_at lines i) ∷ vectors_of width rest)) (sym is)
-    ∙ ap (answer width unknowns done) (sym (lines_here lines i inside))
-    ∙ at.answers
+    rw (← is) (ap (answer width unknowns done) (sym (lines_here lines i inside)) ∙ at.answers)
 
 pub at_next : (width : ℕ) (unknowns : Bool) (lines : List Line) (done now : List (List Trit)) (i : ℕ)
     → ReadsAt width unknowns lines done i → i < length lines → vector_fault width unknowns (line_at lines i) ≡ None
@@ -35,15 +32,11 @@ pub at_next : (width : ℕ) (unknowns : Bool) (lines : List Line) (done now : Li
     → ReadsAt width unknowns lines now (i + 1)
 at_next width unknowns lines done now i at inside none is =
     let rest = drop (suc i) lines in
-    let v = vector_of width (line_at lines i) in
-    let e : suc i ≡ i + 1 = omega arith in
-    let P : List (List Trit) → Type 0 = λ found. ReadsAt width unknowns lines found (i + 1) in
-    let Q : ℕ → Type 0 = λ k. ReadsAt width unknowns lines (done ++ v ∷ []) k in
-    subst P (sym is) (subst Q e (record {
+    rw (is, add-one i) (record {
       answers =
-          ap (unless (first_fault width unknowns rest)) (append_assoc done (v ∷ []) (vectors_of width rest))
+          ap (unless (first_fault width unknowns rest)) (append_assoc done (vector_of width (line_at lines i) ∷ []) (vectors_of width rest))
           ∙ fault_here width unknowns lines done i None at inside none;
-    }))
+    })
 
 pub at_fault : (width : ℕ) (unknowns : Bool) (lines : List Line) (done : List (List Trit)) (i : ℕ) (found : SchedFault)
     → ReadsAt width unknowns lines done i → i < length lines → vector_fault width unknowns (line_at lines i) ≡ Some found
@@ -88,15 +81,13 @@ width_of_word : (width : ℕ) (n : ℕ) (word : List ℕ) (dash good fits : Bool
     → (if dash then None else (if good then (if fits then None else Some (WrongWidth n)) else Some (BadLine n))) ≡ None
     → length (if dash then [] else map value_of word) ≡ width
 width_of_word width n word true good fits d e none = sym (eqb-true width 0 (and_parts (width == 0) (bytes_eq word (codes "-")) d).0)
-width_of_word width n word false false fits d e none = absurd (cc none)
-width_of_word width n word false true false d e none = absurd (cc none)
 width_of_word width n word false true true d e none = length-map word value_of ∙ eqb-true (length word) width e
+width_of_word width n word dash good fits d e none = absurd (cc none)
 
 width_of_words : (width : ℕ) (unknowns : Bool) (n : ℕ) (words : List (List ℕ)) → words_fault width unknowns n words ≡ None → length (vector_of_words width words) ≡ width
-width_of_words width unknowns n [] none = absurd (cc none)
 width_of_words width unknowns n (word ∷ []) none =
     width_of_word width n word (is_dash width word) (list_all (is_value unknowns) word) (length word == width) refl refl none
-width_of_words width unknowns n (word ∷ next ∷ rest) none = absurd (cc none)
+width_of_words width unknowns n words none = absurd (cc none)
 
 pub have_width : (width : ℕ) (unknowns : Bool) (lines : List Line) (found : List (List Trit)) → vectors width unknowns lines ≡ Ok found → HaveWidth width found
 have_width width unknowns lines found is =
@@ -122,12 +113,10 @@ known_word width n word false false fits g none = absurd (cc none)
 known_word width n word false true fits g none = known_values word g
 
 known_words : (width n : ℕ) (words : List (List ℕ)) → words_fault width false n words ≡ None → All (λ value. value ≢ X) (vector_of_words width words)
-known_words width n [] none = absurd (cc none)
 known_words width n (word ∷ []) none =
     known_word width n word (is_dash width word) (list_all (is_value false) word) (length word == width) refl none
-known_words width n (word ∷ next ∷ rest) none = absurd (cc none)
+known_words width n words none = absurd (cc none)
 
 pub are_known : (width : ℕ) (unknowns : Bool) (lines : List Line) (found : List (List Trit)) → unknowns ≡ false → vectors width unknowns lines ≡ Ok found → AreKnown found
 are_known width unknowns lines found boolean is =
-    let P : Bool → Type 0 = λ u. vectors width u lines ≡ Ok found in
-    each_read width false (All (λ value. value ≢ X)) (λ line none. known_words width line.number line.words none) lines found (subst P boolean is)
+    each_read width false (All (λ value. value ≢ X)) (λ line none. known_words width line.number line.words none) lines found (rw boolean at is)

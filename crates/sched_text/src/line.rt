@@ -105,7 +105,7 @@ impl<'a> LineReader<'a> {
         line: &PieceLine<'_>,
     ) -> Result<Statement, SchedFault>
         requires { kind ≡ kind_of_line line.now }
-        ensures { Reads result (fault_at self.now.net.now self.now.ticks place.before place.begun ((line.now.number == self.now.end) && lacks_lines_behind (Some kind)) line.now) (statement self.now.net.now line.now) }
+        ensures { Reads result (fault_at self.now.net.now self.now.ticks place.before place.begun ((line.now.number == self.now.end) && lacks_lines_behind (Some (kind_of_line line.now))) line.now) (statement self.now.net.now line.now) }
     {
         if self.is_cut_off(kind, line) || !may_follow(place.before, kind) {
             return Err(line.bad_line());

@@ -1,5 +1,5 @@
 // Where a line of a schedule lies.
-ghost use Rattle.std.specs.Prelude.{◌≡◌, ◌+◌, ◌<◌, cond, Some, []};
+ghost use Rattle.std.specs.Prelude.{◌≡◌, ◌+◌, ◌<◌, ◌≤◌, cond, Some, []};
 ghost use Rattle.std.specs.Result.{result_err};
 ghost use Rattle.sched_text.specs.Kinds.{is_tick};
 ghost use Rattle.sched_text.specs.LineFaults.{fault_at_end, place_behind};
@@ -30,6 +30,7 @@ impl Place {
         requires { self.begun < 18446744073709551615 }
         ensures before { result.before ≡ Some kind }
         ensures begun { result.begun ≡ cond (is_tick kind) 1 0 + self.begun }
+        ensures few { result.begun ≤ self.begun + 1 }
     {
         let begun = match kind {
             Kind::Tick => self.begun + 1,
