@@ -1,6 +1,6 @@
 -- Which indices a sweep marks: those of the roots, and of all that they lead to.
-use Rattle.std.proofs.Common.{◌≡◌, ℕ, suc, ◌+◌, ◌-◌, ◌<◌, ◌≤◌, Bool, true, false, List, ◌∷◌, length, get_or, set, slice_get, Option, Some, Contains, replicate, refl, sym, ap, subst, ◌∙◌, inl, inr, ◌⊎◌, arith, length-set, get_or-set_same, get_or-set_other, true≢false, add-one}
-use Rattle.std.proofs.lemmas.List.{get_or_past, get_or-replicate, length-replicate}
+use Rattle.std.proofs.Common.{◌≡◌, ℕ, zero, suc, ◌+◌, ◌-◌, ◌<◌, ◌≤◌, Bool, true, false, List, ◌∷◌, length, get_or, set, slice_get, Option, Some, Contains, replicate, refl, sym, ap, subst, ◌∙◌, inl, inr, ◌⊎◌, arith, length-set, get_or-set_same, get_or-set_other, true≢false, add-one}
+use Rattle.std.proofs.lemmas.List.{get_or_past}
 use Rattle.std.proofs.lemmas.Bool.{cases_eq, cases_lt}
 use Rattle.std.proofs.lemmas.Option.{same_Some, slice_get_within, slice_get-get_or}
 use Rattle.slab.proofs.SlabLemmas.{Contains-cons, Contains-cons_cases, Contains-entries}
@@ -128,13 +128,19 @@ WaysAreMarked-read es old now i a b d earlier long some within a_is b_is marked 
 
 -- ---- both together
 
-pub AreMarks-from : (roots : List (Option Node)) (es : List Entry) (first second marks : List Bool) → (length marks ≡ length es + 1) → is_marked_at first 0 ≡ true → ((i : ℕ) → is_marked_at first (suc i) ≡ false) → MarksRoots roots first second → MarksWays es second marks → AreMarks roots es marks
-AreMarks-from roots es first second marks long constants none by_roots by_ways = record {
+none_marked : (n i : ℕ) → is_marked_at (replicate n false) i ≡ false
+none_marked zero i = refl
+none_marked (suc n) zero = refl
+none_marked (suc n) (suc i) = none_marked n i
+
+-- at first the constants alone are marked
+pub AreMarks-from : (roots : List (Option Node)) (es : List Entry) (first second marks : List Bool) → (length marks ≡ length es + 1) → first ≡ set (replicate (length es + 1) false) 0 true → MarksRoots roots first second → MarksWays es second marks → AreMarks roots es marks
+AreMarks-from roots es first second marks long is by_roots by_ways = record {
   long = long;
-  constants = by_ways.keeps 0 (by_roots.keeps 0 constants);
+  constants = by_ways.keeps 0 (by_roots.keeps 0 (rw (is, add-one (length es)) refl));
   entries = λ p. (
     λ marked. let from = by_ways.only p marked in elim (by_roots.only (suc from.0) from.1) [
-      | inl before ↦ absurd (true≢false (sym before ∙ none from.0))
+      | inl before ↦ absurd (true≢false (sym before ∙ rw (is, add-one (length es)) (none_marked (length es) from.0)))
       | inr root ↦ record { key = root.0; node = root.1; first = from.0; root = root.2; entry = root.3; way = from.2 }
     ],
     λ reached. marked_along p reached.way (ap (is_marked_at second) (sym reached.entry) ∙ by_roots.each reached.key reached.node reached.root),
@@ -144,14 +150,3 @@ AreMarks-from roots es first second marks long constants none by_roots by_ways =
     marked_along : {q : ℕ} (p : ℕ) → LeadsTo es q p → is_marked_at second (suc q) ≡ true → is_marked_at marks (suc p) ≡ true
     marked_along {q} p here from = by_ways.keeps (suc q) from
     marked_along {q} p (further k r way step) from = by_ways.closed k p (marked_along k way from) step
-
--- ---- at first the constants alone are marked
-
-pub first-marked : (n : ℕ) → is_marked_at (set (replicate (n + 1) false) 0 true) 0 ≡ true
-first-marked n = get_or-set_same (replicate (n + 1) false) 0 true false (omega (arith, length-replicate (n + 1) false))
-
-pub first-unmarked : (n i : ℕ) → is_marked_at (set (replicate (n + 1) false) 0 true) (suc i) ≡ false
-first-unmarked n i = get_or-set_other (replicate (n + 1) false) 0 (suc i) true false (omega arith) ∙ elim (cases_lt (suc i) (n + 1)) [
-  | inl l ↦ get_or-replicate (n + 1) (suc i) false false l
-  | inr past ↦ get_or_past (replicate (n + 1) false) (suc i) false (omega (arith, length-replicate (n + 1) false))
-]
