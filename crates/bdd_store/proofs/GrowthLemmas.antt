@@ -99,11 +99,7 @@ IsRefusedPart-made s t f e full absent = subst (λ (u : Arena). IsRefusedPart u 
 
 -- a bit chooses between the constants
 pub choice-bit : (s : Arena) (var : ℕ) (lo hi : Node) → ((bits : List Bool) → den s lo bits ≡ false) → ((bits : List Bool) → den s hi bits ≡ true) → (bits : List Bool) → choice s var lo hi bits ≡ get_or bits var false
-choice-bit s var lo hi low high bits = by (get_or bits var false)
-  where
-    by : (c : Bool) → (if c then den s hi bits else den s lo bits) ≡ c
-    by true = high bits
-    by false = low bits
+choice-bit s var lo hi low high bits = elim (get_or bits var false) as (λ c. (if c then den s hi bits else den s lo bits) ≡ c) [ true ↦ high bits | false ↦ low bits ]
 
 -- ---- how many
 
@@ -165,16 +161,13 @@ module _ (a : Arena) (canonical : IsCanonical a) (f : List Bool → Bool) where
     IsFound i = (p : Picked i) × (base ≤ i → i < base + added → IsPart a.vars f (den a p.0))
 
     found : (i : ℕ) → IsFound i
-    found i = elim (cases_lt i base) [
-      | inl low ↦ (numbered i, λ l h. absurd (omega (arith, low, l)))
-      | inr high ↦ elim (cases_lt i (base + added)) [
-        | inr past ↦ (numbered i, λ l h. absurd (omega (arith, past, h)))
-        | inl inside ↦ elim (parts (numbered i).0 (omega (arith, (numbered i).1, inside, more))) [
-          | inl was ↦ absurd (omega (arith, was, (numbered i).1, high))
-          | inr at ↦ elim at [
-            | inl part ↦ (numbered i, λ l h. part)
-            | inr part ↦ ((complemented (numbered i).0, index-complemented (numbered i).0 ∙ (numbered i).1), λ l h. part)
-          ]
+    found i = elim (cases_lt (length a.entries) i) [
+      | inl past ↦ (numbered i, λ l h. absurd (omega (arith, past, h, more)))
+      | inr in_i ↦ elim (parts (numbered i).0 (omega (arith, (numbered i).1, in_i))) [
+        | inl was ↦ (numbered i, λ l h. absurd (omega (arith, was, (numbered i).1, l)))
+        | inr at ↦ elim at [
+          | inl part ↦ (numbered i, λ l h. part)
+          | inr part ↦ ((complemented (numbered i).0, index-complemented (numbered i).0 ∙ (numbered i).1), λ l h. part)
         ]
       ]
     ]
@@ -206,16 +199,13 @@ module _ (a : Arena) (canonical : IsCanonical a) (f : List Bool → Bool) where
 
 -- what an operation whose new nodes are parts adds
 pub added-parts : (old new : Arena) (f : List Bool → Bool) → IsLawful new → KeepsNodes old new → NewAreParts old new f → AddsAtMost old new (nodes old.vars f)
-added-parts old new f lawful kept parts =
-    subst (λ v. length new.entries ≤ length old.entries + nodes v f) kept.vars
-    (count-parts new lawful.canonical f lawful.constants old kept.more (λ n in_n. subst (λ v. IsNodeOf old n ⊎ IsPartAt v f new n) (sym kept.vars) (parts.each n in_n)))
+added-parts old new f lawful kept parts = rw (← kept.vars) (count-parts new lawful.canonical f lawful.constants old kept.more (λ n in_n. rw kept.vars (parts.each n in_n)))
 
 -- and when it is refused
 pub refused-parts : (old new : Arena) (f : List Bool → Bool) → IsLawful new → KeepsNodes old new → NewAreParts old new f → IsRefusedPart new f → IsFullOnlyPast old new (nodes old.vars f)
 refused-parts old new f lawful kept parts r =
-    let past = subst (λ v. length new.entries < length old.entries + nodes v f) kept.vars
-    (count-refused new lawful.canonical f lawful.constants old kept.more (λ n in_n. subst (λ v. IsNodeOf old n ⊎ IsPartAt v f new n) (sym kept.vars) (parts.each n in_n)) r.part r.is_part r.absent) in
-    record { full = r.full; past = omega (arith, past, r.full) }
+    let past = count-refused new lawful.canonical f lawful.constants old kept.more (λ n in_n. rw kept.vars (parts.each n in_n)) r.part r.is_part r.absent in
+    record { full = r.full; past = omega (arith, rw kept.vars at past, r.full) }
 
 -- ---- what a call does, where so many nodes are its bound
 

@@ -14,7 +14,7 @@ use Rattle.bdd_store.specs.Branches.{branch}
 use Rattle.bdd_store.specs.Soundness.{IsSoundEntry, IsSound}
 use Rattle.bdd_store.specs.Growth.{KeepsNodes, IsEntered, IsRefused, IsNewFunction}
 use Rattle.bdd_store.proofs.NodeLemmas.{same_entry, flipped-twice, flipped-marks, flipped-own, index-complemented_if, is_marked-complemented_if, is_marked-own, complemented_if-twice, plain}
-use Rattle.bdd_store.proofs.ValueLemmas.{branch_both, value_at-entry, slice_get-append_left, slice_get-last, value_at-append, top_at-append, top_at-entry, node_value-complemented_if}
+use Rattle.bdd_store.proofs.ValueLemmas.{branch_both, value_at-entry, slice_get-last, value_at-append, top_at-append, top_at-entry, node_value-complemented_if}
 use Rattle.bdd_store.proofs.CanonicalLemmas.{early, IsCanonical-sound}
 
 -- an entry of a longer list is there already or is the last

@@ -24,10 +24,7 @@ mark-keeps marks j i h = elim (cases_eq i j) [
 ]
 
 mark-only : (marks : List Bool) (j i : ℕ) → is_marked_at (set marks j true) i ≡ true → (i ≡ j) ⊎ (is_marked_at marks i ≡ true)
-mark-only marks j i h = elim (cases_eq i j) [
-  | inl same ↦ inl same
-  | inr apart ↦ inr (sym (get_or-set_other marks j i true false apart) ∙ h)
-]
+mark-only marks j i h = elim (cases_eq i j) [ inl same ↦ inl same | inr apart ↦ inr (rw (get_or-set_other marks j i true false apart) at h) ]
 
 -- ---- the roots
 
@@ -40,19 +37,19 @@ pub record RootsAreMarked (roots : List (Option Node)) (left : List (ℕ × Node
 
 -- a root that is left
 pub RootsAreMarked-first : (roots : List (Option Node)) (left rest : List (ℕ × Node)) (key : ℕ) (n : Node) (old now : List Bool) → left ≡ (key, n) ∷ rest → RootsAreMarked roots left old now → root_in roots key ≡ Some n
-RootsAreMarked-first roots left rest key n old now at was = was.left_are key n (subst (λ xs. Contains xs (key, n)) (sym at) (0, omega arith, refl))
+RootsAreMarked-first roots left rest key n old now at was = was.left_are key n (rw at (0, omega arith, refl))
 
 pub RootsAreMarked-start : (roots : Slab Node) (left : List (ℕ × Node)) (marks : List Bool) → left ≡ entries roots → RootsAreMarked roots.slots left marks marks
 RootsAreMarked-start roots left marks all = record {
-  left_are = λ key n has. (Contains-entries roots key n).0 (subst (λ xs. Contains xs (key, n)) all has);
+  left_are = λ key n has. (Contains-entries roots key n).0 (rw all at has);
   keeps = λ i h. h;
-  each = λ key n found. inl (subst (λ xs. Contains xs (key, n)) (sym all) ((Contains-entries roots key n).1 found));
+  each = λ key n found. inl (rw all ((Contains-entries roots key n).1 found));
   only = λ i h. inl h;
 }
 
 pub RootsAreMarked-next : (roots : List (Option Node)) (left rest : List (ℕ × Node)) (key : ℕ) (n : Node) (old now : List Bool) → left ≡ (key, n) ∷ rest → index n < length now → RootsAreMarked roots left old now → RootsAreMarked roots rest old (set now (index n) true)
 RootsAreMarked-next roots left rest key n old now at within was = record {
-  left_are = λ k m has. was.left_are k m (subst (λ xs. Contains xs (k, m)) (sym at) (Contains-cons (key, n) (k, m) rest has));
+  left_are = λ k m has. was.left_are k m (rw at (Contains-cons (key, n) (k, m) rest has));
   keeps = λ i h. mark-keeps now (index n) i (was.keeps i h);
   each = λ k m found. elim (was.each k m found) [
     | inl has ↦ elim (Contains-cons_cases (key, n) (k, m) rest (subst (λ xs. Contains xs (k, m)) at has)) [
@@ -101,10 +98,10 @@ WaysAreMarked-mark es old now p e at long within low high marked was =
             let is : k ≡ p = omega arith in
             let entry : has.0 ≡ e = same_Some has.0 e (sym has.1 ∙ ap (slice_get es) is ∙ at) in
             elim has.2 [
-              | inl lo ↦ let is_lo : index e.lo ≡ suc q = ap (λ (x : Entry). index x.lo) (sym entry) ∙ lo in
-                  mark-keeps mid (index e.hi) (suc q) (ap (is_marked_at mid) (sym is_lo) ∙ get_or-set_same now (index e.lo) true false (omega arith))
-              | inr hi ↦ let is_hi : index e.hi ≡ suc q = ap (λ (x : Entry). index x.hi) (sym entry) ∙ hi in
-                  ap (is_marked_at new) (sym is_hi) ∙ get_or-set_same mid (index e.hi) true false (omega (arith, length-set now (index e.lo) true))
+              | inl lo ↦ let is_lo : suc q ≡ index e.lo = sym lo ∙ ap (λ (x : Entry). index x.lo) entry in
+                  mark-keeps mid (index e.hi) (suc q) (rw is_lo (get_or-set_same now (index e.lo) true false (omega arith)))
+              | inr hi ↦ let is_hi : suc q ≡ index e.hi = sym hi ∙ ap (λ (x : Entry). index x.hi) entry in
+                  rw is_hi (get_or-set_same mid (index e.hi) true false (omega (arith, length-set now (index e.lo) true)))
             ]
       ];
       only = λ q h. elim (mark-only mid (index e.hi) (suc q) h) [
@@ -119,12 +116,10 @@ WaysAreMarked-mark es old now p e at long within low high marked was =
 -- the same as code reads it, which counts down to the entry
 pub WaysAreMarked-read : (es : List Entry) (old now : List Bool) (i a b : ℕ) (d : Entry) → ((p : ℕ) (e : Entry) → slice_get es p ≡ Some e → (index e.lo ≤ p) × (index e.hi ≤ p)) → length now ≡ length es + 1 → 1 ≤ i → i ≤ length es → a ≡ index (get_or es (i - 1) d).lo → b ≡ index (get_or es (i - 1) d).hi → is_marked_at now (i - 1 + 1) ≡ true → WaysAreMarked es old now i → WaysAreMarked es old (set (set now a true) b true) (i - 1)
 WaysAreMarked-read es old now i a b d earlier long some within a_is b_is marked was =
-    let e = get_or es (i - 1) d in
-    let at : slice_get es (i - 1) ≡ Some e = slice_get-get_or es (i - 1) d (omega arith) in
-    let early = earlier (i - 1) e at in
+    let at = slice_get-get_or es (i - 1) d (omega arith) in
+    let early = earlier (i - 1) (get_or es (i - 1) d) at in
     let is : i ≡ i - 1 + 1 = omega arith in
-    let new : WaysAreMarked es old (set (set now (index e.lo) true) (index e.hi) true) (i - 1) = WaysAreMarked-mark es old now (i - 1) e at long (omega arith) early.0 early.1 marked (subst (WaysAreMarked es old now) is was) in
-    subst (λ k. WaysAreMarked es old (set (set now k true) b true) (i - 1)) (sym a_is) (subst (λ k. WaysAreMarked es old (set (set now (index e.lo) true) k true) (i - 1)) (sym b_is) new)
+    rw (a_is, b_is) (WaysAreMarked-mark es old now (i - 1) (get_or es (i - 1) d) at long (omega arith) early.0 early.1 marked (subst (WaysAreMarked es old now) is was))
 
 -- ---- both together
 

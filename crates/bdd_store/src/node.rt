@@ -1,6 +1,5 @@
 ghost use Rattle.std.specs.Prelude.{◌≡◌, ◌↔◌, ℕ, ◌≤◌, Bool, List, not, IsTrue};
 ghost use Rattle.bdd_store.specs.Arena.{Arena, index, is_marked, complemented, complemented_if, flipped, constant, den, top_of, IsNodeOf, IsBranching};
-ghost use Rattle.bdd_store.specs.Branches.{branch};
 
 /// A node of a store: a constant, or a position of its unique table, each with or without a mark. A mark
 /// negates the function. The number is twice the index, and one more where there is no mark, as literals are
@@ -92,13 +91,4 @@ pub struct Entry {
     pub(crate) var: u32,
     pub(crate) lo: Node,
     pub(crate) hi: Node,
-}
-
-impl Entry {
-    // The branch where the bit at the variable is `bit`.
-    pub(crate) fn branch(self, bit: bool) -> Node
-        ensures { result ≡ branch self bit }
-    {
-        if bit { self.hi } else { self.lo }
-    }
 }

@@ -30,10 +30,8 @@ fn enter(entries: &mut IndexSet<Entry>, limit: u32, entry: Entry) -> Result<u32,
     ensures err { OnErr result (entries.new.keys ≡ entries.old.keys) }
 {
     if entries.len() < limit as usize {
-        match entries.insert_full(entry) {
-            Ok((at, _)) => Ok(at as u32),
-            Err(_) => Err(StoreFault::Memory),
-        }
+        let (at, _) = entries.insert_full(entry)?;
+        Ok(at as u32)
     } else {
         match entries.get_index_of(&entry) {
             Some(at) => Ok(at as u32),
@@ -254,7 +252,9 @@ impl Store {
         requires branching { IsBranching n }
         ensures { IsBranch self.now.vars self.now.entries n bit result }
     {
-        self.entry(n).branch(bit).complement_if(n.is_marked())
+        let entry = self.entry(n);
+        let branch = if bit { entry.hi } else { entry.lo };
+        branch.complement_if(n.is_marked())
     }
 
     /// The node without a mark whose entry was made after so many others.

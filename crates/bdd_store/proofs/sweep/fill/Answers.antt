@@ -1,4 +1,4 @@
-use Rattle.std.proofs.Common.{◌≡◌, ◌+◌, ◌∙◌, ap, add-one, arith, length, get_or, List, ℕ, replicate}
+use Rattle.std.proofs.Common.{◌≡◌, ◌∙◌, ap, add-one, arith, length, get_or, List, ℕ, replicate}
 use Rattle.std.proofs.lemmas.List.{length-replicate}
 use Rattle.std.proofs.lemmas.Option.{slice_get-get_or}
 use Rattle.bdd_store.proofs.ValueLemmas.{no_entry}
