@@ -1,11 +1,6 @@
 -- What code reads of a node's entry: its variable, and its branches under the node's mark.
 use Rattle.std.proofs.Common.{◌≡◌, ℕ, suc, ◌-◌, ◌<◌, ◌≤◌, Bool, true, false, List, length, get_or, slice_get, Some, sym, ap, ◌∙◌, arith}
-use Rattle.std.proofs.lemmas.Option.{slice_get-get_or, slice_get_within}
-use Rattle.bdd_store.specs.declared.node.Node.{Node}
-use Rattle.bdd_store.specs.declared.node.Entry.{Entry}
-use Rattle.bdd_store.specs.Arena.{index, is_marked, complemented_if, flipped, value_at, node_value, top_at}
-use Rattle.bdd_store.specs.Soundness.{IsSound}
-use Rattle.bdd_store.specs.Branches.{branch}
+use Rattle.bdd_store.proofs.Common.{slice_get-get_or, slice_get_within, Node, Entry, index, is_marked, complemented_if, flipped, value_at, node_value, top_at, IsSound, branch}
 pub use Rattle.bdd_store.specs.Branches.{IsBranch}
 use Rattle.bdd_store.proofs.NodeLemmas.{index-complemented_if}
 use Rattle.bdd_store.proofs.ValueLemmas.{branch_low, value_at-entry, top_at-entry, node_value-complemented_if}

@@ -2,12 +2,8 @@
 -- where all bits are 1, since no high branch has a mark: so equal functions have equal marks.
 use Rattle.std.proofs.Common.{◌≡◌, ℕ, zero, suc, ◌+◌, ◌-◌, ◌<◌, ◌≤◌, Bool, true, false, List, length, drop, get_or, set, slice_get, replicate, Some, refl, sym, ap, ◌∙◌, inl, inr, ◌⊎◌, arith, length-set, get_or-set_same}
 use Rattle.std.proofs.lemmas.List.{length-replicate, get_or-drop, get_or-replicate, drop-set-lt}
-use Rattle.std.proofs.lemmas.Bool.{cases_lt}
-use Rattle.bdd_store.specs.declared.node.Node.{Node}
-use Rattle.bdd_store.specs.declared.node.Entry.{Entry}
-use Rattle.bdd_store.specs.Arena.{Arena, index, is_marked, flipped, value_at, node_value, top_at, chosen}
-use Rattle.bdd_store.specs.Branches.{branch}
-use Rattle.bdd_store.specs.Soundness.{IsSound, AreWithin, IsCanonical, IsLawful}
+use Rattle.bdd_store.proofs.Common.{cases_lt, Node, Entry, Arena, index, is_marked, flipped, value_at, node_value, top_at, chosen, branch, IsSound, IsLawful}
+use Rattle.bdd_store.specs.Soundness.{AreWithin, IsCanonical}
 use Rattle.bdd_store.proofs.NodeLemmas.{flipped-same, flipped-marks, same_node}
 use Rattle.bdd_store.proofs.ValueLemmas.{Earlier, branch_both, branch_low, by_branches, value_at-entry, value_at-zero, top_at-entry, top_at-zero, entry_at, top_of-low, den-constant}
 

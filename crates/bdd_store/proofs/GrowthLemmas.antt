@@ -2,17 +2,16 @@
 use Rattle.std.proofs.Common.{◌≡◌, ◌≢◌, ℕ, zero, suc, ◌+◌, ◌-◌, ◌*◌, ◌<◌, ◌≤◌, Bool, true, false, not, List, [], ◌∷◌, ◌++◌, inl, inr, length, drop, refl, sym, ap, subst, ◌∙◌, arith}
 use Rattle.std.proofs.Math.Nat.{mul-le-mul_left}
 use Rattle.std.proofs.lemmas.Map.Keys.{IsDistinct-cons}
-use Rattle.std.specs.List.{AllByRecursion, IsDistinct}
+use Rattle.bdd_store.proofs.Common.{AllByRecursion, Node, Arena, index, complemented, den, IsNodeOf, IsLawful, table, is_constant, nodes, IsPart, KeepsNodes, cases_lt}
+use Rattle.std.specs.List.{IsDistinct}
 use Rattle.std.specs.Set.{is_member}
 use Rattle.std.proofs.Common.{Result, Ok, Err, IfOk, IsErrAnd, get_or, if◌then◌else◌, ◌⊎◌}
-use Rattle.bdd_store.specs.declared.node.Node.{Node}
-use Rattle.bdd_store.specs.Arena.{Arena, index, complemented, den, constant, IsNodeOf, choice}
-use Rattle.bdd_store.specs.Soundness.{IsCanonical, IsLawful}
-use Rattle.bdd_store.specs.Subfunctions.{table, is_constant, nodes, IsPart}
+use Rattle.bdd_store.specs.Arena.{constant, choice}
+use Rattle.bdd_store.specs.Soundness.{IsCanonical}
 use Rattle.bdd_store.specs.declared.fault.StoreFault.{StoreFault}
 use Rattle.bdd_store.specs.declared.fault.StoreFault.TheVariants.{Full, Memory}
-use Rattle.bdd_store.specs.Growth.{KeepsNodes, IsNewFunction, IsPartAt, NewAreParts, IsRefusedPart, AddsAtMost, IsFullOnlyPast, Grows, AddsWithin, GrowsWithin, NoOtherCause}
-use Rattle.std.proofs.lemmas.Bool.{cases_lt, false_from_ne_true}
+use Rattle.bdd_store.specs.Growth.{IsNewFunction, IsPartAt, NewAreParts, IsRefusedPart, AddsAtMost, IsFullOnlyPast, Grows, AddsWithin, GrowsWithin, NoOtherCause}
+use Rattle.std.proofs.lemmas.Bool.{false_from_ne_true}
 use Rattle.std.proofs.Math.Bool.{not-not}
 use Rattle.bdd_store.proofs.NodeLemmas.{index-complemented}
 use Rattle.bdd_store.proofs.ValueLemmas.{node_value-complemented}

@@ -1,16 +1,12 @@
 -- Which indices a sweep marks: those of the roots, and of all that they lead to.
 use Rattle.std.proofs.Common.{◌≡◌, ℕ, zero, suc, ◌+◌, ◌-◌, ◌<◌, ◌≤◌, Bool, true, false, List, ◌∷◌, length, get_or, set, slice_get, Option, Some, Contains, replicate, refl, sym, ap, subst, ◌∙◌, inl, inr, ◌⊎◌, arith, length-set, get_or-set_same, get_or-set_other, true≢false, add-one}
 use Rattle.std.proofs.lemmas.List.{get_or_past}
-use Rattle.std.proofs.lemmas.Bool.{cases_eq, cases_lt}
-use Rattle.std.proofs.lemmas.Option.{same_Some, slice_get_within, slice_get-get_or}
+use Rattle.bdd_store.proofs.Common.{cases_eq, cases_lt, same_Some, slice_get_within, slice_get-get_or, Node, Entry, index, root_in, is_marked_at, AreMarks}
 use Rattle.slab.proofs.SlabLemmas.{Contains-cons, Contains-cons_cases, Contains-entries}
 use Rattle.slab.specs.Slab.{Slab, entries}
-use Rattle.bdd_store.specs.declared.node.Node.{Node}
-use Rattle.bdd_store.specs.declared.node.Entry.{Entry}
-use Rattle.bdd_store.specs.Arena.{index}
 use Rattle.bdd_store.specs.Sweeping.{HasBranch, LeadsTo}
 use Rattle.bdd_store.specs.Sweeping.LeadsTo.{here, further}
-use Rattle.bdd_store.specs.Renumbering.{root_in, is_marked_at, KeepsMarks, MarksRoots, MarksWays, AreMarks}
+use Rattle.bdd_store.specs.Renumbering.{KeepsMarks, MarksRoots, MarksWays}
 
 -- ---- one mark more
 

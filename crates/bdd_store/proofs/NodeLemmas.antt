@@ -1,9 +1,7 @@
 -- A node's index and mark, and what they tell of it.
 use Rattle.std.proofs.Common.{◌≡◌, ℕ, ◌+◌, ◌-◌, ◌*◌, ◌%◌, Bool, true, false, not, ◌==◌, ◌⊎◌, inl, inr, refl, sym, ap, ◌∙◌, arith, true≢false}
-use Rattle.std.proofs.lemmas.Bool.{cases_eq}
+use Rattle.bdd_store.proofs.Common.{cases_eq, Node, index, is_marked, complemented, complemented_if, flipped}
 use Rattle.cyc_base.proofs.ListLemmas.{parity}
-use Rattle.bdd_store.specs.declared.node.Node.{Node}
-use Rattle.bdd_store.specs.Arena.{index, is_marked, complemented, complemented_if, flipped}
 
 -- ---- negated values
 

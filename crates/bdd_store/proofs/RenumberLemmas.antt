@@ -1,20 +1,16 @@
 -- The table that a sweep makes: what is kept stands there once, at its place, with its function.
 use Rattle.std.proofs.Common.{◌≡◌, ℕ, zero, suc, ◌+◌, ◌%◌, ◌<◌, ◌≤◌, Bool, true, false, List, [], ◌∷◌, ◌++◌, length, get_or, set, slice_get, Some, Contains, cond, if◌then◌else◌, refl, sym, ap, ◌∙◌, inl, inr, ◌⊎◌, arith, get_or-set_same, get_or-set_other, true≢false, add-one, length-append}
 use Rattle.std.specs.List.{list_any, filter, range_with_len}
-use Rattle.std.proofs.lemmas.Bool.{cases_eq, cases_lt}
-use Rattle.std.proofs.lemmas.List.{length_push}
+use Rattle.bdd_store.proofs.Common.{cases_eq, cases_lt, length_push, slice_get-get_or, slice_get_within, same_Some, Node, Entry, index, is_marked, flipped, value_at, node_value, top_at, branch, IsSound, is_marked_at, moved_node, AreMoved}
+use Rattle.std.proofs.lemmas.Bool.{cases_Bool}
 use Rattle.std.proofs.lemmas.List.Elements.{filter-append}
-use Rattle.std.proofs.lemmas.Option.{slice_get-get_or, slice_get_within, same_Some}
 use Rattle.indexmap.specs.IndexSet.{insert_key}
 use Rattle.indexmap.proofs.CallerLemmas.{Contains-list_any}
 use Rattle.cyc_base.specs.declared.limits.TheConstants.{MAX_NODES}
-use Rattle.cyc_base.proofs.ListLemmas.{range-suc}
-use Rattle.bdd_store.specs.declared.node.Node.{Node}
-use Rattle.bdd_store.specs.declared.node.Entry.{Entry}
-use Rattle.bdd_store.specs.Arena.{index, is_marked, flipped, value_at, node_value, top_at}
-use Rattle.bdd_store.specs.Branches.{branch}
-use Rattle.bdd_store.specs.Soundness.{IsSoundEntry, IsSound}
-use Rattle.bdd_store.specs.Renumbering.{is_marked_at, AreClosed, IsPlaced, place, moved_node, moved_entry, AreMoved}
+use Rattle.std.proofs.lemmas.List.FromFn.{length-range_with_len}
+use Rattle.cyc_base.proofs.ListLemmas.{filter-no_longer, range-suc}
+use Rattle.bdd_store.specs.Soundness.{IsSoundEntry}
+use Rattle.bdd_store.specs.Renumbering.{AreClosed, IsPlaced, place, moved_entry}
 use Rattle.bdd_store.proofs.ValueLemmas.{branch_both, branch_low, by_branches, slice_get-append_left, slice_get-last, value_at-entry, value_at-zero, top_at-entry, top_at-zero, entry_at}
 use Rattle.bdd_store.proofs.CanonicalLemmas.{early}
 use Rattle.bdd_store.proofs.MakeLemmas.{entry_eq, entry_eq-true, read-Contains, IsSound-push}
@@ -22,11 +18,10 @@ use Rattle.bdd_store.proofs.MakeLemmas.{entry_eq, entry_eq-true, read-Contains, 
 -- ---- the table grows at its end
 
 pub insert-new : (es : List Entry) (e : Entry) → (Contains es e → ⊥) → insert_key entry_eq es e ≡ es ++ e ∷ []
-insert-new es e absent = by (list_any (entry_eq e) es) refl
-  where
-    by : (b : Bool) → list_any (entry_eq e) es ≡ b → (if b then es else es ++ e ∷ []) ≡ es ++ e ∷ []
-    by true h = absurd (absent (Contains-list_any entry_eq entry_eq-true es e h))
-    by false h = refl
+insert-new es e absent = elim (cases_Bool (list_any (entry_eq e) es)) [
+  | inl there ↦ absurd (absent (Contains-list_any entry_eq entry_eq-true es e there))
+  | inr none ↦ rw none refl
+]
 
 -- ---- how many are kept
 
@@ -40,20 +35,10 @@ kept-suc marks n b is =
     let here : 0 + n ≡ n = omega arith in
     ap (λ (xs : List ℕ). length (filter test xs)) (range-suc 0 n ∙ ap (λ (x : ℕ). range_with_len 0 n ++ x ∷ []) here)
     ∙ ap length (filter-append test (range_with_len 0 n) (n ∷ []))
-    ∙ ap (λ c. length (kept marks n ++ cond c (n ∷ []) [])) is
-    ∙ by b
-  where
-    by : (b : Bool) → length (kept marks n ++ cond b (n ∷ []) []) ≡ length (kept marks n) + (if b then 1 else 0)
-    by true = length-append (kept marks n) (n ∷ [])
-    by false = length-append (kept marks n) []
+    ∙ rw is (elim b as (λ c. length (kept marks n ++ cond c (n ∷ []) []) ≡ length (kept marks n) + (if c then 1 else 0)) [ true ↦ length-append (kept marks n) (n ∷ []) | false ↦ length-append (kept marks n) [] ])
 
 pub kept-few : (marks : List Bool) (n : ℕ) → length (kept marks n) ≤ n
-kept-few marks zero = omega arith
-kept-few marks (suc n) = by (kept-few marks n) (is_marked_at marks (suc n)) refl
-  where
-    by : length (kept marks n) ≤ n → (b : Bool) → is_marked_at marks (suc n) ≡ b → length (kept marks (suc n)) ≤ suc n
-    by few true h = omega (arith, few, kept-suc marks n true h)
-    by few false h = omega (arith, few, kept-suc marks n false h)
+kept-few marks n = omega (arith, filter-no_longer (λ p. is_marked_at marks (suc p)) (range_with_len 0 n), length-range_with_len 0 n)
 
 -- ---- moved nodes and entries
 

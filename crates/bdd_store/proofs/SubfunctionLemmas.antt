@@ -3,16 +3,16 @@ use Rattle.std.proofs.Common.{◌≡◌, ℕ, zero, suc, ◌≤◌, Bool, true, 
 use Rattle.std.proofs.lemmas.List.{drop_all, append-nil, drop-append-le}
 use Rattle.std.proofs.lemmas.Slice.{drop-append-drop}
 use Rattle.std.proofs.Math.Bool.{not-not}
-use Rattle.std.proofs.lemmas.Bool.{and_parts, cases_lt}
+use Rattle.bdd_store.proofs.Common.{and_parts, cases_lt, AllByRecursion, table, is_constant, nodes, IsPart}
 use Rattle.std.proofs.lemmas.List.Elements.{All-contains, All-from_recursion, Contains-append_left, Contains-append_right}
-use Rattle.std.specs.List.{list_all, AllByRecursion}
+use Rattle.std.specs.List.{list_all}
 use Rattle.std.specs.Set.{distinct_count}
 use Rattle.std.specs.Bool.{beq}
 use Rattle.std.specs.Cmp.Lexicographic.{pointwise}
 use Rattle.cyc_base.specs.Vectors.{vectors}
 use Rattle.cyc_base.proofs.ListLemmas.{Contains-here, all_append, all_map, all_weaker}
 use Rattle.cyc_base.proofs.VectorLemmas.{Contains-vectors}
-use Rattle.bdd_store.specs.Subfunctions.{fixed, prefixes, table, is_constant, nodes, IsPart}
+use Rattle.bdd_store.specs.Subfunctions.{fixed, prefixes}
 
 -- ---- parts
 

@@ -1,11 +1,7 @@
 -- The denotation and the variable of a node, by its entry, and that later entries change neither.
 use Rattle.std.proofs.Common.{◌≡◌, ◌↔◌, ℕ, zero, suc, ◌<◌, ◌≤◌, Bool, true, false, not, IsTrue, List, [], ◌∷◌, ◌++◌, length, get_or, slice_get, Some, refl, sym, ap, ◌∙◌, inl, inr, arith, true≢false}
-use Rattle.std.proofs.lemmas.Option.{slice_get-get_or, slice_get_within}
-use Rattle.std.proofs.lemmas.Bool.{cases_lt}
-use Rattle.bdd_store.specs.declared.node.Node.{Node}
-use Rattle.bdd_store.specs.declared.node.Entry.{Entry}
-use Rattle.bdd_store.specs.Arena.{Arena, index, is_marked, complemented, complemented_if, flipped, den_within, value_at, node_value, den, constant, top_at, top_of, chosen, IsNodeOf, IsBranching}
-use Rattle.bdd_store.specs.Branches.{branch}
+use Rattle.bdd_store.proofs.Common.{slice_get-get_or, slice_get_within, cases_lt, Node, Entry, Arena, index, is_marked, complemented, complemented_if, flipped, value_at, node_value, den, top_at, top_of, chosen, IsNodeOf, branch}
+use Rattle.bdd_store.specs.Arena.{den_within, constant, IsBranching}
 use Rattle.bdd_store.proofs.NodeLemmas.{index-complemented, is_marked-complemented, flipped-not}
 
 abbrev pub no_entry : Entry

@@ -1,6 +1,6 @@
 use Rattle.std.proofs.Common.{◌≡◌, ◌∙◌, ap, add-one, arith, length, get_or, List, ℕ, replicate}
 use Rattle.std.proofs.lemmas.List.{length-replicate}
-use Rattle.std.proofs.lemmas.Option.{slice_get-get_or}
+use Rattle.bdd_store.proofs.Common.{slice_get-get_or}
 use Rattle.bdd_store.proofs.ValueLemmas.{no_entry}
 use Rattle.bdd_store.proofs.RenumberLemmas.{IsKeptNext, IsKeptNext-from, AreMoved-more, AreMoved-skip}
 use Rattle.bdd_store.proofs.sweep.fill.Goals.{After-moved_entry-arg-1, then-marks-position+in_ok-places, else-marks-position}

@@ -1,6 +1,5 @@
 use Rattle.std.proofs.Common.{◌-◌, ◌≤◌, arith, length-set, true, get_or}
-use Rattle.std.proofs.lemmas.Option.{slice_get-get_or}
-use Rattle.bdd_store.specs.Arena.{index}
+use Rattle.bdd_store.proofs.Common.{slice_get-get_or, index}
 use Rattle.bdd_store.proofs.ValueLemmas.{no_entry}
 use Rattle.bdd_store.proofs.MarkLemmas.{WaysAreMarked-start, WaysAreMarked-read}
 use Rattle.bdd_store.proofs.sweep.mark_branches.Goals.{After-index}

@@ -1,11 +1,9 @@
 use Rattle.std.proofs.Common.{◌≡◌, slice_get, Some, refl, sym, ap, ◌∙◌, arith, Ok, Err, inl, inr, eq-eqb, true≢false}
-use Rattle.std.proofs.lemmas.Option.{slice_get_within}
-use Rattle.std.proofs.lemmas.Result.{err_from_is_err_and}
-use Rattle.bdd_store.specs.declared.node.Node.{Node}
-use Rattle.bdd_store.specs.declared.node.Entry.{Entry}
-use Rattle.bdd_store.specs.Growth.{KeepsNodes, IsEntered}
-use Rattle.bdd_store.proofs.MakeLemmas.{Asked, with_entries, normal, length-entered, make-new_function, make-sound, make-keeps, make-value, make-top, make-new_node, refused-from, absent-from}
+use Rattle.bdd_store.proofs.Common.{slice_get_within, Node, Entry, KeepsNodes}
 use Rattle.bdd_store.specs.contracts.store.Store.{the_view}
+use Rattle.std.proofs.lemmas.Result.{err_from_is_err_and}
+use Rattle.bdd_store.specs.Growth.{IsEntered}
+use Rattle.bdd_store.proofs.MakeLemmas.{Asked, with_entries, normal, length-entered, make-new_function, make-sound, make-keeps, make-value, make-top, make-new_node, refused-from, absent-from}
 use Rattle.bdd_store.proofs.store.Store.make.Goals as goal
 use Rattle.bdd_store.proofs.store.Store.make.Goals.{After-enter, After-complement_if-3}
 

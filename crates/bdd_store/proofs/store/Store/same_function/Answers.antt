@@ -1,7 +1,5 @@
 use Rattle.std.proofs.Common.{sym, ap, ◌∙◌, eq-eqb}
-use Rattle.std.proofs.lemmas.Bool.{eqb-true}
-use Rattle.bdd_store.specs.declared.node.Node.{Node}
-use Rattle.bdd_store.specs.Arena.{den}
+use Rattle.bdd_store.proofs.Common.{eqb-true, Node, den}
 use Rattle.bdd_store.proofs.store.Store.same_function.Goals as goal
 
 pub returns-clause-same : goal.returns-clause-same

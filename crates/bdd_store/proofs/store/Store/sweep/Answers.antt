@@ -1,10 +1,8 @@
 use Rattle.std.proofs.Common.{◌≤◌, ◌+◌, List, [], length, refl, ap, ◌∙◌, arith}
-use Rattle.bdd_store.specs.declared.node.Entry.{Entry}
-use Rattle.bdd_store.specs.Arena.{Arena}
-use Rattle.bdd_store.specs.Renumbering.{AreMarks, AreMoved}
+use Rattle.bdd_store.proofs.Common.{Entry, Arena, AreMarks, AreMoved}
+use Rattle.bdd_store.specs.contracts.store.Store.{the_view}
 use Rattle.bdd_store.proofs.MakeLemmas.{with_entries}
 use Rattle.bdd_store.proofs.SweepLemmas.{AreClosed-marks, root-placed, swept-few, swept-count, swept-within, swept-roots, swept-reached}
-use Rattle.bdd_store.specs.contracts.store.Store.{the_view}
 use Rattle.bdd_store.proofs.store.Store.sweep.Goals as goal
 
 pub compact-requires-clause-closed : goal.compact-requires-clause-closed

@@ -1,5 +1,5 @@
 use Rattle.std.proofs.Common.{◌≡◌}
-use Rattle.bdd_store.specs.Arena.{index, den, IsNodeOf}
+use Rattle.bdd_store.proofs.Common.{index, den, IsNodeOf}
 use Rattle.bdd_store.proofs.store.Store.value.Given as goal
 
 abbrev pub invariant-loop-at : goal.invariant-loop-at
