@@ -1,9 +1,9 @@
 -- Answers to choices: what is there after one is kept.
 use Rattle.std.proofs.Common.{◌≡◌, true, ◌==◌, ◌⊎◌, inl, inr, Contains, refl, sym, ap, subst, eq-eqb}
-use Rattle.std.proofs.lemmas.Bool.{eqb-true, and_parts, and_from}
+use Rattle.bdd_store.proofs.Common.{eqb-true, and_parts, Node}
+use Rattle.std.proofs.lemmas.Bool.{and_from}
 use Rattle.std.specs.Cmp.{IsEquivalence}
 use Rattle.cyc_base.proofs.TruthLemmas.{same_truth}
-use Rattle.bdd_store.specs.declared.node.Node.{Node}
 use Rattle.bdd_store.specs.declared.node.Choice.{Choice}
 use Rattle.bdd_store.specs.Arena.{same_choice}
 use Rattle.lru.specs.LruCache.{LruCache, put_entries}

@@ -1,61 +1,47 @@
 -- What code reads of a node's entry: its variable, and its branches under the node's mark.
-use Rattle.std.proofs.Common.{◌≡◌, ℕ, ◌-◌, ◌<◌, ◌≤◌, Bool, true, false, List, length, get_or, sym, ap, subst, ◌∙◌, arith}
-use Rattle.bdd_store.specs.declared.node.Node.{Node}
-use Rattle.bdd_store.specs.declared.node.Entry.{Entry}
-use Rattle.bdd_store.specs.Arena.{index, is_marked, complemented_if, node_value, top_at}
-use Rattle.bdd_store.specs.Soundness.{IsSound}
+use Rattle.std.proofs.Common.{◌≡◌, ℕ, suc, ◌-◌, ◌<◌, ◌≤◌, Bool, true, false, List, length, get_or, slice_get, Some, sym, ap, ◌∙◌, arith}
+use Rattle.bdd_store.proofs.Common.{slice_get-get_or, slice_get_within, Node, Entry, index, is_marked, complemented_if, flipped, value_at, node_value, top_at, IsSound, branch}
+pub use Rattle.bdd_store.specs.Branches.{IsBranch}
 use Rattle.bdd_store.proofs.NodeLemmas.{index-complemented_if}
-use Rattle.bdd_store.proofs.ValueLemmas.{top_at-read, node_value-complemented_if}
-use Rattle.bdd_store.proofs.CanonicalLemmas.{read_sound, node_value-read_hi, node_value-read_lo}
+use Rattle.bdd_store.proofs.ValueLemmas.{branch_low, value_at-entry, top_at-entry, node_value-complemented_if}
+use Rattle.bdd_store.proofs.CanonicalLemmas.{early, branch_below}
 
--- r is the branch of n for this value of the bit at its variable
-pub record IsBranch (vars : ℕ) (es : List Entry) (n : Node) (bit : Bool) (r : Node) : Type 0 where
-  pub node : index r ≤ length es
-  pub earlier : index r < index n
-  pub lower : top_at vars es (index n) < top_at vars es (index r)
-  pub within : top_at vars es (index n) < vars
-  pub function : (bits : List Bool) → get_or bits (top_at vars es (index n)) false ≡ bit → node_value es n bits ≡ node_value es r bits
+module _ {vars : ℕ} {es : List Entry} (sound : IsSound vars es) (n : Node) (e : Entry) (at : slice_get es (index n - 1) ≡ Some e) (branching : 2 ≤ n.number) where
+  up : suc (index n - 1) ≡ index n
+  up = omega (arith, branching)
+
+  pub entry-top : top_at vars es (index n) ≡ e.var
+  entry-top = ap (top_at vars es) (sym up) ∙ top_at-entry vars es (index n - 1) e at
+
+  pub entry-within : e.var < vars
+  entry-within = (sound.each (index n - 1) e at).within
+
+  pub entry-branch : (bit : Bool) → IsBranch vars es n bit (complemented_if (is_marked n) (branch e bit))
+  entry-branch bit =
+      let same = index-complemented_if (is_marked n) (branch e bit) in
+      let low = branch_low es (early sound) (index n - 1) e bit at in
+      let within = slice_get_within es (index n - 1) e at in
+      record {
+        node = omega (arith, low, same, within);
+        earlier = omega (arith, low, same, up);
+        lower = omega (arith, branch_below sound (index n - 1) e bit at, entry-top, ap (top_at vars es) same);
+        within = omega (arith, entry-within, entry-top);
+        function = λ bits read.
+            ap (λ i. flipped (is_marked n) (value_at es i bits)) (sym up)
+            ∙ ap (flipped (is_marked n)) (value_at-entry es (early sound) bits (index n - 1) e at)
+            ∙ ap (λ b. flipped (is_marked n) (node_value es (branch e b) bits)) (ap (λ v. get_or bits v false) (sym entry-top) ∙ read)
+            ∙ sym (node_value-complemented_if (is_marked n) es (branch e bit) bits);
+      }
 
 module _ {vars : ℕ} {es : List Entry} (sound : IsSound vars es) (n : Node) (d : Entry) (branching : 2 ≤ n.number) (in_n : index n ≤ length es) where
   abbrev pub entry : Entry
   entry = get_or es (index n - 1) d
 
-  some : 1 ≤ index n
-  some = omega (arith, branching)
-
-  pub entry-top : top_at vars es (index n) ≡ entry.var
-  entry-top = top_at-read vars es (index n) d some in_n
-
-  pub entry-within : entry.var < vars
-  entry-within = (read_sound sound (index n) d some in_n).within
-
-  -- a branch under the node's mark
-  of_branch : (bit : Bool) (b : Node) → index b ≤ index n - 1 → entry.var < top_at vars es (index b)
-      → ((bits : List Bool) → get_or bits entry.var false ≡ bit → node_value es n bits ≡ node_value es (complemented_if (is_marked n) b) bits)
-      → IsBranch vars es n bit (complemented_if (is_marked n) b)
-  of_branch bit b early below function =
-      let at = index-complemented_if (is_marked n) b in
-      record {
-        node = omega (arith, early, at, some, in_n);
-        earlier = omega (arith, early, at, some);
-        lower = omega (arith, below, entry-top, ap (top_at vars es) at);
-        within = omega (arith, entry-within, entry-top);
-        function = λ bits read. function bits (ap (λ v. get_or bits v false) (sym entry-top) ∙ read);
-      }
+  at : slice_get es (index n - 1) ≡ Some entry
+  at = slice_get-get_or es (index n - 1) d (omega (arith, branching))
 
   pub exact_hi : IsBranch vars es n true (complemented_if (is_marked n) entry.hi)
-  exact_hi =
-      let s = read_sound sound (index n) d some in_n in
-      of_branch true entry.hi s.hi_earlier s.hi_below (λ bits read. node_value-read_hi sound n d bits some in_n read ∙ sym (node_value-complemented_if (is_marked n) es entry.hi bits))
+  exact_hi = entry-branch sound n entry at branching true
 
   pub exact_lo : IsBranch vars es n false (complemented_if (is_marked n) entry.lo)
-  exact_lo =
-      let s = read_sound sound (index n) d some in_n in
-      of_branch false entry.lo s.lo_earlier s.lo_below (λ bits read. node_value-read_lo sound n d bits some in_n read ∙ sym (node_value-complemented_if (is_marked n) es entry.lo bits))
-
-  module _ (xs : List Entry) (i : ℕ) (m : Bool) (r : Node) (xs_are : xs ≡ es) (i_is : i ≡ index n) (m_is : m ≡ is_marked n) where
-    pub branch_hi : r ≡ complemented_if m (get_or xs (i - 1) d).hi → IsBranch vars es n true r
-    branch_hi e = subst (IsBranch vars es n true) (sym (e ∙ (λ j. complemented_if (m_is j) (get_or (xs_are j) (i_is j - 1) d).hi))) exact_hi
-
-    pub branch_lo : r ≡ complemented_if m (get_or xs (i - 1) d).lo → IsBranch vars es n false r
-    branch_lo e = subst (IsBranch vars es n false) (sym (e ∙ (λ j. complemented_if (m_is j) (get_or (xs_are j) (i_is j - 1) d).lo))) exact_lo
+  exact_lo = entry-branch sound n entry at branching false

@@ -2,17 +2,16 @@
 use Rattle.std.proofs.Common.{◌≡◌, ◌≢◌, ℕ, zero, suc, ◌+◌, ◌-◌, ◌*◌, ◌<◌, ◌≤◌, Bool, true, false, not, List, [], ◌∷◌, ◌++◌, inl, inr, length, drop, refl, sym, ap, subst, ◌∙◌, arith}
 use Rattle.std.proofs.Math.Nat.{mul-le-mul_left}
 use Rattle.std.proofs.lemmas.Map.Keys.{IsDistinct-cons}
-use Rattle.std.specs.List.{AllByRecursion, IsDistinct}
+use Rattle.bdd_store.proofs.Common.{AllByRecursion, Node, Arena, index, complemented, den, IsNodeOf, IsLawful, table, is_constant, nodes, IsPart, KeepsNodes, cases_lt}
+use Rattle.std.specs.List.{IsDistinct}
 use Rattle.std.specs.Set.{is_member}
 use Rattle.std.proofs.Common.{Result, Ok, Err, IfOk, IsErrAnd, get_or, if◌then◌else◌, ◌⊎◌}
-use Rattle.bdd_store.specs.declared.node.Node.{Node}
-use Rattle.bdd_store.specs.Arena.{Arena, index, complemented, den, constant, IsNodeOf, choice}
-use Rattle.bdd_store.specs.Soundness.{IsCanonical, IsLawful}
-use Rattle.bdd_store.specs.Subfunctions.{table, is_constant, nodes, IsPart}
+use Rattle.bdd_store.specs.Arena.{constant, choice}
+use Rattle.bdd_store.specs.Soundness.{IsCanonical}
 use Rattle.bdd_store.specs.declared.fault.StoreFault.{StoreFault}
 use Rattle.bdd_store.specs.declared.fault.StoreFault.TheVariants.{Full, Memory}
-use Rattle.bdd_store.specs.Growth.{KeepsNodes, IsNewFunction, IsPartAt, NewAreParts, IsRefusedPart, AddsAtMost, IsFullOnlyPast, Grows, AddsWithin, GrowsWithin, NoOtherCause}
-use Rattle.std.proofs.lemmas.Bool.{cases_lt, false_from_ne_true}
+use Rattle.bdd_store.specs.Growth.{IsNewFunction, IsPartAt, NewAreParts, IsRefusedPart, AddsAtMost, IsFullOnlyPast, Grows, AddsWithin, GrowsWithin, NoOtherCause}
+use Rattle.std.proofs.lemmas.Bool.{false_from_ne_true}
 use Rattle.std.proofs.Math.Bool.{not-not}
 use Rattle.bdd_store.proofs.NodeLemmas.{index-complemented}
 use Rattle.bdd_store.proofs.ValueLemmas.{node_value-complemented}
@@ -99,11 +98,7 @@ IsRefusedPart-made s t f e full absent = subst (λ (u : Arena). IsRefusedPart u 
 
 -- a bit chooses between the constants
 pub choice-bit : (s : Arena) (var : ℕ) (lo hi : Node) → ((bits : List Bool) → den s lo bits ≡ false) → ((bits : List Bool) → den s hi bits ≡ true) → (bits : List Bool) → choice s var lo hi bits ≡ get_or bits var false
-choice-bit s var lo hi low high bits = by (get_or bits var false)
-  where
-    by : (c : Bool) → (if c then den s hi bits else den s lo bits) ≡ c
-    by true = high bits
-    by false = low bits
+choice-bit s var lo hi low high bits = elim (get_or bits var false) as (λ c. (if c then den s hi bits else den s lo bits) ≡ c) [ true ↦ high bits | false ↦ low bits ]
 
 -- ---- how many
 
@@ -165,16 +160,13 @@ module _ (a : Arena) (canonical : IsCanonical a) (f : List Bool → Bool) where
     IsFound i = (p : Picked i) × (base ≤ i → i < base + added → IsPart a.vars f (den a p.0))
 
     found : (i : ℕ) → IsFound i
-    found i = elim (cases_lt i base) [
-      | inl low ↦ (numbered i, λ l h. absurd (omega (arith, low, l)))
-      | inr high ↦ elim (cases_lt i (base + added)) [
-        | inr past ↦ (numbered i, λ l h. absurd (omega (arith, past, h)))
-        | inl inside ↦ elim (parts (numbered i).0 (omega (arith, (numbered i).1, inside, more))) [
-          | inl was ↦ absurd (omega (arith, was, (numbered i).1, high))
-          | inr at ↦ elim at [
-            | inl part ↦ (numbered i, λ l h. part)
-            | inr part ↦ ((complemented (numbered i).0, index-complemented (numbered i).0 ∙ (numbered i).1), λ l h. part)
-          ]
+    found i = elim (cases_lt (length a.entries) i) [
+      | inl past ↦ (numbered i, λ l h. absurd (omega (arith, past, h, more)))
+      | inr in_i ↦ elim (parts (numbered i).0 (omega (arith, (numbered i).1, in_i))) [
+        | inl was ↦ (numbered i, λ l h. absurd (omega (arith, was, (numbered i).1, l)))
+        | inr at ↦ elim at [
+          | inl part ↦ (numbered i, λ l h. part)
+          | inr part ↦ ((complemented (numbered i).0, index-complemented (numbered i).0 ∙ (numbered i).1), λ l h. part)
         ]
       ]
     ]
@@ -206,16 +198,13 @@ module _ (a : Arena) (canonical : IsCanonical a) (f : List Bool → Bool) where
 
 -- what an operation whose new nodes are parts adds
 pub added-parts : (old new : Arena) (f : List Bool → Bool) → IsLawful new → KeepsNodes old new → NewAreParts old new f → AddsAtMost old new (nodes old.vars f)
-added-parts old new f lawful kept parts =
-    subst (λ v. length new.entries ≤ length old.entries + nodes v f) kept.vars
-    (count-parts new lawful.canonical f lawful.constants old kept.more (λ n in_n. subst (λ v. IsNodeOf old n ⊎ IsPartAt v f new n) (sym kept.vars) (parts.each n in_n)))
+added-parts old new f lawful kept parts = rw (← kept.vars) (count-parts new lawful.canonical f lawful.constants old kept.more (λ n in_n. rw kept.vars (parts.each n in_n)))
 
 -- and when it is refused
 pub refused-parts : (old new : Arena) (f : List Bool → Bool) → IsLawful new → KeepsNodes old new → NewAreParts old new f → IsRefusedPart new f → IsFullOnlyPast old new (nodes old.vars f)
 refused-parts old new f lawful kept parts r =
-    let past = subst (λ v. length new.entries < length old.entries + nodes v f) kept.vars
-    (count-refused new lawful.canonical f lawful.constants old kept.more (λ n in_n. subst (λ v. IsNodeOf old n ⊎ IsPartAt v f new n) (sym kept.vars) (parts.each n in_n)) r.part r.is_part r.absent) in
-    record { full = r.full; past = omega (arith, past, r.full) }
+    let past = count-refused new lawful.canonical f lawful.constants old kept.more (λ n in_n. rw kept.vars (parts.each n in_n)) r.part r.is_part r.absent in
+    record { full = r.full; past = omega (arith, rw kept.vars at past, r.full) }
 
 -- ---- what a call does, where so many nodes are its bound
 

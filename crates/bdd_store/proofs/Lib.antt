@@ -1,3 +1,4 @@
+pub mod Common
 pub mod NodeLemmas
 mod Samples
 pub mod ValueLemmas

@@ -1,16 +1,12 @@
 -- Which indices a sweep marks: those of the roots, and of all that they lead to.
-use Rattle.std.proofs.Common.{◌≡◌, ℕ, suc, ◌+◌, ◌-◌, ◌<◌, ◌≤◌, Bool, true, false, List, ◌∷◌, length, get_or, set, slice_get, Option, Some, Contains, replicate, refl, sym, ap, subst, ◌∙◌, inl, inr, ◌⊎◌, arith, length-set, get_or-set_same, get_or-set_other, true≢false, add-one}
-use Rattle.std.proofs.lemmas.List.{get_or_past, get_or-replicate, length-replicate}
-use Rattle.std.proofs.lemmas.Bool.{cases_eq, cases_lt}
-use Rattle.std.proofs.lemmas.Option.{same_Some, slice_get_within, slice_get-get_or}
+use Rattle.std.proofs.Common.{◌≡◌, ℕ, zero, suc, ◌+◌, ◌-◌, ◌<◌, ◌≤◌, Bool, true, false, List, ◌∷◌, length, get_or, set, slice_get, Option, Some, Contains, replicate, refl, sym, ap, subst, ◌∙◌, inl, inr, ◌⊎◌, arith, length-set, get_or-set_same, get_or-set_other, true≢false, add-one}
+use Rattle.std.proofs.lemmas.List.{get_or_past}
+use Rattle.bdd_store.proofs.Common.{cases_eq, cases_lt, same_Some, slice_get_within, slice_get-get_or, Node, Entry, index, root_in, is_marked_at, AreMarks}
 use Rattle.slab.proofs.SlabLemmas.{Contains-cons, Contains-cons_cases, Contains-entries}
 use Rattle.slab.specs.Slab.{Slab, entries}
-use Rattle.bdd_store.specs.declared.node.Node.{Node}
-use Rattle.bdd_store.specs.declared.node.Entry.{Entry}
-use Rattle.bdd_store.specs.Arena.{index}
 use Rattle.bdd_store.specs.Sweeping.{HasBranch, LeadsTo}
 use Rattle.bdd_store.specs.Sweeping.LeadsTo.{here, further}
-use Rattle.bdd_store.specs.Renumbering.{root_in, is_marked_at, KeepsMarks, MarksRoots, MarksWays, AreMarks}
+use Rattle.bdd_store.specs.Renumbering.{KeepsMarks, MarksRoots, MarksWays}
 
 -- ---- one mark more
 
@@ -24,10 +20,7 @@ mark-keeps marks j i h = elim (cases_eq i j) [
 ]
 
 mark-only : (marks : List Bool) (j i : ℕ) → is_marked_at (set marks j true) i ≡ true → (i ≡ j) ⊎ (is_marked_at marks i ≡ true)
-mark-only marks j i h = elim (cases_eq i j) [
-  | inl same ↦ inl same
-  | inr apart ↦ inr (sym (get_or-set_other marks j i true false apart) ∙ h)
-]
+mark-only marks j i h = elim (cases_eq i j) [ inl same ↦ inl same | inr apart ↦ inr (rw (get_or-set_other marks j i true false apart) at h) ]
 
 -- ---- the roots
 
@@ -40,19 +33,19 @@ pub record RootsAreMarked (roots : List (Option Node)) (left : List (ℕ × Node
 
 -- a root that is left
 pub RootsAreMarked-first : (roots : List (Option Node)) (left rest : List (ℕ × Node)) (key : ℕ) (n : Node) (old now : List Bool) → left ≡ (key, n) ∷ rest → RootsAreMarked roots left old now → root_in roots key ≡ Some n
-RootsAreMarked-first roots left rest key n old now at was = was.left_are key n (subst (λ xs. Contains xs (key, n)) (sym at) (0, omega arith, refl))
+RootsAreMarked-first roots left rest key n old now at was = was.left_are key n (rw at (0, omega arith, refl))
 
 pub RootsAreMarked-start : (roots : Slab Node) (left : List (ℕ × Node)) (marks : List Bool) → left ≡ entries roots → RootsAreMarked roots.slots left marks marks
 RootsAreMarked-start roots left marks all = record {
-  left_are = λ key n has. (Contains-entries roots key n).0 (subst (λ xs. Contains xs (key, n)) all has);
+  left_are = λ key n has. (Contains-entries roots key n).0 (rw all at has);
   keeps = λ i h. h;
-  each = λ key n found. inl (subst (λ xs. Contains xs (key, n)) (sym all) ((Contains-entries roots key n).1 found));
+  each = λ key n found. inl (rw all ((Contains-entries roots key n).1 found));
   only = λ i h. inl h;
 }
 
 pub RootsAreMarked-next : (roots : List (Option Node)) (left rest : List (ℕ × Node)) (key : ℕ) (n : Node) (old now : List Bool) → left ≡ (key, n) ∷ rest → index n < length now → RootsAreMarked roots left old now → RootsAreMarked roots rest old (set now (index n) true)
 RootsAreMarked-next roots left rest key n old now at within was = record {
-  left_are = λ k m has. was.left_are k m (subst (λ xs. Contains xs (k, m)) (sym at) (Contains-cons (key, n) (k, m) rest has));
+  left_are = λ k m has. was.left_are k m (rw at (Contains-cons (key, n) (k, m) rest has));
   keeps = λ i h. mark-keeps now (index n) i (was.keeps i h);
   each = λ k m found. elim (was.each k m found) [
     | inl has ↦ elim (Contains-cons_cases (key, n) (k, m) rest (subst (λ xs. Contains xs (k, m)) at has)) [
@@ -101,10 +94,10 @@ WaysAreMarked-mark es old now p e at long within low high marked was =
             let is : k ≡ p = omega arith in
             let entry : has.0 ≡ e = same_Some has.0 e (sym has.1 ∙ ap (slice_get es) is ∙ at) in
             elim has.2 [
-              | inl lo ↦ let is_lo : index e.lo ≡ suc q = ap (λ (x : Entry). index x.lo) (sym entry) ∙ lo in
-                  mark-keeps mid (index e.hi) (suc q) (ap (is_marked_at mid) (sym is_lo) ∙ get_or-set_same now (index e.lo) true false (omega arith))
-              | inr hi ↦ let is_hi : index e.hi ≡ suc q = ap (λ (x : Entry). index x.hi) (sym entry) ∙ hi in
-                  ap (is_marked_at new) (sym is_hi) ∙ get_or-set_same mid (index e.hi) true false (omega (arith, length-set now (index e.lo) true))
+              | inl lo ↦ let is_lo : suc q ≡ index e.lo = sym lo ∙ ap (λ (x : Entry). index x.lo) entry in
+                  mark-keeps mid (index e.hi) (suc q) (rw is_lo (get_or-set_same now (index e.lo) true false (omega arith)))
+              | inr hi ↦ let is_hi : suc q ≡ index e.hi = sym hi ∙ ap (λ (x : Entry). index x.hi) entry in
+                  rw is_hi (get_or-set_same mid (index e.hi) true false (omega (arith, length-set now (index e.lo) true)))
             ]
       ];
       only = λ q h. elim (mark-only mid (index e.hi) (suc q) h) [
@@ -119,22 +112,26 @@ WaysAreMarked-mark es old now p e at long within low high marked was =
 -- the same as code reads it, which counts down to the entry
 pub WaysAreMarked-read : (es : List Entry) (old now : List Bool) (i a b : ℕ) (d : Entry) → ((p : ℕ) (e : Entry) → slice_get es p ≡ Some e → (index e.lo ≤ p) × (index e.hi ≤ p)) → length now ≡ length es + 1 → 1 ≤ i → i ≤ length es → a ≡ index (get_or es (i - 1) d).lo → b ≡ index (get_or es (i - 1) d).hi → is_marked_at now (i - 1 + 1) ≡ true → WaysAreMarked es old now i → WaysAreMarked es old (set (set now a true) b true) (i - 1)
 WaysAreMarked-read es old now i a b d earlier long some within a_is b_is marked was =
-    let e = get_or es (i - 1) d in
-    let at : slice_get es (i - 1) ≡ Some e = slice_get-get_or es (i - 1) d (omega arith) in
-    let early = earlier (i - 1) e at in
+    let at = slice_get-get_or es (i - 1) d (omega arith) in
+    let early = earlier (i - 1) (get_or es (i - 1) d) at in
     let is : i ≡ i - 1 + 1 = omega arith in
-    let new : WaysAreMarked es old (set (set now (index e.lo) true) (index e.hi) true) (i - 1) = WaysAreMarked-mark es old now (i - 1) e at long (omega arith) early.0 early.1 marked (subst (WaysAreMarked es old now) is was) in
-    subst (λ k. WaysAreMarked es old (set (set now k true) b true) (i - 1)) (sym a_is) (subst (λ k. WaysAreMarked es old (set (set now (index e.lo) true) k true) (i - 1)) (sym b_is) new)
+    rw (a_is, b_is) (WaysAreMarked-mark es old now (i - 1) (get_or es (i - 1) d) at long (omega arith) early.0 early.1 marked (subst (WaysAreMarked es old now) is was))
 
 -- ---- both together
 
-pub AreMarks-from : (roots : List (Option Node)) (es : List Entry) (first second marks : List Bool) → (length marks ≡ length es + 1) → is_marked_at first 0 ≡ true → ((i : ℕ) → is_marked_at first (suc i) ≡ false) → MarksRoots roots first second → MarksWays es second marks → AreMarks roots es marks
-AreMarks-from roots es first second marks long constants none by_roots by_ways = record {
+none_marked : (n i : ℕ) → is_marked_at (replicate n false) i ≡ false
+none_marked zero i = refl
+none_marked (suc n) zero = refl
+none_marked (suc n) (suc i) = none_marked n i
+
+-- at first the constants alone are marked
+pub AreMarks-from : (roots : List (Option Node)) (es : List Entry) (first second marks : List Bool) → (length marks ≡ length es + 1) → first ≡ set (replicate (length es + 1) false) 0 true → MarksRoots roots first second → MarksWays es second marks → AreMarks roots es marks
+AreMarks-from roots es first second marks long is by_roots by_ways = record {
   long = long;
-  constants = by_ways.keeps 0 (by_roots.keeps 0 constants);
+  constants = by_ways.keeps 0 (by_roots.keeps 0 (rw (is, add-one (length es)) refl));
   entries = λ p. (
     λ marked. let from = by_ways.only p marked in elim (by_roots.only (suc from.0) from.1) [
-      | inl before ↦ absurd (true≢false (sym before ∙ none from.0))
+      | inl before ↦ absurd (true≢false (sym before ∙ rw (is, add-one (length es)) (none_marked (length es) from.0)))
       | inr root ↦ record { key = root.0; node = root.1; first = from.0; root = root.2; entry = root.3; way = from.2 }
     ],
     λ reached. marked_along p reached.way (ap (is_marked_at second) (sym reached.entry) ∙ by_roots.each reached.key reached.node reached.root),
@@ -144,14 +141,3 @@ AreMarks-from roots es first second marks long constants none by_roots by_ways =
     marked_along : {q : ℕ} (p : ℕ) → LeadsTo es q p → is_marked_at second (suc q) ≡ true → is_marked_at marks (suc p) ≡ true
     marked_along {q} p here from = by_ways.keeps (suc q) from
     marked_along {q} p (further k r way step) from = by_ways.closed k p (marked_along k way from) step
-
--- ---- at first the constants alone are marked
-
-pub first-marked : (n : ℕ) → is_marked_at (set (replicate (n + 1) false) 0 true) 0 ≡ true
-first-marked n = get_or-set_same (replicate (n + 1) false) 0 true false (omega (arith, length-replicate (n + 1) false))
-
-pub first-unmarked : (n i : ℕ) → is_marked_at (set (replicate (n + 1) false) 0 true) (suc i) ≡ false
-first-unmarked n i = get_or-set_other (replicate (n + 1) false) 0 (suc i) true false (omega arith) ∙ elim (cases_lt (suc i) (n + 1)) [
-  | inl l ↦ get_or-replicate (n + 1) (suc i) false false l
-  | inr past ↦ get_or_past (replicate (n + 1) false) (suc i) false (omega (arith, length-replicate (n + 1) false))
-]

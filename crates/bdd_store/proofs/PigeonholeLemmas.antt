@@ -5,11 +5,12 @@ use Rattle.std.proofs.lemmas.Map.Made.{length-le_from_is_member, is_member-filte
 use Rattle.std.specs.Bool.{beq, Decides}
 use Rattle.std.specs.Cmp.{IsEquivalence, bool_eq_equiv, booleans_Decides}
 use Rattle.std.specs.Cmp.Lexicographic.{pointwise, lists_equiv, pointwise_decides}
-use Rattle.std.specs.List.{AllByRecursion, IsDistinct}
+use Rattle.bdd_store.proofs.Common.{AllByRecursion, table, is_constant, nodes, IsPart}
+use Rattle.std.specs.List.{IsDistinct}
 use Rattle.std.specs.Set.{is_member, unique_keys}
 use Rattle.std.proofs.lemmas.Bool.{false_from_ne_true}
 use Rattle.cyc_base.proofs.ListLemmas.{Contains-map}
-use Rattle.bdd_store.specs.Subfunctions.{fixed, prefixes, table, is_constant, nodes, IsPart}
+use Rattle.bdd_store.specs.Subfunctions.{fixed, prefixes}
 use Rattle.bdd_store.proofs.SubfunctionLemmas.{prefixes-all, alike-from_table, table-alike}
 
 abbrev pub table_eq : List Bool → List Bool → Bool

@@ -1,31 +1,27 @@
 -- The table that a sweep makes: what is kept stands there once, at its place, with its function.
-use Rattle.std.proofs.Common.{◌≡◌, ℕ, zero, suc, ◌+◌, ◌*◌, ◌%◌, ◌<◌, ◌≤◌, Bool, true, false, List, [], ◌∷◌, ◌++◌, length, get_or, set, slice_get, Some, Contains, cond, if◌then◌else◌, ◌==◌, refl, sym, ap, subst, ◌∙◌, inl, inr, ◌⊎◌, arith, get_or-set_same, get_or-set_other, true≢false, add-one, length-append}
+use Rattle.std.proofs.Common.{◌≡◌, ℕ, zero, suc, ◌+◌, ◌%◌, ◌<◌, ◌≤◌, Bool, true, false, List, [], ◌∷◌, ◌++◌, length, get_or, set, slice_get, Some, Contains, cond, if◌then◌else◌, refl, sym, ap, ◌∙◌, inl, inr, ◌⊎◌, arith, get_or-set_same, get_or-set_other, true≢false, add-one, length-append}
 use Rattle.std.specs.List.{list_any, filter, range_with_len}
-use Rattle.std.proofs.lemmas.Bool.{cases_eq, cases_lt}
-use Rattle.std.proofs.lemmas.List.{length_push, get_or_push}
+use Rattle.bdd_store.proofs.Common.{cases_eq, cases_lt, length_push, slice_get-get_or, slice_get_within, same_Some, Node, Entry, index, is_marked, flipped, value_at, node_value, top_at, branch, IsSound, is_marked_at, moved_node, AreMoved}
+use Rattle.std.proofs.lemmas.Bool.{cases_Bool}
 use Rattle.std.proofs.lemmas.List.Elements.{filter-append}
-use Rattle.std.proofs.lemmas.Option.{slice_get-get_or, slice_get_within, same_Some}
 use Rattle.indexmap.specs.IndexSet.{insert_key}
 use Rattle.indexmap.proofs.CallerLemmas.{Contains-list_any}
 use Rattle.cyc_base.specs.declared.limits.TheConstants.{MAX_NODES}
-use Rattle.cyc_base.proofs.ListLemmas.{range-suc}
-use Rattle.bdd_store.specs.declared.node.Node.{Node}
-use Rattle.bdd_store.specs.declared.node.Entry.{Entry}
-use Rattle.bdd_store.specs.Arena.{index, is_marked, flipped, value_at, node_value, top_at, chosen}
-use Rattle.bdd_store.specs.Soundness.{IsSoundEntry, IsSound}
-use Rattle.bdd_store.specs.Renumbering.{is_marked_at, AreClosed, IsPlaced, place, moved_node, moved_entry, AreMoved}
-use Rattle.bdd_store.proofs.ValueLemmas.{chosen_both, slice_get-append_left, value_at-entry, value_at-zero, top_at-entry, top_at-zero, entry_at}
+use Rattle.std.proofs.lemmas.List.FromFn.{length-range_with_len}
+use Rattle.cyc_base.proofs.ListLemmas.{filter-no_longer, range-suc}
+use Rattle.bdd_store.specs.Soundness.{IsSoundEntry}
+use Rattle.bdd_store.specs.Renumbering.{AreClosed, IsPlaced, place, moved_entry}
+use Rattle.bdd_store.proofs.ValueLemmas.{branch_both, branch_low, by_branches, slice_get-append_left, slice_get-last, value_at-entry, value_at-zero, top_at-entry, top_at-zero, entry_at}
 use Rattle.bdd_store.proofs.CanonicalLemmas.{early}
-use Rattle.bdd_store.proofs.MakeLemmas.{entry_eq, entry_eq-true, IsSound-push}
+use Rattle.bdd_store.proofs.MakeLemmas.{entry_eq, entry_eq-true, read-Contains, IsSound-push}
 
 -- ---- the table grows at its end
 
 pub insert-new : (es : List Entry) (e : Entry) → (Contains es e → ⊥) → insert_key entry_eq es e ≡ es ++ e ∷ []
-insert-new es e absent = by (list_any (entry_eq e) es) refl
-  where
-    by : (b : Bool) → list_any (entry_eq e) es ≡ b → (if b then es else es ++ e ∷ []) ≡ es ++ e ∷ []
-    by true h = absurd (absent (Contains-list_any entry_eq entry_eq-true es e h))
-    by false h = refl
+insert-new es e absent = elim (cases_Bool (list_any (entry_eq e) es)) [
+  | inl there ↦ absurd (absent (Contains-list_any entry_eq entry_eq-true es e there))
+  | inr none ↦ rw none refl
+]
 
 -- ---- how many are kept
 
@@ -39,42 +35,33 @@ kept-suc marks n b is =
     let here : 0 + n ≡ n = omega arith in
     ap (λ (xs : List ℕ). length (filter test xs)) (range-suc 0 n ∙ ap (λ (x : ℕ). range_with_len 0 n ++ x ∷ []) here)
     ∙ ap length (filter-append test (range_with_len 0 n) (n ∷ []))
-    ∙ ap (λ c. length (kept marks n ++ cond c (n ∷ []) [])) is
-    ∙ by b
-  where
-    by : (b : Bool) → length (kept marks n ++ cond b (n ∷ []) []) ≡ length (kept marks n) + (if b then 1 else 0)
-    by true = length-append (kept marks n) (n ∷ [])
-    by false = length-append (kept marks n) []
+    ∙ rw is (elim b as (λ c. length (kept marks n ++ cond c (n ∷ []) []) ≡ length (kept marks n) + (if c then 1 else 0)) [ true ↦ length-append (kept marks n) (n ∷ []) | false ↦ length-append (kept marks n) [] ])
 
 pub kept-few : (marks : List Bool) (n : ℕ) → length (kept marks n) ≤ n
-kept-few marks zero = omega arith
-kept-few marks (suc n) = by (kept-few marks n) (is_marked_at marks (suc n)) refl
-  where
-    by : length (kept marks n) ≤ n → (b : Bool) → is_marked_at marks (suc n) ≡ b → length (kept marks (suc n)) ≤ suc n
-    by few true h = omega (arith, few, kept-suc marks n true h)
-    by few false h = omega (arith, few, kept-suc marks n false h)
+kept-few marks n = omega (arith, filter-no_longer (λ p. is_marked_at marks (suc p)) (range_with_len 0 n), length-range_with_len 0 n)
 
 -- ---- moved nodes and entries
 
-remainder : (n : Node) (places : List ℕ) → (index (moved_node places n) ≡ place places (index n)) × ((moved_node places n).number % 2 ≡ n.number % 2)
-remainder n places = (omega arith, omega arith)
-
 pub index-moved : (places : List ℕ) (n : Node) → index (moved_node places n) ≡ place places (index n)
-index-moved places n = (remainder n places).0
+index-moved places n = omega arith
 
 pub is_marked-moved : (places : List ℕ) (n : Node) → is_marked (moved_node places n) ≡ is_marked n
-is_marked-moved places n = ap (λ r. r == 0) (remainder n places).1
+is_marked-moved places n = let same : (moved_node places n).number % 2 ≡ n.number % 2 = omega arith in rw same refl
+
+branch-moved : (places : List ℕ) (e : Entry) (bit : Bool) → branch (moved_entry places e) bit ≡ moved_node places (branch e bit)
+branch-moved places e true = refl
+branch-moved places e false = refl
 
 -- a place further on changes no entry before
 moved-set : (places : List ℕ) (i v : ℕ) (e : Entry) → index e.lo < i → index e.hi < i → moved_entry (set places i v) e ≡ moved_entry places e
-moved-set places i v e low high =
-    let lo : place (set places i v) (index e.lo) ≡ place places (index e.lo) = get_or-set_other places i (index e.lo) v 0 (omega arith) in
-    let hi : place (set places i v) (index e.hi) ≡ place places (index e.hi) = get_or-set_other places i (index e.hi) v 0 (omega arith) in
-    λ j. record { var = e.var; lo = record { number = 2 * lo j + e.lo.number % 2 }; hi = record { number = 2 * hi j + e.hi.number % 2 } }
+moved-set places i v e low high = rw (get_or-set_other places i (index e.lo) v 0 (omega arith), get_or-set_other places i (index e.hi) v 0 (omega arith)) refl
 
-branch-marked : (es : List Entry) (marks : List Bool) → AreClosed es marks → (p : ℕ) (e : Entry) (i : ℕ) → slice_get es p ≡ Some e → is_marked_at marks (suc p) ≡ true → (index e.lo ≡ i) ⊎ (index e.hi ≡ i) → is_marked_at marks i ≡ true
-branch-marked es marks closed p e zero at marked leads = closed.constants
-branch-marked es marks closed p e (suc q) at marked leads = closed.branches p q marked (e, at, leads)
+branch-marked : (es : List Entry) (marks : List Bool) → AreClosed es marks → (p : ℕ) (e : Entry) (bit : Bool) → slice_get es p ≡ Some e → is_marked_at marks (suc p) ≡ true → is_marked_at marks (index (branch e bit)) ≡ true
+branch-marked es marks closed p e bit at marked = branch_both (λ n. is_marked_at marks (index n) ≡ true) e bit (by (index e.lo) (λ q is. inl is)) (by (index e.hi) (λ q is. inr is))
+  where
+    by : (i : ℕ) → ((q : ℕ) → i ≡ suc q → (index e.lo ≡ suc q) ⊎ (index e.hi ≡ suc q)) → is_marked_at marks i ≡ true
+    by zero leads = closed.constants
+    by (suc q) leads = closed.branches p q marked (e, at, leads q refl)
 
 module _ (es : List Entry) (marks : List Bool) (places : List ℕ) (table : List Entry) (n : ℕ) (closed : AreClosed es marks) (vars : ℕ) (sound : IsSound vars es) (moved : AreMoved es marks places table n) where
   sound_table : IsSound vars table
@@ -106,30 +93,24 @@ module _ (es : List Entry) (marks : List Bool) (places : List ℕ) (table : List
     within : n < length es
     within = slice_get_within es n e at
 
-    lo_marked : is_marked_at marks (index e.lo) ≡ true
-    lo_marked = branch-marked es marks closed n e (index e.lo) at marked (inl refl)
-
-    hi_marked : is_marked_at marks (index e.hi) ≡ true
-    hi_marked = branch-marked es marks closed n e (index e.hi) at marked (inr refl)
+    branch_marked : (bit : Bool) → is_marked_at marks (index (branch e bit)) ≡ true
+    branch_marked bit = branch-marked es marks closed n e bit at marked
 
     -- the entry is not in the table yet
     pub moved-absent : Contains table (moved_entry places e) → ⊥
     moved-absent has =
-        let q = has.0 in
-        let here : slice_get table q ≡ Some (moved_entry places e) = slice_get-get_or table q (moved_entry places e) has.1 ∙ ap Some has.2 in
-        let from = moved.from q has.1 in
+        let from = moved.from has.0 has.1 in
         let p = from.0 in
         let old = entry_at es p (omega (arith, from.1, within)) in
         let x = old.0 in
         let is = moved.each p x from.1 old.1 from.2 in
-        let same_q : is.0 ≡ q = omega (arith, is.1, from.3) in
-        let same : moved_entry places x ≡ moved_entry places e = same_Some (moved_entry places x) (moved_entry places e) (sym is.2 ∙ ap (slice_get table) same_q ∙ here) in
-        let sx = sound.each p x old.1 in
-        let se = sound.each n e at in
-        let lo : x.lo.number ≡ e.lo.number = same_moved x.lo e.lo (omega (arith, sx.lo_earlier, from.1)) se.lo_earlier (branch-marked es marks closed p x (index x.lo) old.1 from.2 (inl refl)) lo_marked (ap (λ (y : Entry). y.lo.number) same) in
-        let hi : x.hi.number ≡ e.hi.number = same_moved x.hi e.hi (omega (arith, sx.hi_earlier, from.1)) se.hi_earlier (branch-marked es marks closed p x (index x.hi) old.1 from.2 (inr refl)) hi_marked (ap (λ (y : Entry). y.hi.number) same) in
-        let var : x.var ≡ e.var = ap (λ (y : Entry). y.var) same in
-        let one : x ≡ e = λ j. record { var = var j; lo = record { number = lo j }; hi = record { number = hi j } } in
+        let same_q : is.0 ≡ has.0 = omega (arith, is.1, from.3) in
+        let same : moved_entry places x ≡ moved_entry places e = same_Some (moved_entry places x) (moved_entry places e) (sym is.2 ∙ ap (slice_get table) same_q ∙ read-Contains table (moved_entry places e) has) in
+        let branches : (bit : Bool) → (branch x bit).number ≡ (branch e bit).number = λ bit.
+        let low = branch_low es (early sound) p x bit old.1 in
+        same_moved (branch x bit) (branch e bit) (omega (arith, low, from.1)) (branch_low es (early sound) n e bit at) (branch-marked es marks closed p x bit old.1 from.2) (branch_marked bit)
+        (ap (λ (m : Node). m.number) (sym (branch-moved places x bit) ∙ ap (λ y. branch y bit) same ∙ branch-moved places e bit)) in
+        let one : x ≡ e = λ j. record { var = ap (λ (y : Entry). y.var) same j; lo = record { number = branches false j }; hi = record { number = branches true j } } in
         let p_is : p ≡ n = sound.once p n e (old.1 ∙ ap Some one) at in
         omega (arith, p_is, from.1)
 
@@ -138,13 +119,13 @@ module _ (es : List Entry) (marks : List Bool) (places : List ℕ) (table : List
         let s = sound.each n e at in
         let w : n ≤ length es = omega (arith, within) in
         record {
-          lo_earlier = omega (arith, index-moved places e.lo, place-within (index e.lo) s.lo_earlier w lo_marked);
-          hi_earlier = omega (arith, index-moved places e.hi, place-within (index e.hi) s.hi_earlier w hi_marked);
-          apart = λ same. s.apart (same_moved e.lo e.hi s.lo_earlier s.hi_earlier lo_marked hi_marked same);
+          lo_earlier = omega (arith, index-moved places e.lo, place-within (index e.lo) s.lo_earlier w (branch_marked false));
+          hi_earlier = omega (arith, index-moved places e.hi, place-within (index e.hi) s.hi_earlier w (branch_marked true));
+          apart = λ same. s.apart (same_moved e.lo e.hi s.lo_earlier s.hi_earlier (branch_marked false) (branch_marked true) same);
           unmarked = is_marked-moved places e.hi ∙ s.unmarked;
           within = s.within;
-          lo_below = omega (arith, s.lo_below, ap (top_at vars table) (index-moved places e.lo), top-place (index e.lo) s.lo_earlier w lo_marked);
-          hi_below = omega (arith, s.hi_below, ap (top_at vars table) (index-moved places e.hi), top-place (index e.hi) s.hi_earlier w hi_marked);
+          lo_below = omega (arith, s.lo_below, ap (top_at vars table) (index-moved places e.lo), top-place (index e.lo) s.lo_earlier w (branch_marked false));
+          hi_below = omega (arith, s.hi_below, ap (top_at vars table) (index-moved places e.hi), top-place (index e.hi) s.hi_earlier w (branch_marked true));
         }
 
     pub moved-sound : IsSound vars (table ++ moved_entry places e ∷ [])
@@ -186,7 +167,7 @@ AreMoved-more es marks places table n closed sound moved e at marked room =
             let x_is : e ≡ x = same_Some e x (sym at ∙ ap (slice_get es) (sym is) ∙ at_p) in (
               length table,
               ap (λ k. place new_places (suc k)) is ∙ here,
-              slice_get-get_or new (length table) (moved_entry places e) (omega (arith, longer)) ∙ ap Some (get_or_push table (moved_entry places e) (moved_entry places e) (length table) refl ∙ ap (moved_entry places) x_is ∙ sym (same_entry p x (omega arith) at_p)),
+              slice_get-last table (moved_entry places e) ∙ ap Some (ap (moved_entry places) x_is ∙ sym (same_entry p x (omega arith) at_p)),
             )
       ];
       once = λ i j low_i low_j mi mj same. elim (cases_lt i (suc n)) [
@@ -209,40 +190,24 @@ AreMoved-more es marks places table n closed sound moved e at marked room =
 -- ---- functions
 
 module _ (es : List Entry) (marks : List Bool) (places : List ℕ) (table : List Entry) (closed : AreClosed es marks) (vars : ℕ) (sound : IsSound vars es) (moved : AreMoved es marks places table (length es)) where
-  chosen-moved : (e : Entry) (bits : List Bool) → chosen (moved_entry places e) bits ≡ moved_node places (chosen e bits)
-  chosen-moved e bits = by (get_or bits e.var false)
-    where
-      by : (b : Bool) → (if b then moved_node places e.hi else moved_node places e.lo) ≡ moved_node places (if b then e.hi else e.lo)
-      by true = refl
-      by false = refl
+  value-moved : (n : Node) (bits : List Bool) → value_at table (place places (index n)) bits ≡ value_at es (index n) bits → node_value table (moved_node places n) bits ≡ node_value es n bits
+  value-moved n bits same = rw (is_marked-moved places n, index-moved places n) (ap (flipped (is_marked n)) same)
 
-  chosen-marked : (p : ℕ) (e : Entry) (bits : List Bool) → slice_get es p ≡ Some e → is_marked_at marks (suc p) ≡ true → is_marked_at marks (index (chosen e bits)) ≡ true
-  chosen-marked p e bits at marked = chosen_both (λ n. is_marked_at marks (index n) ≡ true) e bits (branch-marked es marks closed p e (index e.lo) at marked (inl refl)) (branch-marked es marks closed p e (index e.hi) at marked (inr refl))
-
-  value-place : (bits : List Bool) (fuel i : ℕ) → i < fuel → i ≤ length es → is_marked_at marks i ≡ true → value_at table (place places i) bits ≡ value_at es i bits
-  value-place bits zero i less w marked = absurd (omega arith)
-  value-place bits (suc fuel) zero less w marked = ap (λ k. value_at table k bits) moved.constants ∙ value_at-zero table bits ∙ sym (value_at-zero es bits)
-  value-place bits (suc fuel) (suc p) less w marked =
-      let at = entry_at es p (omega arith) in
-      let e = at.0 in
-      let s = sound.each p e at.1 in
-      let is = moved.each p e (omega arith) at.1 marked in
-      let next = chosen e bits in
-      let low : index next ≤ p = chosen_both (λ n. index n ≤ p) e bits s.lo_earlier s.hi_earlier in
+  value-place : (bits : List Bool) (i : ℕ) → i ≤ length es → is_marked_at marks i ≡ true → value_at table (place places i) bits ≡ value_at es i bits
+  value-place bits = by_branches es (λ i. is_marked_at marks i ≡ true → value_at table (place places i) bits ≡ value_at es i bits)
+      (λ marked. ap (λ k. value_at table k bits) moved.constants ∙ value_at-zero table bits ∙ sym (value_at-zero es bits))
+      (λ p e at rest marked.
+      let is = moved.each p e (slice_get_within es p e at) at marked in
+      let bit = get_or bits e.var false in
       ap (λ k. value_at table k bits) is.1
       ∙ value_at-entry table (early (moved.sound vars sound)) bits is.0 (moved_entry places e) is.2
-      ∙ ap (λ (n : Node). node_value table n bits) (chosen-moved e bits)
-      ∙ ap (λ m. flipped m (value_at table (index (moved_node places next)) bits)) (is_marked-moved places next)
-      ∙ ap (λ k. flipped (is_marked next) (value_at table k bits)) (index-moved places next)
-      ∙ ap (flipped (is_marked next)) (value-place bits fuel (index next) (omega arith) (omega arith) (chosen-marked p e bits at.1 marked))
-      ∙ sym (value_at-entry es (early sound) bits p e at.1)
+      ∙ ap (λ (n : Node). node_value table n bits) (branch-moved places e bit)
+      ∙ value-moved (branch e bit) bits (rest (index (branch e bit)) (branch_low es (early sound) p e bit at) (branch-marked es marks closed p e bit at marked))
+      ∙ sym (value_at-entry es (early sound) bits p e at))
 
   -- a node that is kept has its function at its place
   pub node_value-moved : (n : Node) (bits : List Bool) → index n ≤ length es → is_marked_at marks (index n) ≡ true → node_value table (moved_node places n) bits ≡ node_value es n bits
-  node_value-moved n bits w marked =
-      ap (λ m. flipped m (value_at table (index (moved_node places n)) bits)) (is_marked-moved places n)
-      ∙ ap (λ k. flipped (is_marked n) (value_at table k bits)) (index-moved places n)
-      ∙ ap (flipped (is_marked n)) (value-place bits (suc (index n)) (index n) (omega arith) w marked)
+  node_value-moved n bits w marked = value-moved n bits (value-place bits (index n) w marked)
 
   pub top-moved : (n : Node) → index n ≤ length es → is_marked_at marks (index n) ≡ true → top_at vars table (index (moved_node places n)) ≡ top_at vars es (index n)
   top-moved n w marked = ap (top_at vars table) (index-moved places n) ∙ top-place es marks places table (length es) closed vars sound moved (index n) w (omega arith) marked
@@ -255,31 +220,17 @@ pub record IsKeptNext (es : List Entry) (places : List ℕ) (table : List Entry)
   pub room : length table < MAX_NODES
   pub absent : Contains table (moved_entry places e) → ⊥
 
-pub IsKeptNext-from : (es : List Entry) (marks : List Bool) (places : List ℕ) (table : List Entry) (n : ℕ) (d : Entry) → AreClosed es marks → (vars : ℕ) × IsSound vars es → AreMoved es marks places table n → length es ≤ MAX_NODES → length places ≡ length es + 1 → n < length es → is_marked_at marks (n + 1) ≡ true → IsKeptNext es places table (get_or es n d)
+pub IsKeptNext-from : (es : List Entry) (marks : List Bool) (places : List ℕ) (table : List Entry) (n : ℕ) (d : Entry) → AreClosed es marks → (vars : ℕ) × IsSound vars es → AreMoved es marks places table n → length es ≤ MAX_NODES → length places ≡ length es + 1 → n < length es → is_marked_at marks (suc n) ≡ true → IsKeptNext es places table (get_or es n d)
 IsKeptNext-from es marks places table n d closed sound moved few long less marked =
     let e = get_or es n d in
     let at : slice_get es n ≡ Some e = slice_get-get_or es n d less in
-    let m : is_marked_at marks (suc n) ≡ true = rw add-one at marked in
     let s = sound.1.each n e at in
-    let lo = place-within es marks places table n closed sound.0 sound.1 moved (index e.lo) s.lo_earlier (omega arith) (branch-marked es marks closed n e (index e.lo) at m (inl refl)) in
-    let hi = place-within es marks places table n closed sound.0 sound.1 moved (index e.hi) s.hi_earlier (omega arith) (branch-marked es marks closed n e (index e.hi) at m (inr refl)) in
+    let lo = place-within es marks places table n closed sound.0 sound.1 moved (index e.lo) s.lo_earlier (omega arith) (branch-marked es marks closed n e false at marked) in
+    let hi = place-within es marks places table n closed sound.0 sound.1 moved (index e.hi) s.hi_earlier (omega arith) (branch-marked es marks closed n e true at marked) in
     let count : length table ≤ n = omega (arith, moved.count, kept-few marks n) in
     record {
       lo = record { within = omega (arith, s.lo_earlier); small = omega arith };
       hi = record { within = omega (arith, s.hi_earlier); small = omega arith };
       room = omega arith;
-      absent = moved-absent es marks places table n closed sound.0 sound.1 moved e at m;
+      absent = moved-absent es marks places table n closed sound.0 sound.1 moved e at marked;
     }
-
-pub AreMoved-next : (es : List Entry) (marks : List Bool) (places new_places : List ℕ) (table new : List Entry) (n : ℕ) (d : Entry) → AreClosed es marks → (vars : ℕ) × IsSound vars es → AreMoved es marks places table n → length places ≡ length es + 1 → n < length es → is_marked_at marks (n + 1) ≡ true → new ≡ table ++ moved_entry places (get_or es n d) ∷ [] → new_places ≡ set places (n + 1) (length table + 1) → AreMoved es marks new_places new (n + 1)
-AreMoved-next es marks places new_places table new n d closed sound moved long less marked new_is places_are =
-    let e = get_or es n d in
-    let at : slice_get es n ≡ Some e = slice_get-get_or es n d less in
-    let more = AreMoved-more es marks places table n closed sound moved e at (rw add-one at marked) (omega arith) in
-    let one : n + 1 ≡ suc n = add-one n in
-    subst (λ k. AreMoved es marks new_places new k) (sym one) (subst (λ (xs : List Entry). AreMoved es marks new_places xs (suc n)) (sym new_is) (subst (λ (ps : List ℕ). AreMoved es marks ps (table ++ moved_entry places e ∷ []) (suc n)) (sym (places_are ∙ ap (λ k. set places k (length table + 1)) one)) more))
-
-pub AreMoved-pass : (es : List Entry) (marks : List Bool) (places new_places : List ℕ) (table new : List Entry) (n : ℕ) → AreMoved es marks places table n → is_marked_at marks (n + 1) ≡ false → new ≡ table → new_places ≡ places → AreMoved es marks new_places new (n + 1)
-AreMoved-pass es marks places new_places table new n moved not_marked new_is places_are =
-    let one : n + 1 ≡ suc n = add-one n in
-    subst (λ k. AreMoved es marks new_places new k) (sym one) (subst (λ (xs : List Entry). AreMoved es marks new_places xs (suc n)) (sym new_is) (subst (λ (ps : List ℕ). AreMoved es marks ps table (suc n)) (sym places_are) (AreMoved-skip es marks places table n (rw add-one at not_marked) moved)))

@@ -1,6 +1,6 @@
 -- The number of subfunctions, computed at small functions.
 use Rattle.std.proofs.Common.{◌≡◌, ℕ, Bool, false, not, ◌&&◌, List, refl, get_or, if◌then◌else◌}
-use Rattle.bdd_store.specs.Subfunctions.{nodes, table}
+use Rattle.bdd_store.proofs.Common.{nodes, table}
 
 -- the bit at a place
 abbrev bit : ℕ → List Bool → Bool

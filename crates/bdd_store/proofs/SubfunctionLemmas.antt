@@ -1,16 +1,18 @@
 -- Functions of bits with their first bits fixed, and their tables.
-use Rattle.std.proofs.Common.{◌≡◌, ℕ, zero, suc, ◌+◌, ◌-◌, ◌<◌, ◌≤◌, Bool, true, false, not, ◌&&◌, ◌||◌, List, [], ◌∷◌, ◌++◌, ◌⊎◌, inl, inr, length, take, drop, map, filter, Contains, refl, sym, ap, ◌∙◌, arith, append_assoc, length-append, length-drop, true≢false}
-use Rattle.std.proofs.lemmas.List.{map-append, length-map, take_at, drop_at, drop_all, drop-drop, append-nil, drop-append-le}
-use Rattle.std.proofs.lemmas.Bool.{cases_lt}
-use Rattle.std.proofs.lemmas.List.Elements.{Contains-append_left, Contains-append_right}
-use Rattle.std.specs.List.{list_all, AllByRecursion}
+use Rattle.std.proofs.Common.{◌≡◌, ℕ, zero, suc, ◌≤◌, Bool, true, false, not, ◌||◌, List, [], ◌∷◌, ◌++◌, inl, inr, length, drop, map, filter, Contains, refl, sym, ap, ◌∙◌, arith, append_assoc, length-append, length-drop, true≢false}
+use Rattle.std.proofs.lemmas.List.{drop_all, append-nil, drop-append-le}
+use Rattle.std.proofs.lemmas.Slice.{drop-append-drop}
+use Rattle.std.proofs.Math.Bool.{not-not}
+use Rattle.bdd_store.proofs.Common.{and_parts, cases_lt, AllByRecursion, table, is_constant, nodes, IsPart}
+use Rattle.std.proofs.lemmas.List.Elements.{All-contains, All-from_recursion, Contains-append_left, Contains-append_right}
+use Rattle.std.specs.List.{list_all}
 use Rattle.std.specs.Set.{distinct_count}
 use Rattle.std.specs.Bool.{beq}
 use Rattle.std.specs.Cmp.Lexicographic.{pointwise}
 use Rattle.cyc_base.specs.Vectors.{vectors}
-use Rattle.cyc_base.proofs.ListLemmas.{Contains-here, map-map, all_append, all_map, all_weaker}
+use Rattle.cyc_base.proofs.ListLemmas.{Contains-here, all_append, all_map, all_weaker}
 use Rattle.cyc_base.proofs.VectorLemmas.{Contains-vectors}
-use Rattle.bdd_store.specs.Subfunctions.{fixed, prefixes, table, is_constant, nodes, IsPart}
+use Rattle.bdd_store.specs.Subfunctions.{fixed, prefixes}
 
 -- ---- parts
 
@@ -29,24 +31,15 @@ IsPart-of_alike {vars} p same = record { first = p.first; short = p.short; same 
 
 -- fixing q's bits and then p's is fixing p's and the rest of q's
 fixed_twice : (p q bits : List Bool) → p ++ drop (length p) (q ++ drop (length q) bits) ≡ (p ++ drop (length p) q) ++ drop (length (p ++ drop (length p) q)) bits
-fixed_twice p q bits = by (cases_lt (length q) (length p))
-  where
-    by : (length q < length p) ⊎ (length p ≤ length q) → p ++ drop (length p) (q ++ drop (length q) bits) ≡ (p ++ drop (length p) q) ++ drop (length (p ++ drop (length p) q)) bits
-    by (inl less) =
-        let all : drop (length p) q ≡ [] = drop_all (length p) q (omega arith) in
-        let more : length q + (length p - length q) ≡ length p = omega arith in
-        let beyond : drop (length p) (q ++ drop (length q) bits) ≡ drop (length p) bits =
-        ap (λ n. drop n (q ++ drop (length q) bits)) (sym more)
-        ∙ sym (drop-drop (length p - length q) (length q) (q ++ drop (length q) bits))
-        ∙ ap (drop (length p - length q)) (drop_at q (drop (length q) bits) (length q) refl)
-        ∙ drop-drop (length p - length q) (length q) bits
-        ∙ ap (λ n. drop n bits) more in
-        let one : p ++ drop (length p) q ≡ p = ap (λ l. p ++ l) all ∙ append-nil p in
-        ap (λ l. p ++ l) beyond ∙ sym (ap (λ l. l ++ drop (length l) bits) one)
-    by (inr more) =
-        let inside : drop (length p) (q ++ drop (length q) bits) ≡ drop (length p) q ++ drop (length q) bits = drop-append-le (length p) q (drop (length q) bits) more in
-        let long : length (p ++ drop (length p) q) ≡ length q = omega (arith, length-append p (drop (length p) q), length-drop (length p) q) in
-        ap (λ l. p ++ l) inside ∙ sym (append_assoc p (drop (length p) q) (drop (length q) bits)) ∙ ap (λ n. (p ++ drop (length p) q) ++ drop n bits) (sym long)
+fixed_twice p q bits = elim (cases_lt (length q) (length p)) [
+  | inl less ↦
+      let beyond = drop-append-drop (length q) bits q (length p) (omega arith) refl in
+      rw (beyond, drop_all (length p) q (omega arith), append-nil p) refl
+  | inr more ↦
+      let inside = drop-append-le (length p) q (drop (length q) bits) more in
+      let long : length (p ++ drop (length p) q) ≡ length q = omega (arith, length-append p (drop (length p) q), length-drop (length p) q) in
+      rw (inside, long) (sym (append_assoc p (drop (length p) q) (drop (length q) bits)))
+]
 
 -- a part of a part is a part
 pub IsPart-chain : {vars : ℕ} {f g h : List Bool → Bool} → IsPart vars f g → IsPart vars g h → IsPart vars f h
@@ -61,68 +54,36 @@ IsPart-chain {vars} {f} p q = record {
 pub prefixes-all : (n : ℕ) (p : List Bool) → length p ≤ n → Contains (prefixes n) p
 prefixes-all zero [] h = Contains-here [] []
 prefixes-all zero (b ∷ p) h = absurd (omega arith)
-prefixes-all (suc n) p h = by (cases_lt (length p) (suc n)) (prefixes-all n p)
-  where
-    by : (length p < suc n) ⊎ (suc n ≤ length p) → (length p ≤ n → Contains (prefixes n) p) → Contains (prefixes (suc n)) p
-    by (inl less) rest = Contains-append_left (prefixes n) (vectors (suc n)) p (rest (omega arith))
-    by (inr more) rest = Contains-append_right (prefixes n) (vectors (suc n)) p (Contains-vectors (suc n) p (omega arith))
+prefixes-all (suc n) p h = elim (cases_lt (length p) (suc n)) [
+  | inl less ↦ Contains-append_left (prefixes n) (vectors (suc n)) p (prefixes-all n p (omega arith))
+  | inr more ↦ Contains-append_right (prefixes n) (vectors (suc n)) p (Contains-vectors (suc n) p (omega arith))
+]
 
 -- ---- tables
-
-pub table-suc : (n : ℕ) (f : List Bool → Bool) → table (suc n) f ≡ table n (λ v. f (false ∷ v)) ++ table n (λ v. f (true ∷ v))
-unfolding table
-table-suc n f =
-    map-append f (map (λ v. false ∷ v) (vectors n)) (map (λ v. true ∷ v) (vectors n))
-    ∙ (λ j. map-map f (λ v. false ∷ v) (vectors n) j ++ map-map f (λ v. true ∷ v) (vectors n) j)
-
-pub length-table : (n : ℕ) (f : List Bool → Bool) → length (table n f) ≡ length (vectors n)
-unfolding table
-length-table n f = length-map (vectors n) f
-
-append_parts : (xs ys zs ws : List Bool) → length xs ≡ length zs → xs ++ ys ≡ zs ++ ws → (xs ≡ zs) × (ys ≡ ws)
-append_parts xs ys zs ws len e = (
-  sym (take_at xs ys (length xs) refl) ∙ ap (take (length xs)) e ∙ take_at zs ws (length xs) (sym len),
-  sym (drop_at xs ys (length xs) refl) ∙ ap (drop (length xs)) e ∙ drop_at zs ws (length xs) (sym len),
-)
-
-table-zero : (f : List Bool → Bool) → table zero f ≡ f [] ∷ []
-unfolding table
-table-zero f = refl
-
--- functions of one table have one value at each list of bits
-pub alike-from_table : (n : ℕ) (f g : List Bool → Bool) → table n f ≡ table n g → (bits : List Bool) → length bits ≡ n → f bits ≡ g bits
-alike-from_table zero f g e [] len = first_of_one (f []) (g []) (sym (table-zero f) ∙ e ∙ table-zero g)
-  where
-    first_of_one : (a b : Bool) → a ∷ [] ≡ b ∷ [] → a ≡ b
-    first_of_one a b h = cc
-alike-from_table zero f g e (b ∷ bits) len = absurd (omega arith)
-alike-from_table (suc n) f g e [] len = absurd (omega arith)
-alike-from_table (suc n) f g e (b ∷ bits) len = by b (alike-from_table n (λ v. f (false ∷ v)) (λ v. g (false ∷ v)) halves.0 bits (omega arith)) (alike-from_table n (λ v. f (true ∷ v)) (λ v. g (true ∷ v)) halves.1 bits (omega arith))
-  where
-    halves : (table n (λ v. f (false ∷ v)) ≡ table n (λ v. g (false ∷ v))) × (table n (λ v. f (true ∷ v)) ≡ table n (λ v. g (true ∷ v)))
-    halves = append_parts _ _ _ _ (length-table n (λ v. f (false ∷ v)) ∙ sym (length-table n (λ v. g (false ∷ v)))) (sym (table-suc n f) ∙ e ∙ table-suc n g)
-
-    by : (c : Bool) → f (false ∷ bits) ≡ g (false ∷ bits) → f (true ∷ bits) ≡ g (true ∷ bits) → f (c ∷ bits) ≡ g (c ∷ bits)
-    by false low high = low
-    by true low high = high
-
--- and the other way round
-pub table-alike : (n : ℕ) (f g : List Bool → Bool) → ((bits : List Bool) → length bits ≡ n → f bits ≡ g bits) → table n f ≡ table n g
-table-alike zero f g h = table-zero f ∙ ap (λ b. b ∷ []) (h [] refl) ∙ sym (table-zero g)
-table-alike (suc n) f g h =
-    table-suc n f
-    ∙ (λ j. table-alike n (λ v. f (false ∷ v)) (λ v. g (false ∷ v)) (λ v len. h (false ∷ v) (ap suc len)) j ++ table-alike n (λ v. f (true ∷ v)) (λ v. g (true ∷ v)) (λ v len. h (true ∷ v) (ap suc len)) j)
-    ∙ sym (table-suc n g)
 
 map-alike_all : {X Y : Type 0} (f g : X → Y) (xs : List X) → AllByRecursion (λ x. f x ≡ g x) xs → map f xs ≡ map g xs
 map-alike_all f g [] h = refl
 map-alike_all f g (x ∷ xs) h = λ j. h.0 j ∷ map-alike_all f g xs h.1 j
 
+all-map_alike : {X Y : Type 0} (f g : X → Y) (xs : List X) → map f xs ≡ map g xs → AllByRecursion (λ x. f x ≡ g x) xs
+all-map_alike f g [] e = tt
+all-map_alike f g (x ∷ xs) e = (cc, all-map_alike f g xs (cc))
+
+-- functions of one table have one value at each list of bits
+pub alike-from_table : (n : ℕ) (f g : List Bool → Bool) → table n f ≡ table n g → (bits : List Bool) → length bits ≡ n → f bits ≡ g bits
+unfolding table
+alike-from_table n f g e bits len = All-contains (λ v. f v ≡ g v) (vectors n) bits (All-from_recursion (λ v. f v ≡ g v) (vectors n) (all-map_alike f g (vectors n) e)) (Contains-vectors n bits len)
+
 vectors-long : (n : ℕ) → AllByRecursion (λ v. length v ≡ n) (vectors n)
 vectors-long zero = (refl, tt)
 vectors-long (suc n) =
-    let longer : (b : Bool) → AllByRecursion (λ v. length (b ∷ v) ≡ suc n) (vectors n) = λ b. all_weaker (λ v. length v ≡ n) (λ v. length (b ∷ v) ≡ suc n) (vectors n) (λ v e. ap suc e) (vectors-long n) in
-    all_append (λ v. length v ≡ suc n) (map (λ v. false ∷ v) (vectors n)) (map (λ v. true ∷ v) (vectors n)) (all_map (λ v. length v ≡ suc n) (λ v. false ∷ v) (vectors n) (longer false)) (all_map (λ v. length v ≡ suc n) (λ v. true ∷ v) (vectors n) (longer true))
+    let longer : (b : Bool) → AllByRecursion (λ v. length v ≡ suc n) (map (λ v. b ∷ v) (vectors n)) = λ b. all_map (λ v. length v ≡ suc n) (λ v. b ∷ v) (vectors n) (all_weaker (λ v. length v ≡ n) (λ v. length (b ∷ v) ≡ suc n) (vectors n) (λ v e. ap suc e) (vectors-long n)) in
+    all_append (λ v. length v ≡ suc n) (map (λ v. false ∷ v) (vectors n)) (map (λ v. true ∷ v) (vectors n)) (longer false) (longer true)
+
+-- and the other way round
+pub table-alike : (n : ℕ) (f g : List Bool → Bool) → ((bits : List Bool) → length bits ≡ n → f bits ≡ g bits) → table n f ≡ table n g
+unfolding table
+table-alike n f g h = map-alike_all f g (vectors n) (all_weaker (λ v. length v ≡ n) (λ v. f v ≡ g v) (vectors n) h (vectors-long n))
 
 prefixes-short : (n : ℕ) → AllByRecursion (λ v. length v ≤ n) (prefixes n)
 prefixes-short zero = (omega arith, tt)
@@ -136,27 +97,17 @@ nodes-alike n f g h =
     (all_weaker (λ p. length p ≤ n) (λ p. table n (fixed f p) ≡ table n (fixed g p)) (prefixes n) (λ p short. table-alike n (fixed f p) (fixed g p) (λ bits len. h (p ++ drop (length p) bits) (length-fixed n p bits short len))) (prefixes-short n)))
 
 -- a constant table is that of a constant function
-all_true : {X : Type 0} (f : X → Bool) (xs : List X) → list_all (λ b. b) (map f xs) ≡ true → map f xs ≡ map (λ x. true) xs
-all_true f [] h = refl
-all_true f (x ∷ xs) h = by (f x) h (all_true f xs)
-  where
-    by : (b : Bool) → (b && list_all (λ c. c) (map f xs)) ≡ true → (list_all (λ c. c) (map f xs) ≡ true → map f xs ≡ map (λ y. true) xs) → b ∷ map f xs ≡ true ∷ map (λ y. true) xs
-    by true g rest = ap (λ l. true ∷ l) (rest g)
-    by false g rest = absurd (true≢false (sym g))
-
-all_false : {X : Type 0} (f : X → Bool) (xs : List X) → list_all not (map f xs) ≡ true → map f xs ≡ map (λ x. false) xs
-all_false f [] h = refl
-all_false f (x ∷ xs) h = by (f x) h (all_false f xs)
-  where
-    by : (b : Bool) → (not b && list_all not (map f xs)) ≡ true → (list_all not (map f xs) ≡ true → map f xs ≡ map (λ y. false) xs) → b ∷ map f xs ≡ false ∷ map (λ y. false) xs
-    by true g rest = absurd (true≢false (sym g))
-    by false g rest = ap (λ l. false ∷ l) (rest g)
+all_alike : {X : Type 0} (test : Bool → Bool) (b : Bool) → ((c : Bool) → test c ≡ true → c ≡ b) → (f : X → Bool) (xs : List X) → list_all test (map f xs) ≡ true → map f xs ≡ map (λ x. b) xs
+all_alike test b only f [] h = refl
+all_alike test b only f (x ∷ xs) h =
+    let both = and_parts (test (f x)) (list_all test (map f xs)) h in
+    λ j. only (f x) both.0 j ∷ all_alike test b only f xs both.1 j
 
 pub constant_value : (n : ℕ) (f : List Bool → Bool) → is_constant (table n f) ≡ true → (b : Bool) × (table n f ≡ table n (λ bits. b))
 unfolding table
 constant_value n f h = by (list_all (λ b. b) (map f (vectors n))) (list_all not (map f (vectors n))) refl refl h
   where
     by : (p q : Bool) → list_all (λ b. b) (map f (vectors n)) ≡ p → list_all not (map f (vectors n)) ≡ q → (p || q) ≡ true → (b : Bool) × (map f (vectors n) ≡ map (λ bits. b) (vectors n))
-    by true q e g t = (true, all_true f (vectors n) e)
-    by false true e g t = (false, all_false f (vectors n) g)
+    by true q e g t = (true, all_alike (λ b. b) true (λ c is. is) f (vectors n) e)
+    by false true e g t = (false, all_alike not false (λ c is. sym (not-not c) ∙ ap not is) f (vectors n) g)
     by false false e g t = absurd (true≢false (sym t))

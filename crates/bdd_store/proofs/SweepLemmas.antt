@@ -1,15 +1,13 @@
 -- What a sweep leaves: the roots' functions, and the entries that are reached.
 use Rattle.std.proofs.Common.{◌≡◌, ◌↔◌, ℕ, zero, suc, ◌+◌, ◌<◌, ◌≤◌, Bool, true, List, length, Option, Some, None, IsSome, refl, sym, ap, subst, ◌∙◌, inl, inr, arith}
 use Rattle.std.specs.Option.{option_map}
-use Rattle.std.proofs.lemmas.Option.{slice_get_within, same_Some}
+use Rattle.bdd_store.proofs.Common.{slice_get_within, same_Some, Node, Entry, Arena, index, den, top_at, top_of, IsSound, root_in, is_marked_at, AreMarks, moved_node, AreMoved}
 use Rattle.cyc_base.specs.declared.limits.TheConstants.{MAX_NODES}
-use Rattle.bdd_store.specs.declared.node.Node.{Node}
-use Rattle.bdd_store.specs.declared.node.Entry.{Entry}
-use Rattle.bdd_store.specs.Arena.{Arena, index, root_at, den, top_at, top_of}
-use Rattle.bdd_store.specs.Soundness.{IsSound, AreWithin}
+use Rattle.bdd_store.specs.Arena.{root_at}
+use Rattle.bdd_store.specs.Soundness.{AreWithin}
 use Rattle.bdd_store.specs.Sweeping.{HasBranch, LeadsTo, IsReached, HasReached, AllReached, KeepsRoots}
 use Rattle.bdd_store.specs.Sweeping.LeadsTo.{here, further}
-use Rattle.bdd_store.specs.Renumbering.{root_in, is_marked_at, AreMarks, AreClosed, IsPlaced, place, moved_node, moved_entry, AreMoved, AreMovedRoots}
+use Rattle.bdd_store.specs.Renumbering.{AreClosed, IsPlaced, place, moved_entry, AreMovedRoots}
 use Rattle.bdd_store.proofs.ValueLemmas.{entry_at}
 use Rattle.bdd_store.proofs.RenumberLemmas.{kept-few, index-moved, place-within, node_value-moved, top-moved}
 

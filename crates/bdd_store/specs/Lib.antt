@@ -5,4 +5,5 @@ pub mod Subfunctions
 pub mod Growth
 pub mod Sweeping
 -- The code's own: what its parts say to each other.
+pub mod Branches
 pub mod Renumbering

@@ -1,6 +1,7 @@
-ghost use Rattle.std.specs.Prelude.{◌≡◌, ◌↔◌, ℕ, ◌+◌, ◌*◌, ◌<◌, ◌≤◌, ◌⊎◌, Bool, List, [], Some, None, length, slice_get, Contains, IsSome, IsTrue, IfOk, OnOk, OnErr, false, true};
+ghost use Rattle.std.specs.Prelude.{◌≡◌, ◌↔◌, ℕ, ◌+◌, ◌-◌, ◌*◌, ◌<◌, ◌≤◌, ◌⊎◌, Bool, List, [], Some, None, length, slice_get, Contains, IsSome, IsTrue, IfOk, OnOk, OnErr, false, true};
 ghost use Rattle.std.specs.List.{slice_index_or};
 ghost use Rattle.bdd_store.specs.Arena.{empty, root_at, HasRoot, answer_to, with_answers, index, complemented, node_value, den, choice, top_of, IsNodeOf, IsBranching};
+ghost use Rattle.bdd_store.specs.Branches.{IsBranch};
 ghost use Rattle.bdd_store.specs.Soundness.{IsSound, SameFunction, IsLawful};
 ghost use Rattle.bdd_store.specs.Growth.{KeepsNodes, IsEntered, IsRefused, IsNewFunction, AddsAtMost};
 ghost use Rattle.bdd_store.specs.Sweeping.{KeepsRoots, HasReached, AllReached};
@@ -29,10 +30,8 @@ fn enter(entries: &mut IndexSet<Entry>, limit: u32, entry: Entry) -> Result<u32,
     ensures err { OnErr result (entries.new.keys ≡ entries.old.keys) }
 {
     if entries.len() < limit as usize {
-        match entries.insert_full(entry) {
-            Ok((at, _)) => Ok(at as u32),
-            Err(_) => Err(StoreFault::Memory),
-        }
+        let (at, _) = entries.insert_full(entry)?;
+        Ok(at as u32)
     } else {
         match entries.get_index_of(&entry) {
             Some(at) => Ok(at as u32),
@@ -49,25 +48,6 @@ fn node_at(position: u32) -> Node
     Node {
         number: 2 * position + 3,
     }
-}
-
-// The value of a node. Marks are gathered on the way.
-fn value_in(entries: &[Entry], node: Node, bits: &[bool]) -> bool
-    requires sound { IsSound (length bits.now) entries.now }
-    requires node { index node ≤ length entries.now }
-    ensures { result ≡ node_value entries.now node bits.now }
-{
-    let mut at = node;
-    while at.is_branching() {
-        let entry = &entries[at.index() as usize - 1];
-        let branch = if bits[entry.var as usize] {
-            entry.hi
-        } else {
-            entry.lo
-        };
-        at = branch.complement_if(at.is_marked());
-    }
-    !at.is_marked()
 }
 
 /// Nodes of reduced ordered decision diagrams. The variables are numbered from 0 in their order, and a
@@ -207,7 +187,12 @@ impl Store {
         requires bits { length bits.now ≡ self.now.vars }
         ensures { result ≡ den self.now n bits.now }
     {
-        value_in(self.entries.as_slice(), n, bits)
+        // Marks are gathered on the way.
+        let mut at = n;
+        while at.is_branching() {
+            at = self.branch(at, bits[self.top(at) as usize]);
+        }
+        !at.is_marked()
     }
 
     /// The variable of a node, or `vars` for a constant.
@@ -217,7 +202,7 @@ impl Store {
         ensures branching { IsBranching n ↔ (result < self.now.vars) }
     {
         if n.is_branching() {
-            self.entries.as_slice()[n.index() as usize - 1].var
+            self.entry(n).var
         } else {
             self.vars
         }
@@ -234,8 +219,7 @@ impl Store {
         ensures within { top_of self.now n < self.now.vars }
         ensures function { (bits : List Bool) → slice_index_or bits (top_of self.now n) false ≡ false → den self.now n bits ≡ den self.now result bits }
     {
-        let entry = &self.entries.as_slice()[n.index() as usize - 1];
-        entry.lo.complement_if(n.is_marked())
+        self.branch(n, false)
     }
 
     /// The branch of a node that is no constant, where the bit at its variable is 1: complemented, where the node
@@ -249,8 +233,28 @@ impl Store {
         ensures within { top_of self.now n < self.now.vars }
         ensures function { (bits : List Bool) → slice_index_or bits (top_of self.now n) false ≡ true → den self.now n bits ≡ den self.now result bits }
     {
-        let entry = &self.entries.as_slice()[n.index() as usize - 1];
-        entry.hi.complement_if(n.is_marked())
+        self.branch(n, true)
+    }
+
+    // The entry of a node that is no constant.
+    fn entry(&self, n: Node) -> Entry
+        requires node { IsNodeOf self.now n }
+        requires branching { IsBranching n }
+        ensures at { slice_get self.now.entries (index n - 1) ≡ Some result }
+        ensures sound { IsSound self.now.vars self.now.entries }
+    {
+        self.entries.as_slice()[n.index() as usize - 1]
+    }
+
+    // The branch of a node that is no constant, where the bit at its variable is `bit`.
+    fn branch(&self, n: Node, bit: bool) -> Node
+        requires node { IsNodeOf self.now n }
+        requires branching { IsBranching n }
+        ensures { IsBranch self.now.vars self.now.entries n bit result }
+    {
+        let entry = self.entry(n);
+        let branch = if bit { entry.hi } else { entry.lo };
+        branch.complement_if(n.is_marked())
     }
 
     /// The node without a mark whose entry was made after so many others.
@@ -344,7 +348,7 @@ impl Store {
         ensures same { IsTrue result ↔ SameFunction self.now m n }
         ensures canonical { SameFunction self.now m n → m ≡ n }
     {
-        let _ = &self.entries;
+        self.laws();
         m == n
     }
 }

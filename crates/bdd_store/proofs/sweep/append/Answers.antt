@@ -1,5 +1,5 @@
 use Rattle.std.proofs.Common.{length, ap, ◌∙◌, arith}
-use Rattle.std.proofs.lemmas.List.{length_push}
+use Rattle.bdd_store.proofs.Common.{length_push}
 use Rattle.bdd_store.proofs.RenumberLemmas.{insert-new}
 use Rattle.bdd_store.proofs.sweep.append.Goals as goal
 

@@ -1,6 +1,5 @@
-use Rattle.std.proofs.Common.{◌≡◌, ◌∙◌, ◌++◌, ℕ, List, length, take, drop, sym, ap, subst}
+use Rattle.std.proofs.Common.{◌≡◌, ◌∙◌, length}
 use Rattle.std.proofs.lemmas.List.{take_at}
-use Rattle.bdd_store.specs.Renumbering.{AreMoved}
 use Rattle.bdd_store.proofs.sweep.compact.Goals as goal
 use Rattle.bdd_store.proofs.sweep.compact.Goals.{After-fill}
 
@@ -17,13 +16,10 @@ fill-requires-clause-places c = c.deref_mut.ensures.value ∙ c.in_ok-places.ens
 long : (c : After-fill) → length c.fill.new.places ≡ c.in_ok-places.places.len
 long c = c.fill.auto.places ∙ c.deref_mut.ensures.len
 
-given-back : (c : After-fill) → take c.in_ok-places.places.len (c.fill.new.places ++ drop (length c.fill.new.places) c.in_ok-places.places.items) ≡ c.fill.new.places
-given-back c = take_at c.fill.new.places (drop (length c.fill.new.places) c.in_ok-places.places.items) c.in_ok-places.places.len (long c)
-
 pub returns-clause-moved : goal.returns-clause-moved
-returns-clause-moved c =
-    subst (λ (places : List ℕ). AreMoved c.args.entries.now c.args.marks.now places c.fill.new.table.keys (length c.args.entries.now)) (sym (given-back (goal.at.returns-clause-moved c).After-fill)) c.in_ok-fill.ensures
+returns-clause-moved c = rw (take_at c.fill.new.places _ c.in_ok-places.places.len (long (goal.at.returns-clause-moved c).After-fill)) c.in_ok-fill.ensures
 
 pub returns-clause-places : goal.returns-clause-places
 returns-clause-places c =
-    ap length (given-back (goal.at.returns-clause-places c).After-fill) ∙ long (goal.at.returns-clause-places c).After-fill ∙ c.in_ok-places.ensures.len
+    let same = long (goal.at.returns-clause-places c).After-fill in
+    rw (take_at c.fill.new.places _ c.in_ok-places.places.len same) (same ∙ c.in_ok-places.ensures.len)

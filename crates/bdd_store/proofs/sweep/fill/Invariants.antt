@@ -1,4 +1,4 @@
-use Rattle.bdd_store.specs.Renumbering.{AreMoved}
+use Rattle.bdd_store.proofs.Common.{AreMoved}
 use Rattle.bdd_store.proofs.sweep.fill.Given as goal
 
 abbrev pub invariant-loop-position : goal.invariant-loop-position

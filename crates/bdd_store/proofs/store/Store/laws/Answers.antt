@@ -1,7 +1,7 @@
 use Rattle.std.proofs.Common.{subst}
-use Rattle.bdd_store.specs.Soundness.{IsLawful}
-use Rattle.bdd_store.proofs.CanonicalLemmas.{IsLawful-sound}
+use Rattle.bdd_store.proofs.Common.{IsLawful}
 use Rattle.bdd_store.specs.contracts.store.Store.{the_view}
+use Rattle.bdd_store.proofs.CanonicalLemmas.{IsLawful-sound}
 use Rattle.bdd_store.proofs.store.Store.laws.Goals as goal
 
 pub returns : goal.returns
