@@ -7,8 +7,7 @@ use Rattle.loops.specs.declared.cuts.CutSearch.{CutSearch}
 use Rattle.loops.specs.Cuts.{IsCutOf}
 use Rattle.loops.specs.Keeping.{AreNear, IsAhead, IsBehind, IsFresh, IsNear, IsPlaced}
 use Rattle.loops.proofs.KeptLemmas.{of_within, ready_as}
-use Rattle.loops.proofs.LandmarkLemmas.{joined, one_step}
-use Rattle.loops.proofs.SearchLemmas.{path-append}
+use Rattle.loops.proofs.SearchLemmas.{joined, one_step, path-append}
 use Rattle.loops.proofs.Told.{told_from}
 use Rattle.loops.proofs.Walks.{all_both, begins_at, leads-any, on_closed_walk, same_loop-sym, same_loop-trans}
 

@@ -1,6 +1,6 @@
 -- The components of a block's uncut reads are single gates, in an order for a sweep.
-use Rattle.std.proofs.Common.{◌≡◌, ◌==◌, inl, inr, ℕ, zero, suc, ◌<◌, ◌≤◌, ◌+◌, Bool, true, false, List, [], ◌∷◌, ◌++◌, length, filter, get_or, refl, ap, sym, ◌∙◌, subst, arith, Contains}
-use Rattle.loops.proofs.Common.{cases_eq, cases_lt, get_or_default, get_or_append_left, Contains-append_left, Contains-get_or, Contains-push, Contains-push_cases, AllByRecursion, range_with_len, Sig, all_append, AreComponentsOf, Parts, gate_at, gate_sig, Feeds, Block, Blocks, Cut, AreBlocksOf, block_at, home_of, is_cut, ArePlacesRead, AreUncutReads, Leads, SameLoop}
+use Rattle.std.proofs.Common.{◌≡◌, ◌==◌, inl, inr, ℕ, zero, suc, ◌<◌, ◌≤◌, ◌+◌, Bool, false, List, [], ◌∷◌, ◌++◌, length, filter, get_or, ap, sym, ◌∙◌, subst, arith, Contains}
+use Rattle.loops.proofs.Common.{cases_Bool, cases_eq, cases_lt, get_or_default, get_or_append_left, Contains-append_left, Contains-get_or, Contains-push, Contains-push_cases, AllByRecursion, range_with_len, Sig, all_append, AreComponentsOf, Parts, gate_at, gate_sig, Feeds, Block, Blocks, Cut, AreBlocksOf, block_at, home_of, is_cut, ArePlacesRead, AreUncutReads, Leads, SameLoop}
 use Rattle.std.proofs.lemmas.List.{get_or_push, length_push}
 use Rattle.cyc_base.proofs.ListLemmas.{all_filter}
 use Rattle.components.specs.declared.components.Components.{Components}
@@ -9,7 +9,9 @@ use Rattle.loops.specs.Blocks.{gates_at, no_block}
 use Rattle.loops.specs.Cuts.{IsCutOf, loops_by}
 use Rattle.loops.specs.Orders.{IsInOrder, IsOrderOf, ReadsUncut}
 use Rattle.loops.specs.Placing.{ArePlaced, IsPlaceRead, IsUncutPin, Rise}
-use Rattle.loops.proofs.Told.{blocks_tell_loops, gate_home, told_from, told_parts}
+use Rattle.loops.proofs.KeptLemmas.{pin_of_source, same_source}
+use Rattle.loops.proofs.Reading.{each_more}
+use Rattle.loops.proofs.Told.{blocks_tell_loops, gate_home, told_from}
 use Rattle.loops.proofs.Walks.{cuts_leave_no_loop, walk-append}
 
 -- gates that rise differ
@@ -27,41 +29,26 @@ same_place gates rise i j il jl e =
 module _ (net : Parts) (blocks : Blocks) (cut : Cut) (gates : List ℕ) where
   pub places_skip : (gate i : ℕ) (pin : Sig) (places : List ℕ) → ArePlacesRead net blocks cut gates gate i places → ((d : Sig) → get_or (gate_at net gate).pins i d ≡ pin) → ((place : ℕ) → ¬ IsPlaceRead net blocks cut gates gate pin place) → ArePlacesRead net blocks cut gates gate (i + 1) places
   places_skip gate i pin places are is none = record {
-    each = λ p j d l read.
-        elim (cases_eq j i) [
-          | inr ne ↦ are.each p j d (omega (arith, ne)) read
-          | inl e ↦
-              absurd (none p (subst (λ (s : Sig). IsPlaceRead net blocks cut gates gate s p)
-              (ap (λ (k : ℕ). get_or (gate_at net gate).pins k d) e ∙ is d) read))
-        ];
+    each = λ p.
+        each_more (λ s. IsPlaceRead net blocks cut gates gate s p → Contains places p) (gate_at net gate).pins i pin is (λ read. absurd (none p read))
+        (λ j d l read. are.each p j d l read);
     only = are.only;
   }
 
   pub places_push : (gate i place : ℕ) (pin : Sig) (places : List ℕ) → AreBlocksOf net blocks → Rise gates → i < length (gate_at net gate).pins → ArePlacesRead net blocks cut gates gate i places → ((d : Sig) → get_or (gate_at net gate).pins i d ≡ pin) → IsPlaceRead net blocks cut gates gate pin place → ArePlacesRead net blocks cut gates gate (i + 1) (places ++ place ∷ [])
   places_push gate i place pin places blocks_are rise il are is read = record {
-    each = λ p j d l other.
-        elim (cases_eq j i) [
-          | inr ne ↦ Contains-append_left places (place ∷ []) p (are.each p j d (omega (arith, ne)) other)
-          | inl e ↦
-              let same : gate_sig net (get_or gates p 0) ≡ gate_sig net (get_or gates place 0) =
-              sym other.source.source.is ∙ ap (λ (k : ℕ). get_or (gate_at net gate).pins k d) e ∙ is d ∙ read.source.source.is in
-              let number = ap (λ (s : Sig). s.0) same in
-              let gate_is : get_or gates place 0 ≡ get_or gates p 0 = omega arith in
-              subst (λ (k : ℕ). Contains (places ++ place ∷ []) k) (same_place gates rise place p read.within other.within gate_is) (Contains-push places place)
-        ];
+    each = λ p.
+        each_more (λ s. IsPlaceRead net blocks cut gates gate s p → Contains (places ++ place ∷ []) p) (gate_at net gate).pins i pin is
+        (λ other.
+        let one = same_source net blocks gate pin (get_or gates p 0) (get_or gates place 0) other.source.source read.source.source in
+        rw (same_place gates rise p place other.within read.within one) (Contains-push places place))
+        (λ j d l other. Contains-append_left places (place ∷ []) p (are.each p j d l other));
     only = λ p c.
         elim (Contains-push_cases places place p c) [
           | inl there ↦ are.only p there
           | inr e ↦
               let a = get_or gates place 0 in
-              let told = told_parts net blocks blocks_are a gate read.source.source.loop in
-              let pin_of : IsUncutPin net blocks cut a gate = record {
-                pin = record {
-                  feeds = record { source = told.first; reader = told.second; pin = (i, il, is (gate_sig net a) ∙ read.source.source.is) };
-                  loop = read.source.source.loop;
-                };
-                uncut = read.source.uncut;
-              } in
+              let pin_of : IsUncutPin net blocks cut a gate = record { pin = pin_of_source net blocks gate i pin a blocks_are il is read.source.source; uncut = read.source.uncut } in
               subst (λ (k : ℕ). (k < length gates) × IsUncutPin net blocks cut (get_or gates k 0) gate) e (read.within, pin_of)
         ];
   }
@@ -118,11 +105,9 @@ range_ascends a (suc n) = (range_above a (a + 1) n (omega arith), range_ascends 
 
 filter_ascends : (p : ℕ → Bool) (xs : List ℕ) → Ascend xs → Ascend (filter p xs)
 filter_ascends p [] h = tt
-filter_ascends p (x ∷ xs) h = by (p x) refl (filter_ascends p xs h.1)
-  where
-    by : (b : Bool) → p x ≡ b → Ascend (filter p xs) → Ascend (filter p (x ∷ xs))
-    by true e rest = rw e (all_filter (λ y. x < y) p xs h.0, rest)
-    by false e rest = rw e rest
+filter_ascends p (x ∷ xs) h =
+    let rest = filter_ascends p xs h.1 in
+    elim (cases_Bool (p x)) [ inl e ↦ rw e (all_filter (λ y. x < y) p xs h.0, rest) | inr e ↦ rw e rest ]
 
 all_at : (P : ℕ → Type 0) (xs : List ℕ) (k : ℕ) → k < length xs → AllByRecursion P xs → P (get_or xs k 0)
 all_at P [] k l h = absurd (omega arith)
@@ -312,14 +297,6 @@ module _ (net : Parts) (blocks : Blocks) (are : AreBlocksOf net blocks) (b : ℕ
   module _ (cut : Cut) (cut_is : IsCutOf net cut) (graph : List (List ℕ)) (reads : AreUncutReads net blocks cut gates (length gates) graph) (found : Components) (components : AreComponentsOf graph found) where
     block_reads : AreUncutReads net blocks cut (block_at blocks b).gates (length (block_at blocks b).gates) graph
     block_reads = subst (λ (xs : List ℕ). AreUncutReads net blocks cut xs (length xs) graph) same reads
-
-    pub gates_size : length found.home ≡ length gates
-    gates_size = homes_size net blocks are b bl cut cut_is graph block_reads found components ∙ ap (λ (xs : List ℕ). length xs) (sym same)
-
-    pub gates_homes : (a : ℕ) → a < length gates → get_or found.home a 0 < found.count
-    gates_homes =
-        subst (λ (xs : List ℕ). (a : ℕ) → a < length xs → get_or found.home a 0 < found.count) (sym same)
-        (homes_within net blocks are b bl cut cut_is graph block_reads found components)
 
     pub gates_differ : (x y : ℕ) → x < y → y < length gates → ¬ (get_or found.home x 0 ≡ get_or found.home y 0)
     gates_differ =

@@ -1,11 +1,12 @@
 -- Reading lists, wires and gates by number.
-use Rattle.std.proofs.Common.{◌≡◌, ℕ, zero, suc, ◌-◌, ◌<◌, ◌≤◌, leb, Bool, true, false, if◌then◌else◌, List, [], ◌∷◌, ◌++◌, length, map, filter, get_or, refl, ap, ap₂, sym, ◌∙◌, arith, Contains}
+use Rattle.std.proofs.Common.{◌≡◌, ℕ, zero, suc, ◌+◌, ◌-◌, ◌<◌, ◌≤◌, leb, Bool, true, false, if◌then◌else◌, List, [], ◌∷◌, ◌++◌, length, map, filter, get_or, refl, ap, ap₂, sym, ◌∙◌, arith, Contains}
+use borrow.Author.Count.{below_more}
 use Rattle.loops.proofs.Common.{and_parts, length-map, length-range_with_len, get_or-range_with_len, range_with_len, Sig, Trit, X, Parts, gate_at, fix, fix_gates, Loops, first_gate, gate_of, in_loop_of}
 use Rattle.std.proofs.lemmas.Bool.{leb-true}
 use Rattle.std.proofs.lemmas.List.{get_or-append_right}
 use Rattle.std.proofs.lemmas.List.FromFn.{fill_by_all}
 use Rattle.cyc_base.specs.Values.{Below}
-use Rattle.netlist.specs.Fixpoint.{wires, gate_value}
+use Rattle.netlist.specs.Fixpoint.{gate_value}
 use Rattle.netlist.proofs.FixpointLemmas.{fix_is_fixpoint, get_or-fix}
 
 -- a choice among three
@@ -45,6 +46,10 @@ pub map_agree : {A B : Type 0} (f g : A → B) (xs : List A) → ((k : ℕ) (d :
 map_agree f g [] h = refl
 map_agree f g (x ∷ xs) h =
     ap₂ (λ y ys. y ∷ ys) (h zero x (omega arith)) (map_agree f g xs (λ k d l. h (suc k) d (omega arith)))
+
+-- what holds of the first k elements and of the next one
+pub each_more : {A : Type 0} (P : A → Type 0) (xs : List A) (k : ℕ) (x : A) → ((d : A) → get_or xs k d ≡ x) → P x → ((j : ℕ) (d : A) → j < k → P (get_or xs j d)) → (j : ℕ) (d : A) → j < k + 1 → P (get_or xs j d)
+each_more {A = A} P xs k x at here before j d l = below_more (λ i. (e : A) → P (get_or xs i e)) k (λ i m e. before i e m) (λ e. rw (at e) here) j l d
 
 pub fix_by_place : (net : Parts) (v : List Trit) → fix_gates net v ≡ map (λ n. gate_value (fix net v) (gate_at net n)) (range_with_len 0 (length net.gates))
 fix_by_place net v =
