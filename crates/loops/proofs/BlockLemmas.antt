@@ -9,7 +9,7 @@ use Rattle.std.proofs.lemmas.List.Elements.{All-filter, filter-append, filter_pa
 use Rattle.std.proofs.lemmas.List.Folds.{list_any_at}
 use Rattle.std.proofs.lemmas.Map.Views.{Contains-from_any}
 use Rattle.std.proofs.lemmas.List.Kept.{AllPairs-filter}
-use Rattle.cyc_base.proofs.ListLemmas.{Contains-filter, Contains-range, range-suc}
+use Rattle.cyc_base.proofs.ListLemmas.{Contains-filter, Contains-range}
 use Rattle.components.specs.declared.components.Components.{Components}
 use Rattle.components.specs.Graphs.{Edge, Reaches}
 use Rattle.netlist.specs.Orders.{gate_graph}
@@ -17,14 +17,12 @@ use Rattle.netlist.proofs.GraphLemmas.{length-gate_graph, feeds_edge, edge_feeds
 use Rattle.loops.specs.Walks.{SameBlock}
 use Rattle.loops.specs.Blocks.{no_block}
 use Rattle.loops.specs.Members.{members_below, members, is_loop}
+use Rattle.loops.proofs.ListedLemmas.{kept_more}
 use Rattle.loops.proofs.Walks.{leads-any, leads-step, leads-trans}
 
 -- one more gate is a member of its number, and of no other
 members-suc : (homes : List ℕ) (gate number : ℕ) → members_below homes (gate + 1) number ≡ members_below homes gate number ++ cond (eqb (get_or homes gate 0) number) (gate ∷ []) []
-members-suc homes gate number =
-    let range : range_with_len 0 (gate + 1) ≡ range_with_len 0 gate ++ gate ∷ [] =
-    ap (range_with_len 0) (add-one gate) ∙ range-suc 0 gate ∙ ap (λ (x : ℕ). range_with_len 0 gate ++ x ∷ []) (omega arith) in
-    ap (filter (λ n. eqb (get_or homes n 0) number)) range ∙ filter-append (λ n. eqb (get_or homes n 0) number) (range_with_len 0 gate) (gate ∷ [])
+members-suc homes gate number = kept_more (λ n. eqb (get_or homes n 0) number) gate
 
 members-yes : (homes : List ℕ) (gate number : ℕ) → get_or homes gate 0 ≡ number → members_below homes (gate + 1) number ≡ members_below homes gate number ++ gate ∷ []
 members-yes homes gate number e =

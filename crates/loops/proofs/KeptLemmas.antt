@@ -30,25 +30,22 @@ module _ (rows : List (List ℕ)) (n gate : ℕ) (row : List ℕ) (l : n < lengt
   pub pushed_keeps : (x y : ℕ) → InRow rows x y → InRow (set rows n (row ++ gate ∷ [])) x y
   pushed_keeps x y c =
       elim (cases_eq x n) [
-        | inr ne ↦ subst (λ (r : List ℕ). Contains r y) (sym (get_or-set_other rows n x (row ++ gate ∷ []) [] ne)) c
+        | inr ne ↦ rw (get_or-set_other rows n x (row ++ gate ∷ []) [] ne) c
         | inl e ↦
-            let old : Contains row y = subst (λ (r : List ℕ). Contains r y) (sym row_is) (subst (λ (z : ℕ). InRow rows z y) e c) in
-            subst (λ (z : ℕ). InRow (set rows n (row ++ gate ∷ [])) z y) (sym e)
-            (subst (λ (r : List ℕ). Contains r y) (sym (get_or-set_same rows n (row ++ gate ∷ []) [] l)) (Contains-append_left row (gate ∷ []) y old))
+            let old : Contains row y = rw (e, ← row_is) at c in
+            rw (e, get_or-set_same rows n (row ++ gate ∷ []) [] l) (Contains-append_left row (gate ∷ []) y old)
       ]
 
   pub pushed_new : InRow (set rows n (row ++ gate ∷ [])) n gate
-  pushed_new = subst (λ (r : List ℕ). Contains r gate) (sym (get_or-set_same rows n (row ++ gate ∷ []) [] l)) (Contains-push row gate)
+  pushed_new = rw (get_or-set_same rows n (row ++ gate ∷ []) [] l) (Contains-push row gate)
 
   pub pushed_only : (x y : ℕ) → InRow (set rows n (row ++ gate ∷ [])) x y → InRow rows x y ⊎ ((x ≡ n) × (y ≡ gate))
   pushed_only x y c =
       elim (cases_eq x n) [
-        | inr ne ↦ inl (subst (λ (r : List ℕ). Contains r y) (get_or-set_other rows n x (row ++ gate ∷ []) [] ne) c)
+        | inr ne ↦ inl (rw (get_or-set_other rows n x (row ++ gate ∷ []) [] ne) at c)
         | inl e ↦
-            let at : Contains (row ++ gate ∷ []) y =
-            subst (λ (r : List ℕ). Contains r y) (get_or-set_same rows n (row ++ gate ∷ []) [] l) (subst (λ (z : ℕ). InRow (set rows n (row ++ gate ∷ [])) z y) e c) in
-            elim (Contains-push_cases row gate y at) [
-              | inl old ↦ inl (subst (λ (z : ℕ). InRow rows z y) (sym e) (subst (λ (r : List ℕ). Contains r y) row_is old))
+            elim (Contains-push_cases row gate y (rw (e, get_or-set_same rows n (row ++ gate ∷ []) [] l) at c)) [
+              | inl old ↦ inl (rw (e, ← row_is) old)
               | inr g ↦ inr (e, sym g)
             ]
       ]

@@ -2,6 +2,7 @@
 use Rattle.std.proofs.Common.{◌≡◌, ◌==◌, inl, inr, ℕ, zero, suc, ◌<◌, ◌≤◌, ◌+◌, Bool, false, List, [], ◌∷◌, ◌++◌, length, filter, get_or, ap, sym, ◌∙◌, subst, arith, Contains}
 use Rattle.loops.proofs.Common.{cases_Bool, cases_eq, cases_lt, get_or_default, get_or_append_left, Contains-append_left, Contains-get_or, Contains-push, Contains-push_cases, AllByRecursion, range_with_len, Sig, all_append, AreComponentsOf, Parts, gate_at, gate_sig, Feeds, Block, Blocks, Cut, AreBlocksOf, block_at, home_of, is_cut, ArePlacesRead, AreUncutReads, Leads, SameLoop}
 use Rattle.std.proofs.lemmas.List.{get_or_push, length_push}
+use Rattle.std.proofs.lemmas.List.Elements.{All-from_recursion}
 use Rattle.cyc_base.proofs.ListLemmas.{all_filter}
 use Rattle.components.specs.declared.components.Components.{Components}
 use Rattle.components.specs.Graphs.{AreStronglyConnected, Edge, Walk as GraphWalk}
@@ -109,15 +110,10 @@ filter_ascends p (x ∷ xs) h =
     let rest = filter_ascends p xs h.1 in
     elim (cases_Bool (p x)) [ inl e ↦ rw e (all_filter (λ y. x < y) p xs h.0, rest) | inr e ↦ rw e rest ]
 
-all_at : (P : ℕ → Type 0) (xs : List ℕ) (k : ℕ) → k < length xs → AllByRecursion P xs → P (get_or xs k 0)
-all_at P [] k l h = absurd (omega arith)
-all_at P (x ∷ xs) zero l h = h.0
-all_at P (x ∷ xs) (suc k) l h = all_at P xs k (omega arith) h.1
-
 rise_from : (xs : List ℕ) → Ascend xs → Rise xs
 rise_from [] h i j l k = absurd (omega arith)
 rise_from (x ∷ xs) h i zero l k = absurd (omega arith)
-rise_from (x ∷ xs) h zero (suc j) l k = all_at (λ y. x < y) xs j (omega arith) h.0
+rise_from (x ∷ xs) h zero (suc j) l k = All-from_recursion (λ y. x < y) xs h.0 j 0 (omega arith)
 rise_from (x ∷ xs) h (suc i) (suc j) l k = rise_from xs h.1 i j (omega arith) (omega arith)
 
 -- so each is at least its place
@@ -144,9 +140,17 @@ module _ (net : Parts) (blocks : Blocks) (are : AreBlocksOf net blocks) (b : ℕ
   pub block_within : (k : ℕ) → k < length (block_at blocks b).gates → get_or (block_at blocks b).gates k 0 < length net.gates
   block_within k l = (gate_home net blocks are b (get_or (block_at blocks b).gates k 0) bl (Contains-get_or (block_at blocks b).gates k 0 l)).0
 
-  module _ (cut : Cut) (cut_is : IsCutOf net cut) (graph : List (List ℕ)) (reads : AreUncutReads net blocks cut (block_at blocks b).gates (length (block_at blocks b).gates) graph) where
+-- the same of the gates as the code holds them
+module _ (net : Parts) (blocks : Blocks) (are : AreBlocksOf net blocks) (b : ℕ) (bl : b < length blocks.list) (gates : List ℕ) (same : gates ≡ (block_at blocks b).gates) where
+  pub gates_rise : Rise gates
+  gates_rise = subst Rise (sym same) (block_rises net blocks are b bl)
+
+  pub gates_within : (k : ℕ) → k < length gates → get_or gates k 0 < length net.gates
+  gates_within = subst (λ (xs : List ℕ). (k : ℕ) → k < length xs → get_or xs k 0 < length net.gates) (sym same) (block_within net blocks are b bl)
+
+  module _ (cut : Cut) (cut_is : IsCutOf net cut) (graph : List (List ℕ)) (reads : AreUncutReads net blocks cut gates (length gates) graph) where
     abbrev gate : ℕ → ℕ
-    gate k = get_or (block_at blocks b).gates k 0
+    gate k = get_or gates k 0
 
     edge_reads : (x y : ℕ) → Edge graph x y → IsUncutPin net blocks cut (gate y) (gate x)
     edge_reads x y e = (let n = reads.nodes in let s = e.source in (reads.only x y (omega arith) e.listed).1)
@@ -180,22 +184,22 @@ module _ (net : Parts) (blocks : Blocks) (are : AreBlocksOf net blocks) (b : ℕ
         no_walk_back x (r.0.via ++ (y ∷ r.1.via)) (graph-append x y x r.0.via r.1.via r.0.walk r.1.walk)
 
     module _ (found : Components) (components : AreComponentsOf graph found) where
-      pub homes_within : (x : ℕ) → x < length (block_at blocks b).gates → get_or found.home x 0 < found.count
+      pub homes_within : (x : ℕ) → x < length gates → get_or found.home x 0 < found.count
       homes_within x l = (let n = reads.nodes in components.within x (omega arith))
 
-      pub homes_size : length found.home ≡ length (block_at blocks b).gates
+      pub homes_size : length found.home ≡ length gates
       homes_size = components.nodes ∙ reads.nodes
 
-      pub homes_differ : (x y : ℕ) → x < y → y < length (block_at blocks b).gates → ¬ (get_or found.home x 0 ≡ get_or found.home y 0)
+      pub homes_differ : (x y : ℕ) → x < y → y < length gates → ¬ (get_or found.home x 0 ≡ get_or found.home y 0)
       homes_differ x y l yl e =
           let n = reads.nodes in
           not_connected x y l (components.connected x y (omega arith) (omega arith) e)
 
-      module _ (order : List ℕ) (placed : ArePlaced (block_at blocks b).gates found.home found.count order) where
+      module _ (order : List ℕ) (placed : ArePlaced gates found.home found.count order) where
         -- what stands at a place of the order
         record Stands (c : ℕ) : Type 0 where
           node : ℕ
-          within : node < length (block_at blocks b).gates
+          within : node < length gates
           home : get_or found.home node 0 ≡ c
           is : get_or order c 0 ≡ gate node
 
@@ -205,7 +209,7 @@ module _ (net : Parts) (blocks : Blocks) (are : AreBlocksOf net blocks) (b : ℕ
             let h = components.used c (omega arith) in
             let w = h.within in
             let n = homes_size in
-            let inside : h.node < length (block_at blocks b).gates = omega arith in
+            let inside : h.node < length gates = omega arith in
             record {
               node = h.node;
               within = inside;
@@ -218,7 +222,7 @@ module _ (net : Parts) (blocks : Blocks) (are : AreBlocksOf net blocks) (b : ℕ
             let first = stands c (omega arith) in
             let second = stands d dl in (
               λ e.
-                  let same = same_place (block_at blocks b).gates block_rises first.node second.node first.within second.within (sym first.is ∙ sym e ∙ second.is) in
+                  let same = same_place gates gates_rise first.node second.node first.within second.within (sym first.is ∙ sym e ∙ second.is) in
                   let home = ap (λ (k : ℕ). get_or found.home k 0) same in
                   let one = first.home in
                   let two = second.home in
@@ -226,13 +230,16 @@ module _ (net : Parts) (blocks : Blocks) (are : AreBlocksOf net blocks) (b : ℕ
               λ r. ordered first second r,
             )
           where
+            at_home : {k : ℕ} → (s : Stands k) → (gate s.node < length net.gates) × (home_of blocks (gate s.node) ≡ b)
+            at_home s = gate_home net blocks are b (gate s.node) bl (rw (← same) (Contains-get_or gates s.node 0 s.within))
+
             ordered : Stands c → Stands d → ¬ ReadsUncut net (is_cut cut.wires) (get_or order c 0) (get_or order d 0)
             ordered first second r =
                 let feeds : Feeds net (gate second.node) (gate first.node) =
                 subst (λ (k : ℕ). Feeds net (gate second.node) k) first.is (subst (λ (k : ℕ). Feeds net k (get_or order c 0)) second.is r.feeds) in
                 let uncut : is_cut cut.wires (gate second.node) ≡ false = subst (λ (k : ℕ). is_cut cut.wires k ≡ false) second.is r.uncut in
-                let a = gate_home net blocks are b (gate first.node) bl (Contains-get_or (block_at blocks b).gates first.node 0 first.within) in
-                let z = gate_home net blocks are b (gate second.node) bl (Contains-get_or (block_at blocks b).gates second.node 0 second.within) in
+                let a = at_home first in
+                let z = at_home second in
                 let one = first.home in
                 let two = second.home in
                 let nodes = reads.nodes in
@@ -240,7 +247,7 @@ module _ (net : Parts) (blocks : Blocks) (are : AreBlocksOf net blocks) (b : ℕ
                 elim ((are.same (gate second.node) (gate first.node) z.0 a.0).0 (z.1 ∙ sym a.1)) [
                   | inr s ↦ s
                   | inl e ↦
-                      let same = same_place (block_at blocks b).gates block_rises first.node second.node first.within second.within (sym e) in
+                      let same = same_place gates gates_rise first.node second.node first.within second.within (sym e) in
                       let home = ap (λ (k : ℕ). get_or found.home k 0) same in
                       absurd (omega arith)
                 ] in
@@ -257,22 +264,22 @@ module _ (net : Parts) (blocks : Blocks) (are : AreBlocksOf net blocks) (b : ℕ
                 omega arith
 
         pub order_is : IsOrderOf net (is_cut cut.wires) (block_at blocks b).gates order
-        order_is = record { only = only; each = each; follows = in_order order apart }
+        order_is = rw (← same) (record { only = only; each = each; follows = in_order order apart })
           where
-            only : (n : ℕ) → Contains order n → Contains (block_at blocks b).gates n
+            only : (n : ℕ) → Contains order n → Contains gates n
             only n c =
                 let s = stands c.0 c.1 in
                 let e : gate s.node ≡ n = sym s.is ∙ get_or_default order c.0 0 n c.1 ∙ c.2 in
-                (s.node, s.within, get_or_default (block_at blocks b).gates s.node n 0 s.within ∙ e)
+                (s.node, s.within, get_or_default gates s.node n 0 s.within ∙ e)
 
-            each : (n : ℕ) → Contains (block_at blocks b).gates n → Contains order n
+            each : (n : ℕ) → Contains gates n → Contains order n
             each n c =
                 let size = placed.size in
                 let l = homes_within c.0 c.1 in
                 let inside : get_or found.home c.0 0 < length order = omega arith in (
                   get_or found.home c.0 0,
                   inside,
-                  get_or_default order (get_or found.home c.0 0) n 0 inside ∙ placed.each c.0 c.1 ∙ get_or_default (block_at blocks b).gates c.0 0 n c.1 ∙ c.2,
+                  get_or_default order (get_or found.home c.0 0) n 0 inside ∙ placed.each c.0 c.1 ∙ get_or_default gates c.0 0 n c.1 ∙ c.2,
                 )
 
             all_from : (P : ℕ → Type 0) (xs : List ℕ) → ((k : ℕ) → k < length xs → P (get_or xs k 0)) → AllByRecursion P xs
@@ -285,29 +292,6 @@ module _ (net : Parts) (blocks : Blocks) (are : AreBlocksOf net blocks) (b : ℕ
               all_from (λ g. (¬ (g ≡ x)) × (¬ ReadsUncut net (is_cut cut.wires) x g)) xs (λ k l. h zero (suc k) (omega arith) (omega arith)),
               in_order xs (λ c d l dl. h (suc c) (suc d) (omega arith) (omega arith)),
             )
-
--- the same of the gates as the code holds them
-module _ (net : Parts) (blocks : Blocks) (are : AreBlocksOf net blocks) (b : ℕ) (bl : b < length blocks.list) (gates : List ℕ) (same : gates ≡ (block_at blocks b).gates) where
-  pub gates_rise : Rise gates
-  gates_rise = subst Rise (sym same) (block_rises net blocks are b bl)
-
-  pub gates_within : (k : ℕ) → k < length gates → get_or gates k 0 < length net.gates
-  gates_within = subst (λ (xs : List ℕ). (k : ℕ) → k < length xs → get_or xs k 0 < length net.gates) (sym same) (block_within net blocks are b bl)
-
-  module _ (cut : Cut) (cut_is : IsCutOf net cut) (graph : List (List ℕ)) (reads : AreUncutReads net blocks cut gates (length gates) graph) (found : Components) (components : AreComponentsOf graph found) where
-    block_reads : AreUncutReads net blocks cut (block_at blocks b).gates (length (block_at blocks b).gates) graph
-    block_reads = subst (λ (xs : List ℕ). AreUncutReads net blocks cut xs (length xs) graph) same reads
-
-    pub gates_differ : (x y : ℕ) → x < y → y < length gates → ¬ (get_or found.home x 0 ≡ get_or found.home y 0)
-    gates_differ =
-        subst (λ (xs : List ℕ). (x y : ℕ) → x < y → y < length xs → ¬ (get_or found.home x 0 ≡ get_or found.home y 0)) (sym same)
-        (homes_differ net blocks are b bl cut cut_is graph block_reads found components)
-
-    pub gates_order : (home order : List ℕ) → home ≡ found.home → ArePlaced gates home found.count order → IsOrderOf net (is_cut cut.wires) (block_at blocks b).gates order
-    gates_order home order e placed =
-        order_is net blocks are b bl cut cut_is graph block_reads found components order
-        (subst (λ (hs : List ℕ). ArePlaced (block_at blocks b).gates hs found.count order) e
-        (subst (λ (xs : List ℕ). ArePlaced xs home found.count order) same placed))
 
 pub block_gates : (blocks : Blocks) (items : List Block) (gates : List ℕ) (b : ℕ) (block : Block) → b < length blocks.list → items ≡ blocks.list → gates ≡ (get_or items b block).gates → gates ≡ (block_at blocks b).gates
 block_gates blocks items gates b block l e d =

@@ -9,17 +9,13 @@ pub returns-then-meets-clause-outcome : goal.returns-then-meets-clause-outcome
 returns-then-meets-clause-outcome c =
     let row : c.gates.result.now ≡ row_at c.args.links.sources.now c.args.goal = row_read c.args.links.sources.now c.args.goal c.gates.result.now c.index-sources-goal.result (omega (arith, c.requires.goal, c.args.links.sources_size)) c.index-sources-goal.is c.gates.ensures in
     meets_begun c.args.links.readers.now c.args.links.sources.now c.args.links.levels.now (AtMost c.args.high) c.args.goal c.start.new.self c.in_ok-start.ensures.searching
-    (subst (λ (r : List ℕ). Meets c.args.goal r c.start.new.self.marks.items) row
-    (subst (λ (ms : List ℕ). Meets c.args.goal c.gates.result.now ms) c.deref.ensures.value (c.meets.ensures.some c.if-meets.true)))
+    (rw (row, c.deref.ensures.value) at (c.meets.ensures.some c.if-meets.true))
 
 pub loop-met-init : goal.loop-met-init
 loop-met-init c =
     let row : c.gates.result.now ≡ row_at c.args.links.sources.now c.args.goal = row_read c.args.links.sources.now c.args.goal c.gates.result.now c.index-sources-goal.result (omega (arith, c.requires.goal, c.args.links.sources_size)) c.index-sources-goal.is c.gates.ensures in
     let forth = c.in_ok-start.ensures.searching in
-    let apart : (x : ℕ) → Contains (row_at c.args.links.sources.now c.args.goal) x → ¬ IsMarked c.args.goal c.start.new.self.marks.items x =
-    λ x r m.
-    c.meets.ensures.none c.if-meets.false x (subst (λ (xs : List ℕ). Contains xs x) (sym row) r)
-    (subst (λ (ms : List ℕ). IsMarked c.args.goal ms x) (sym c.deref.ensures.value) m) in
+    let apart = rw (row, c.deref.ensures.value) at (c.meets.ensures.none c.if-meets.false) in
     record {
       forth = forth;
       back = c.in_ok-start-2.ensures.searching;
