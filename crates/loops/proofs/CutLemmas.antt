@@ -397,23 +397,28 @@ module _ (R : ℕ → ℕ → Type 0) (cut : List Bool) (n : ℕ) (l : n < lengt
           source_of x y fy (inr w) =
               let h = (k.read_by n y).0 w.0 in (subst (λ (z : ℕ). R z y) (sym w.1) h.0, subst (λ (z : ℕ). IsFree (set cut n false) (n + 1) z) (sym w.1) free_here)
 
-          source_to : (x y : ℕ) → IsFree (set cut n false) (n + 1) y → R x y → IsFree (set cut n false) (n + 1) x → InRow more_sources y x
-          source_to x y fy h fx =
+          -- a pin between free gates leads from the gate, to it, or between gates before it
+          sides : (x y : ℕ) → R x y → IsFree (set cut n false) (n + 1) x → IsFree (set cut n false) (n + 1) y → ((x ≡ n) × InRow readers n y) ⊎ (((y ≡ n) × InRow sources n x) ⊎ (IsFree cut n x × IsFree cut n y))
+          sides x y h fx fy =
               elim (cases_eq x n) [
                 | inl e ↦
                     elim (cases_eq y n) [
-                      | inl same ↦ absurd (none (subst (λ (z : ℕ). R z n) e (subst (λ (z : ℕ). R x z) same h)))
-                      | inr ne ↦
-                          let c = (k.read_by n y).1 (subst (λ (z : ℕ). R z y) e h, free_from cut n false y fy ne) in
-                          subst (λ (z : ℕ). InRow more_sources y z) (sym e)
-                          (subst (λ (z : ℕ). InRow more_sources z n) c.2 (g.each c.0 y c.1))
+                      | inl same ↦ absurd (none (rw (e, same) at h))
+                      | inr ne ↦ inl (e, (k.read_by n y).1 (rw e at h, free_from cut n false y fy ne))
                     ]
                 | inr ne ↦
                     let fx_old = free_from cut n false x fx ne in
                     elim (cases_eq y n) [
-                      | inl same ↦ subst (λ (z : ℕ). InRow more_sources z x) (sym same) (g.keeps n x ((own x).1 (subst (λ (z : ℕ). R x z) same h, fx_old)))
-                      | inr differ ↦ g.keeps y x ((k.reads x y (free_from cut n false y fy differ)).1 (h, fx_old))
+                      | inl same ↦ inr (inl (same, (own x).1 (rw same at h, fx_old)))
+                      | inr differ ↦ inr (inr (fx_old, free_from cut n false y fy differ))
                     ]
+              ]
+
+          source_to : (x y : ℕ) → IsFree (set cut n false) (n + 1) y → R x y → IsFree (set cut n false) (n + 1) x → InRow more_sources y x
+          source_to x y fy h fx =
+              elim (sides x y h fx fy) [
+                | inl w ↦ rw w.0 (subst (λ (z : ℕ). InRow more_sources z n) w.1.2 (g.each w.1.0 y w.1.1))
+                | inr w ↦ elim w [ inl s ↦ rw s.0 (g.keeps n x s.1) | inr old ↦ g.keeps y x ((k.reads x y old.1).1 (h, old.0)) ]
               ]
 
           here : level_at placed n ≡ at.level
@@ -427,25 +432,25 @@ module _ (R : ℕ → ℕ → Type 0) (cut : List Bool) (n : ℕ) (l : n < lengt
 
           rise : (x y : ℕ) → R x y → IsFree (set cut n false) (n + 1) x → IsFree (set cut n false) (n + 1) y → level_at placed x ≤ level_at placed y
           rise x y h fx fy =
-              elim (cases_eq x n) [
-                | inl e ↦
-                    elim (cases_eq y n) [
-                      | inl same ↦ absurd (none (subst (λ (z : ℕ). R z n) e (subst (λ (z : ℕ). R x z) same h)))
-                      | inr ne ↦
-                          let b = at.below y ((k.read_by n y).1 (subst (λ (z : ℕ). R z y) e h, free_from cut n false y fy ne)) in
-                          let o = other y ne in
-                          subst (λ (z : ℕ). level_at placed z ≤ level_at placed y) (sym e) (omega (arith, here))
-                    ]
-                | inr ne ↦
-                    let fx_old = free_from cut n false x fx ne in
-                    let o = other x ne in
-                    elim (cases_eq y n) [
-                      | inl same ↦
-                          let a = at.above x ((own x).1 (subst (λ (z : ℕ). R x z) same h, fx_old)) in
-                          subst (λ (z : ℕ). level_at placed x ≤ level_at placed z) (sym same) (omega (arith, here))
-                      | inr differ ↦
-                          let q = other y differ in
-                          let r = p.rise x y h fx_old (free_from cut n false y fy differ) in
+              elim (sides x y h fx fy) [
+                | inl w ↦
+                    let before = ((k.read_by n y).0 w.1).1.before in
+                    let b = at.below y w.1 in
+                    let o = other y (omega arith) in
+                    rw w.0 (omega (arith, here))
+                | inr w ↦
+                    elim w [
+                      | inl s ↦
+                          let before = ((own x).0 s.1).1.before in
+                          let a = at.above x s.1 in
+                          let o = other x (omega arith) in
+                          rw s.0 (omega (arith, here))
+                      | inr old ↦
+                          let r = p.rise x y h old.0 old.1 in
+                          let one = old.0.before in
+                          let two = old.1.before in
+                          let o = other x (omega arith) in
+                          let q = other y (omega arith) in
                           omega arith
                     ]
               ]

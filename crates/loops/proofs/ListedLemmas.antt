@@ -1,7 +1,6 @@
 -- The loops of a netlist are told by its blocks, and their cut wires by its cut.
-use Rattle.std.proofs.Common.{◌≡◌, ◌==◌, ℕ, zero, suc, ◌+◌, ◌<◌, ◌≤◌, ltb, Bool, true, false, cond, ◌&&◌, [], ◌∷◌, ◌++◌, length, filter, All, refl, sym, ap, ap₂, ◌∙◌, add-one, arith, true≢false, append-nil}
+use Rattle.std.proofs.Common.{◌≡◌, ◌==◌, ℕ, zero, suc, ◌+◌, ◌<◌, ltb, Bool, true, false, cond, ◌&&◌, [], ◌∷◌, ◌++◌, length, filter, All, refl, sym, ap, ap₂, ◌∙◌, add-one, arith, true≢false}
 use Rattle.loops.proofs.Common.{lt-ltb, AllByRecursion, range_with_len, same_truth, Parts, Block, Blocks, AreBlocksOf, block_at, home_of, in_one_loop, loops_of, loop_of, begins_with}
-use Rattle.std.proofs.lemmas.List.{length_push}
 use Rattle.std.proofs.lemmas.List.Elements.{All-filter, All-from_recursion, filter-append}
 use Rattle.cyc_base.proofs.ListLemmas.{range-suc}
 use Rattle.loops.specs.Listed.{gate_numbers}
@@ -91,10 +90,6 @@ loop_gates_inside net a =
     All-filter ((loops_of net).same a) (λ n. n < length net.gates) (gate_numbers net)
     (All-from_recursion (λ n. n < length net.gates) (gate_numbers net) (range_inside 0 (length net.gates) (length net.gates) (omega arith)))
 
-pub at_most_one : (b : Bool) → cond b 1 0 ≤ 1
-at_most_one true = omega arith
-at_most_one false = omega arith
-
 -- what is kept goes on by one gate
 pub kept_more : (p : ℕ → Bool) (n : ℕ) → filter p (range_with_len 0 (n + 1)) ≡ filter p (range_with_len 0 n) ++ cond (p n) (n ∷ []) []
 kept_more p n =
@@ -102,10 +97,3 @@ kept_more p n =
     ∙ ap (filter p) (range-suc 0 n)
     ∙ ap (λ k. filter p (range_with_len 0 n ++ k ∷ [])) (let e : 0 + n ≡ n = omega arith in e)
     ∙ filter-append p (range_with_len 0 n) (n ∷ [])
-
-pub counted_more : (p : ℕ → Bool) (n : ℕ) → length (filter p (range_with_len 0 (n + 1))) ≡ length (filter p (range_with_len 0 n)) + cond (p n) 1 0
-counted_more p n = ap length (kept_more p n) ∙ by_test (p n)
-  where
-    by_test : (t : Bool) → length (filter p (range_with_len 0 n) ++ cond t (n ∷ []) []) ≡ length (filter p (range_with_len 0 n)) + cond t 1 0
-    by_test true = length_push (filter p (range_with_len 0 n)) n
-    by_test false = (let none = ap length (append-nil (filter p (range_with_len 0 n))) in omega arith)

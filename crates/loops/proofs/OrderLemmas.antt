@@ -20,11 +20,7 @@ same_place : (gates : List ℕ) → Rise gates → (i j : ℕ) → i < length ga
 same_place gates rise i j il jl e =
     elim (cases_lt i j) [
       | inl l ↦ absurd (let r = rise i j l jl in omega arith)
-      | inr g ↦
-          elim (cases_lt j i) [
-            | inl l ↦ absurd (let r = rise j i l il in omega arith)
-            | inr h ↦ omega arith
-          ]
+      | inr g ↦ elim (cases_lt j i) [ inl l ↦ absurd (let r = rise j i l il in omega arith) | inr h ↦ omega arith ]
     ]
 
 module _ (net : Parts) (blocks : Blocks) (cut : Cut) (gates : List ℕ) where

@@ -1,7 +1,6 @@
-use Rattle.std.proofs.Common.{◌≡◌, ◌<◌, ◌↔◌, ◌+◌, ℕ, List, Bool, true, false, set, replicate, length, rules, arith, ap, sym, ◌∙◌, subst}
-use Rattle.loops.proofs.Common.{length-replicate, Cut, IsCutSearch, IsLoopPin, Connects, IsFree}
-use Rattle.loops.specs.Looped.{Grouped}
-use Rattle.loops.proofs.CutLemmas.{AreCutsBelow, no_cuts, fresh_search, cut_from_below, cut_step}
+use Rattle.std.proofs.Common.{◌≡◌, ◌<◌, List, Bool, false, replicate, length, rules, arith, ap, sym, ◌∙◌}
+use Rattle.loops.proofs.Common.{length-replicate, IsLoopPin}
+use Rattle.loops.proofs.CutLemmas.{no_cuts, fresh_search, cut_from_below, cut_step}
 use Rattle.loops.proofs.cuts.find_cut.Goals as goal
 
 pub loop-gate-init : goal.loop-gate-init

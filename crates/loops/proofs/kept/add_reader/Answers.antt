@@ -1,5 +1,5 @@
-use Rattle.std.proofs.Common.{◌≡◌, ◌<◌, ◌+◌, ℕ, List, [], length, get_or, set, ap, sym, ◌∙◌, subst, arith}
-use Rattle.loops.proofs.Common.{get_or_default, Gate, Parts, gate_at, HaveGainedPins}
+use Rattle.std.proofs.Common.{◌<◌, [], length, get_or, ap, arith}
+use Rattle.loops.proofs.Common.{get_or_default, gate_at}
 use Rattle.loops.proofs.KeptLemmas.{gained_pin, pin_of_source, same_element, skipped_pin}
 use Rattle.loops.proofs.kept.add_reader.Goals as goal
 use Rattle.loops.proofs.kept.add_reader.Goals.{in-Some+in_ok-push, in_default}

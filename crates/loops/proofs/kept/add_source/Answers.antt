@@ -1,5 +1,5 @@
-use Rattle.std.proofs.Common.{get_or, set, arith, ℕ, ◌+◌, List, [], subst, sym}
-use Rattle.loops.proofs.Common.{get_or_default, HaveGained}
+use Rattle.std.proofs.Common.{get_or, arith, []}
+use Rattle.loops.proofs.Common.{get_or_default}
 use Rattle.loops.proofs.KeptLemmas.{gained_more}
 use Rattle.loops.proofs.kept.add_source.Goals as goal
 

@@ -1,5 +1,5 @@
-use Rattle.std.proofs.Common.{◌≡◌, ◌<◌, ◌+◌, ℕ, List, length, ap, sym, ◌∙◌, subst, arith, true≢false}
-use Rattle.loops.proofs.Common.{Gate, Parts, gate_at, AreSourcesBelow, IsFree}
+use Rattle.std.proofs.Common.{◌<◌, length, ap, sym, ◌∙◌, arith, true≢false}
+use Rattle.loops.proofs.Common.{gate_at}
 use Rattle.loops.proofs.KeptLemmas.{no_source, one_more_source, same_element, same_source}
 use Rattle.loops.proofs.kept.sources_before.Goals as goal
 use Rattle.loops.proofs.kept.sources_before.Goals.{in-Some+then-is_free+in_ok-push, in-Some+else-is_free, in_default}

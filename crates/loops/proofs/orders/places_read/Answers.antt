@@ -1,5 +1,5 @@
-use Rattle.std.proofs.Common.{◌≡◌, ◌+◌, ◌<◌, ℕ, List, length, ap, sym, ◌∙◌, subst, arith}
-use Rattle.loops.proofs.Common.{Gate, Parts, gate_at, ArePlacesRead}
+use Rattle.std.proofs.Common.{◌<◌, length, ap, arith}
+use Rattle.loops.proofs.Common.{gate_at}
 use Rattle.loops.proofs.KeptLemmas.{same_element}
 use Rattle.loops.proofs.OrderLemmas.{places_push, places_skip}
 use Rattle.loops.proofs.orders.places_read.Goals as goal

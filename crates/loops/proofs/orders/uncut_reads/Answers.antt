@@ -1,5 +1,4 @@
-use Rattle.std.proofs.Common.{◌++◌, ◌+◌, [], ◌∷◌, ℕ, List, refl, ap, sym, ◌∙◌, subst, arith}
-use Rattle.loops.proofs.Common.{AreUncutReads}
+use Rattle.std.proofs.Common.{refl, arith}
 use Rattle.loops.proofs.OrderLemmas.{at_least_place, reads_more}
 use Rattle.loops.proofs.orders.uncut_reads.Goals as goal
 

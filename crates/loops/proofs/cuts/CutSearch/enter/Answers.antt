@@ -1,8 +1,6 @@
 -- A gate closes a walk, or is entered between what it reads and what reads it.
-use Rattle.std.proofs.Common.{◌≡◌, ◌↔◌, ◌<◌, ◌+◌, ℕ, Bool, true, false, List, length, set, get_or, refl, ap, inl, arith, subst, sym, ◌∙◌, true≢false}
-use Rattle.loops.proofs.Common.{get_or-set_same, length-set, HasParted, HaveGained, HaveGainedPins, IsKept, ReadsBack, IsLoopPin, InRow, IsFree, IsReady, row_at, gate_at}
-use Rattle.loops.specs.Keeping.{IsPlaced}
-use Rattle.loops.specs.Landmarks.{Passes}
+use Rattle.std.proofs.Common.{◌↔◌, ◌<◌, ◌+◌, ℕ, true, false, List, length, set, get_or, refl, ap, inl, arith, sym, ◌∙◌, true≢false}
+use Rattle.loops.proofs.Common.{get_or-set_same, length-set, HasParted, HaveGainedPins, IsKept, IsLoopPin, InRow, IsFree, gate_at}
 use Rattle.loops.proofs.CutLemmas.{closes, entered, found_free, left_out, parted, reads_back, row_laid, search_left_out, stays_open}
 use Rattle.loops.proofs.KeptLemmas.{gained_rows, kept_links, landmarks_as, own_row, ready_as}
 use Rattle.loops.proofs.LandmarkLemmas.{landmark_kept, passed_meet}

@@ -1,8 +1,6 @@
 -- What one search has found is moved past the levels of the other row.
-use Rattle.std.proofs.Common.{◌≡◌, ◌<◌, ◌+◌, ◌-◌, inl, inr, false, ℕ, List, [], length, ap, arith, subst, sym, ◌∙◌, Contains}
-use Rattle.loops.proofs.Common.{get_or_default, with_items_is, AtMost, AtLeast, HasParted, row_at}
-use Rattle.std.specs.List.{All}
-use Rattle.std.specs.Vec.{with_items}
+use Rattle.std.proofs.Common.{◌≡◌, ◌-◌, inl, inr, ℕ, List, [], length, ap, arith, subst, sym, ◌∙◌}
+use Rattle.loops.proofs.Common.{get_or_default, with_items_is, AtMost, AtLeast, row_at}
 use Rattle.loops.specs.Keeping.{AreNear, HasEnded, IsNear}
 use Rattle.loops.proofs.CutLemmas.{high_is_near, low_is_near}
 use Rattle.loops.proofs.KeptLemmas.{row_within, within_of}

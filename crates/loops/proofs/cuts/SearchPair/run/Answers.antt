@@ -1,6 +1,6 @@
 -- Two searches in step meet, or one has found all and none of the other's row.
-use Rattle.std.proofs.Common.{◌≡◌, ℕ, List, subst, sym, arith, Contains}
-use Rattle.loops.proofs.Common.{AtMost, AtLeast, IsMarked, Meets, row_at}
+use Rattle.std.proofs.Common.{◌≡◌, arith}
+use Rattle.loops.proofs.Common.{AtMost, AtLeast, row_at}
 use Rattle.loops.proofs.KeptLemmas.{row_read}
 use Rattle.loops.proofs.SearchLemmas.{ended, meets_begun, stays_apart}
 use Rattle.loops.proofs.cuts.SearchPair.run.Goals as goal

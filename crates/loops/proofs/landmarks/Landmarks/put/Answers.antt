@@ -1,5 +1,4 @@
 -- A landmark replaces another one, or is added.
-use Rattle.std.proofs.Common.{List, ap, sym, ◌∙◌, subst}
 use Rattle.std.proofs.lemmas.List.Elements.{All-push, All-set}
 use Rattle.loops.specs.Landmarks.{IsLandmark}
 use Rattle.loops.proofs.landmarks.Landmarks.put.Goals as goal
