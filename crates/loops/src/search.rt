@@ -177,7 +177,7 @@ impl Search {
         Ok(())
     }
 
-    /// Goes on from a gate where it has marked one of those in the gate's row of the first rows, along the others.
+    /// Goes on from a gate along one kind of rows, if it has marked a gate of that one's row of the other kind.
     pub fn extend(
         &mut self,
         from: &[GateList],
