@@ -1,62 +1,17 @@
--- One step of the loops that mark the nodes of a group and that merge groups, and the steps of the search.
-use Rattle.std.proofs.Common.{◌≡◌, ◌⊎◌, inl, inr, ℕ, ◌+◌, ◌-◌, ◌<◌, ◌≤◌, List, [], ◌∷◌, ◌++◌, length, get_or, set, take, refl, ap, sym, ◌∙◌, subst, arith, Some}
+-- One step of the loop that merges groups, and the steps of the search.
+use Rattle.std.proofs.Common.{◌≡◌, ◌⊎◌, ℕ, ◌+◌, ◌-◌, ◌<◌, ◌≤◌, List, [], ◌∷◌, ◌++◌, length, get_or, take, ap, sym, ◌∙◌, subst, arith, Some}
 use Rattle.std.specs.Prelude.{slice_get}
-use Rattle.std.specs.List.{All, Contains}
-use Rattle.std.proofs.lemmas.Bool.{cases_eq, cases_lt}
-use Rattle.std.proofs.lemmas.List.{append_assoc, length-set, length_push, take_more, get_or_append_left, get_or_push, get_or_default}
-use Rattle.std.proofs.lemmas.List.Elements.{All-cons, Contains-push, Contains-append_left}
+use Rattle.std.specs.List.{All}
+use Rattle.std.proofs.lemmas.List.{append_assoc, get_or_default}
+use Rattle.std.proofs.lemmas.List.Elements.{All-cons}
 use Rattle.components.specs.declared.search.Mark.{Mark}
 use Rattle.components.specs.declared.search.Mark.TheVariants.{New, Open, Closed}
 use Rattle.components.specs.declared.search.Group.{Group}
-use Rattle.components.specs.Search.{State, mark_of, IsSound, Searching, Following, opened, IsCut, IsMerged, IsMarked, IsClosedLast, Advances, steps_left}
-use Rattle.components.proofs.ListLemmas.{marked_within, split_last, All-last, mark-set_same, mark-set_other}
+use Rattle.components.specs.Search.{State, mark_of, IsSound, Searching, Following, opened, IsCut, IsMerged, IsClosedLast, Advances, steps_left}
+use Rattle.components.proofs.ListLemmas.{marked_within, split_last, All-last}
 use Rattle.components.proofs.FollowLemmas.{path_leads, passed, merged_searching, merged_left, taken}
 use Rattle.components.proofs.OpenLemmas.{opened_sound, opened_follows, opened_left, opened_seen}
 use Rattle.components.proofs.CloseLemmas.{closed_searching, closed_left, closed_seen}
-
-pub marked_none : (marks : List Mark) (number : ℕ) → IsMarked marks marks [] number
-marked_none marks number = record {
-  size = refl;
-  inside = λ k l. absurd (omega arith);
-  others = λ a. inl refl;
-}
-
-marked_push : (old now : List Mark) (front : List ℕ) (v number : ℕ) → v < length now → IsMarked old now front number →
-    IsMarked old (set now v (Closed number)) (front ++ v ∷ []) number
-marked_push old now front v number within marked = record {
-  size = length-set now v (Closed number) ∙ marked.size;
-  inside = λ k l.
-      let len = length_push front v in
-      elim (cases_eq (get_or (front ++ v ∷ []) k 0) v) [
-        | inl e ↦ rw e (mark-set_same now v (Closed number) within)
-        | inr ne ↦
-            elim (cases_lt k (length front)) [
-              | inr past ↦ absurd (ne (get_or_push front v 0 k (omega arith)))
-              | inl before ↦
-                  let at = get_or_append_left front (v ∷ []) 0 k before in
-                  mark-set_other now v (get_or (front ++ v ∷ []) k 0) (Closed number) ne ∙ ap (λ n. mark_of now n) at ∙ marked.inside k before
-            ]
-      ];
-  others = λ a.
-      elim (cases_eq a v) [
-        | inl e ↦
-            inr (
-              subst (λ (x : ℕ). Contains (front ++ v ∷ []) x) (sym e) (Contains-push front v),
-              ap (λ n. mark_of (set now v (Closed number)) n) e ∙ mark-set_same now v (Closed number) within,
-            )
-        | inr ne ↦
-            let same = mark-set_other now v a (Closed number) ne in
-            elim (marked.others a) [
-              | inl old_mark ↦ inl (same ∙ old_mark)
-              | inr c ↦ inr (Contains-append_left front (v ∷ []) a c.0, same ∙ c.1)
-            ]
-      ];
-}
-
-pub marked_more : (old now : List Mark) (nodes : List ℕ) (i number : ℕ) → i < length nodes → get_or nodes i 0 < length now →
-    IsMarked old now (take i nodes) number → IsMarked old (set now (get_or nodes i 0) (Closed number)) (take (i + 1) nodes) number
-marked_more old now nodes i number l within marked =
-    rw (take_more nodes i 0 l) (marked_push old now (take i nodes) (get_or nodes i 0) number within marked)
 
 pub cut_more : (old now shorter : List Group) (group : Group) (place : ℕ) → slice_get now (length now - 1) ≡ Some group → shorter ≡ take (length now - 1) now →
     place < group.nodes → IsCut old now place → IsCut old shorter place
