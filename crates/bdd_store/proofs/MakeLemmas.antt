@@ -103,20 +103,11 @@ module _ (a : Arena) (var : ℕ) (lo hi : Node) (q : Asked a var lo hi) where
   entry = normal var lo hi
 
   entry-fits : IsSoundEntry a.vars a.entries (length a.entries) entry
-  entry-fits = record {
-    lo_earlier = omega (arith, q.in_lo, index-complemented_if mark lo);
-    hi_earlier = omega (arith, q.in_hi, index-complemented_if mark hi);
-    apart = λ e. q.apart (sym (complemented_if-twice mark lo) ∙ ap (complemented_if mark) (λ j. record { number = e j }) ∙ complemented_if-twice mark hi);
-    unmarked = is_marked-own hi;
-    within = q.within;
-    lo_below = rw (index-complemented_if mark lo) q.above_lo;
-    hi_below = rw (index-complemented_if mark hi) q.above_hi;
-  }
+  entry-fits = grind arith
 
   -- its branches have the functions of the wanted ones, or the complements
   branch_value : (bits : List Bool) (bit : Bool) → node_value a.entries (branch entry bit) bits ≡ flipped mark (if bit then den a hi bits else den a lo bits)
-  branch_value bits true = node_value-complemented_if mark a.entries hi bits
-  branch_value bits false = node_value-complemented_if mark a.entries lo bits
+  branch_value bits bit = grind arith
 
   module _ (limit : ℕ) (new : List Entry) (adds : IsEntered a.entries new limit entry) where
     pub make-sound : IsSound a.vars new
@@ -197,10 +188,7 @@ abbrev pub entry_eq : Entry → Entry → Bool
 entry_eq x y = eqb x.var y.var && (eqb x.lo.number y.lo.number && eqb x.hi.number y.hi.number)
 
 pub entry_eq-true : (x y : Entry) → entry_eq x y ≡ true → x ≡ y
-entry_eq-true x y h =
-    let a = and_parts (eqb x.var y.var) _ h in
-    let b = and_parts (eqb x.lo.number y.lo.number) _ a.1 in
-    λ j. record { var = eqb-true x.var y.var a.0 j; lo = record { number = eqb-true x.lo.number y.lo.number b.0 j }; hi = record { number = eqb-true x.hi.number y.hi.number b.1 j } }
+entry_eq-true x y h = grind arith
 
 -- where an entry is found, it stands
 pub slice_get-position : (es : List Entry) (e : Entry) (i : ℕ) → Some i ≡ position (entry_eq e) es → slice_get es i ≡ Some e

@@ -49,8 +49,7 @@ pub is_marked-moved : (places : List ℕ) (n : Node) → is_marked (moved_node p
 is_marked-moved places n = let same : (moved_node places n).number % 2 ≡ n.number % 2 = omega arith in rw same refl
 
 branch-moved : (places : List ℕ) (e : Entry) (bit : Bool) → branch (moved_entry places e) bit ≡ moved_node places (branch e bit)
-branch-moved places e true = refl
-branch-moved places e false = refl
+branch-moved places e bit = grind arith
 
 -- a place further on changes no entry before
 moved-set : (places : List ℕ) (i v : ℕ) (e : Entry) → index e.lo < i → index e.hi < i → moved_entry (set places i v) e ≡ moved_entry places e
@@ -83,11 +82,7 @@ module _ (es : List Entry) (marks : List Bool) (places : List ℕ) (table : List
 
   -- nodes with marked indices are moved apart
   same_moved : (a b : Node) → index a ≤ n → index b ≤ n → is_marked_at marks (index a) ≡ true → is_marked_at marks (index b) ≡ true → (moved_node places a).number ≡ (moved_node places b).number → a.number ≡ b.number
-  same_moved a b la lb ma mb e =
-      let i : place places (index a) ≡ place places (index b) = omega (arith, index-moved places a, index-moved places b) in
-      let same : index a ≡ index b = moved.once (index a) (index b) la lb ma mb i in
-      let rest : a.number % 2 ≡ b.number % 2 = omega (arith, i) in
-      omega (arith, same, rest)
+  same_moved a b la lb ma mb e = grind arith
 
   module _ (e : Entry) (at : slice_get es n ≡ Some e) (marked : is_marked_at marks (suc n) ≡ true) where
     within : n < length es

@@ -42,12 +42,10 @@ moved-at places n i j at is = index-moved places n ∙ ap (place places) at ∙ 
 -- ---- roots by their keys
 
 map_Some : (f : Node → Node) (o : Option Node) (m : Node) → option_map f o ≡ Some m → (n : Node) × (o ≡ Some n) × (m ≡ f n)
-map_Some f None m e = absurd (cc)
-map_Some f (Some n) m e = (n, refl, sym (same_Some (f n) m e))
+map_Some f o m e = grind arith
 
 map-IsSome : (f : Node → Node) (o : Option Node) → IsSome (option_map f o) ↔ IsSome o
-map-IsSome f None = (λ h. h, λ h. h)
-map-IsSome f (Some n) = (λ h. h, λ h. h)
+map-IsSome f o = grind arith
 
 -- ---- the sweep
 
@@ -78,9 +76,7 @@ module _ (old new : Arena) (marks : List Bool) (places : List ℕ)
 
       -- the new root under a key is the old one at its place
       root-moved : (key : ℕ) (m n : Node) → root_at old key ≡ Some m → root_at new key ≡ Some n → n ≡ moved_node places m
-      root-moved key m n was is =
-          let from = map_Some (moved_node places) (root_in old.roots key) n (sym (roots_are key) ∙ is) in
-          from.2 ∙ ap (moved_node places) (same_Some from.0 m (sym from.1 ∙ was))
+      root-moved key m n was is = grind arith
 
       pub swept-roots : KeepsRoots old new
       swept-roots = record {

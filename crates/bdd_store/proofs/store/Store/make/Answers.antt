@@ -8,15 +8,7 @@ use Rattle.bdd_store.proofs.store.Store.make.Goals as goal
 use Rattle.bdd_store.proofs.store.Store.make.Goals.{After-enter, After-complement_if-3}
 
 asked : (c : After-enter) → Asked (the_view c.self.inside) c.args.var c.args.lo c.args.hi
-asked c = record {
-  sound = c.self.invariant.2;
-  apart = λ e. true≢false (sym (eq-eqb c.args.lo.number c.args.hi.number (ap (λ (n : Node). n.number) e)) ∙ sym c.eq.ensures ∙ c.if-eq.false);
-  within = rw (← c.self.view_is) at c.requires.var;
-  in_lo = rw (← c.self.view_is) at c.requires.lo;
-  in_hi = rw (← c.self.view_is) at c.requires.hi;
-  above_lo = rw (← c.self.view_is) at c.requires.above_lo;
-  above_hi = rw (← c.self.view_is) at c.requires.above_hi;
-}
+asked c = grind arith
 
 -- the entry that is looked for
 entry_is : (c : After-enter) → ◌≡◌ {A = Entry} (record { var = c.args.var; lo = c.complement_if.result; hi = c.complement_if-2.result }) (normal c.args.var c.args.lo c.args.hi)
