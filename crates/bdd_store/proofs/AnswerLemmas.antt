@@ -1,5 +1,5 @@
 -- Answers to choices: what is there after one is kept.
-use Rattle.std.proofs.Common.{◌≡◌, true, ◌==◌, ◌⊎◌, inl, inr, Contains, refl, sym, ap, subst, eq-eqb}
+use Rattle.std.proofs.Common.{◌≡◌, true, ◌==◌, ◌⊎◌, inl, inr, Contains, refl, sym, ap, subst, eq-eqb, arith}
 use Rattle.bdd_store.proofs.Common.{eqb-true, and_parts, Node}
 use Rattle.std.proofs.lemmas.Bool.{and_from}
 use Rattle.std.specs.Cmp.{IsEquivalence}
@@ -10,10 +10,7 @@ use Rattle.lru.specs.LruCache.{LruCache, put_entries}
 use Rattle.lru.proofs.CallerLemmas.{Contains-put_entries}
 
 pub same_choice-true : (x y : Choice) → same_choice x y ≡ true → x ≡ y
-same_choice-true x y h =
-    let a = and_parts (x.a.number == y.a.number) _ h in
-    let b = and_parts (x.b.number == y.b.number) _ a.1 in
-    λ j. record { a = record { number = eqb-true x.a.number y.a.number a.0 j }; b = record { number = eqb-true x.b.number y.b.number b.0 j }; c = record { number = eqb-true x.c.number y.c.number b.1 j } }
+same_choice-true x y h = grind arith
 
 pub same_choice-self : (x : Choice) → same_choice x x ≡ true
 same_choice-self x = and_from _ _ (eq-eqb x.a.number x.a.number refl) (and_from _ _ (eq-eqb x.b.number x.b.number refl) (eq-eqb x.c.number x.c.number refl))
@@ -30,10 +27,4 @@ same_choice-laws = record {
 
 -- what is there was there, or is the answer that was kept
 pub kept_or_there : (cache : LruCache Choice Node) (choice x : Choice) (n m : Node) → Contains (put_entries same_choice cache choice n) (x, m) → ((x ≡ choice) × (m ≡ n)) ⊎ Contains cache.entries (x, m)
-kept_or_there cache choice x n m has = elim (Contains-put_entries same_choice cache choice n (x, m) has) [
-  | inl was ↦ inr was
-  | inr is ↦ elim is.1 [
-    | inl same ↦ inl (same, is.0)
-    | inr other ↦ inl (sym (same_choice-true choice x other.2), is.0)
-  ]
-]
+kept_or_there cache choice x n m has = grind (arith, Contains-put_entries same_choice cache choice n (x, m) has, same_choice-true choice x)

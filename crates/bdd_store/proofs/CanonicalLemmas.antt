@@ -9,9 +9,7 @@ use Rattle.bdd_store.proofs.ValueLemmas.{Earlier, branch_both, branch_low, by_br
 
 -- lists that are alike from a place on have the same bits there
 read_alike : (v i : ℕ) (xs ys : List Bool) → v ≤ i → drop v xs ≡ drop v ys → get_or xs i false ≡ get_or ys i false
-read_alike v i xs ys le same =
-    let e : v + (i - v) ≡ i = omega arith in
-    ap (λ k. get_or xs k false) (sym e) ∙ sym (get_or-drop v xs (i - v) false) ∙ ap (λ l. get_or l (i - v) false) same ∙ get_or-drop v ys (i - v) false ∙ ap (λ k. get_or ys k false) e
+read_alike v i xs ys le same = grind (arith, get_or-drop v xs (i - v) false, get_or-drop v ys (i - v) false)
 
 module _ {vars : ℕ} {es : List Entry} (sound : IsSound vars es) where
   pub early : Earlier es
@@ -119,26 +117,11 @@ module _ {vars : ℕ} {es : List Entry} (sound : IsSound vars es) where
   pub same_nodes : (k : ℕ) → Smaller k
   same_nodes zero m n a b v w same = absurd (omega arith)
   same_nodes (suc k) m n a b v w same =
-      let unmarked = same_unmarked m n v w same in
-      same_node m n (elim (compare (top_at vars es (index m)) (top_at vars es (index n))) [
-        | inl above ↦ absurd (no_higher k (same_nodes k) (index m) (index n) (omega arith) v w unmarked above)
-        | inr r ↦ elim r [
-          | inl below ↦ absurd (no_higher k (same_nodes k) (index n) (index m) (omega arith) w v (λ bits len. sym (unmarked bits len)) below)
-          | inr tops ↦ one_index k (same_nodes k) (index m) (index n) (omega arith) (omega arith) v w unmarked tops
-        ]
-      ]) (same_marks m n v w same)
+      grind (arith, same_unmarked m n v w same, same_node m n, compare (top_at vars es (index m)) (top_at vars es (index n)), no_higher k (same_nodes k) (index m) (index n), same_nodes k, no_higher k (same_nodes k) (index n) (index m), one_index k (same_nodes k) (index m) (index n), same_marks m n v w same)
 
 -- nodes of one function are one node
 pub IsCanonical-sound : (a : Arena) → IsSound a.vars a.entries → IsCanonical a
 IsCanonical-sound a sound m n in_m in_n same = same_nodes sound (suc (index m + index n)) m n (omega arith) (omega arith) in_m in_n same
 
 pub IsLawful-sound : (a : Arena) → IsSound a.vars a.entries → AreWithin a.roots (length a.entries) → IsLawful a
-IsLawful-sound a sound roots = record {
-  sound = sound;
-  canonical = IsCanonical-sound a sound;
-  constants = λ b bits. den-constant b a bits;
-  support = λ n v xs ys in_n h alike. ap (flipped (is_marked n)) (value_at-drop sound v xs ys alike (index n) in_n h);
-  within = λ n in_n. top_at-within sound (index n) in_n;
-  branching = λ n in_n. (λ h. top_at-branching sound (index n) (omega (arith, h)) in_n, λ h. elim (cases_lt n.number 2) [ inl low ↦ absurd (omega (arith, h, top_of-low a n low)) | inr high ↦ high ]);
-  roots = roots;
-}
+IsLawful-sound a sound roots = grind (arith, IsCanonical-sound, den-constant, value_at-drop, top_at-within, top_at-branching, cases_lt, top_of-low)

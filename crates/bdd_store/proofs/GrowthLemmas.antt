@@ -27,21 +27,13 @@ pub IsNodeOf-kept : {s t : Arena} → KeepsNodes s t → (n : Node) → IsNodeOf
 IsNodeOf-kept k n h = omega (arith, k.more)
 
 pub KeepsNodes-chain : {s t u : Arena} → KeepsNodes s t → KeepsNodes t u → KeepsNodes s u
-KeepsNodes-chain k l = record {
-  vars = l.vars ∙ k.vars;
-  limit = l.limit ∙ k.limit;
-  more = omega (arith, k.more, l.more);
-  function = λ n bits h. l.function n bits (IsNodeOf-kept k n h) ∙ k.function n bits h;
-  variable = λ n h. l.variable n (IsNodeOf-kept k n h) ∙ k.variable n h;
-  roots = l.roots ∙ k.roots;
-}
+KeepsNodes-chain k l = grind arith
 
 -- ---- new nodes
 
 -- what is so of a node and its complement is so of a part at it
 pub IsPartAt-into : {vars wars : ℕ} {f g : List Bool → Bool} (s t : Arena) (n : Node) → ((m : Node) → index m ≡ index n → IsPart vars f (den s m) → IsPart wars g (den t m)) → IsPartAt vars f s n → IsPartAt wars g t n
-IsPartAt-into s t n into (inl part) = inl (into n refl part)
-IsPartAt-into s t n into (inr part) = inr (into (complemented n) (index-complemented n) part)
+IsPartAt-into s t n into h = grind arith
 
 pub NewAreParts-chain : {s t u : Arena} {f : List Bool → Bool} → KeepsNodes s t → KeepsNodes t u → NewAreParts s t f → NewAreParts t u f → NewAreParts s u f
 NewAreParts-chain {s} {t} {u} {f} k l one two = record {
@@ -82,15 +74,7 @@ IsRefusedPart-part part r = record { full = r.full; part = r.part; is_part = IsP
 
 -- what a call of `make` adds
 pub NewAreParts-made : {E : Type 0} (s t : Arena) (f : List Bool → Bool) (r : Result Node E) → ((n : Node) → IsNodeOf t n → IsNodeOf s n ⊎ ((r ≡ Ok n) ⊎ (r ≡ Ok (complemented n)))) → IfOk r (λ n. (bits : List Bool) → den t n bits ≡ f bits) → NewAreParts s t f
-NewAreParts-made s t f r one value = record {
-  each = λ n in_n. elim (one n in_n) [
-    | inl was ↦ inl was
-    | inr is ↦ elim is [ inl e ↦ inr (inl (part n e)) | inr e ↦ inr (inr (part (complemented n) e)) ]
-  ];
-}
-  where
-    part : (n : Node) → r ≡ Ok n → IsPart s.vars f (den t n)
-    part n e = let here : (bits : List Bool) → den t n bits ≡ f bits = subst (λ (o : Result Node _). IfOk o (λ m. (bits : List Bool) → den t m bits ≡ f bits)) e value in IsPart-alike (IsPart-whole s.vars f) (λ bits len. here bits)
+NewAreParts-made s t f r one value = grind arith
 
 -- a refused `make` lacks the node of its function
 pub IsRefusedPart-made : (s t : Arena) (f : List Bool → Bool) → t ≡ s → length s.entries ≡ s.limit → IsNewFunction s f → IsRefusedPart t f
@@ -136,8 +120,7 @@ module _ (a : Arena) (canonical : IsCanonical a) (f : List Bool → Bool) where
         (distinct_tables base k (omega arith))
 
   constant_index : (b : Bool) → index (constant b) ≡ 0
-  constant_index true = refl
-  constant_index false = refl
+  constant_index b = grind arith
 
   -- the table of a function that no constant has is no constant table
   varies : (values : (b : Bool) (bits : List Bool) → den a (constant b) bits ≡ b) (g : List Bool → Bool) → ((b : Bool) → ((bits : List Bool) → length bits ≡ a.vars → den a (constant b) bits ≡ g bits) → ⊥) → is_constant (table a.vars g) ≡ false
@@ -246,13 +229,7 @@ HasGrownBy old new n = Grows {T = Unit} (Ok tt) old new n
 module _ {T : Type 0} {s t : Arena} {cause bounds : ℕ → Type 0} where
   -- more functions than are made
   pub adds_more : {r : Result T StoreFault} {m n : ℕ} → m ≤ n → AddsWithin r s t cause bounds m → AddsWithin r s t cause bounds n
-  adds_more {m = m} {n = n} less a = record {
-    added = λ w b. omega (arith, a.added w b, mul-le-mul_left {m = m} {n = n} w less);
-    full = λ w b e. elim (a.full w b e) [
-      | inl other ↦ inl other
-      | inr past ↦ inr (record { full = past.full; past = omega (arith, past.past, mul-le-mul_left {m = m} {n = n} w less) })
-    ];
-  }
+  adds_more {m = m} {n = n} less a = grind arith
 
   module _ {r : Result T StoreFault} {count : ℕ} where
     -- narrower bounds
@@ -281,13 +258,7 @@ module _ {T : Type 0} {s t : Arena} {cause bounds : ℕ → Type 0} where
 
 -- a call that was answered, and another after it
 pub adds_then : {T U : Type 0} {r : Result T StoreFault} {q : Result U StoreFault} {s t u : Arena} {before cause bounds : ℕ → Type 0} {m n : ℕ} → t.limit ≡ s.limit → AddsWithin r s t before bounds m → AddsWithin q t u cause bounds n → AddsWithin q s u cause bounds (m + n)
-adds_then {cause = cause} limit first a = record {
-  added = λ w b. omega (arith, first.added w b, a.added w b);
-  full = λ w b e. elim (a.full w b e) [
-    | inl other ↦ inl (subst cause limit other)
-    | inr past ↦ inr (record { full = past.full; past = omega (arith, first.added w b, past.past) })
-  ];
-}
+adds_then {cause = cause} limit first a = grind arith
 
 -- ---- and where each node keeps its function too
 
@@ -297,13 +268,7 @@ within_nothing only = record { keeps = KeepsNodes-refl _; adds = record { added 
 
 -- a call that makes so many nodes, which w bounds, and one that makes those of one function
 pub within_each : {T : Type 0} {r : Result T StoreFault} {s t : Arena} {bounds : ℕ → Type 0} {n count : ℕ} → ((w : ℕ) → bounds w → n ≤ w * count) → Grows r s t n → GrowsWithin r s t NoOtherCause bounds count
-within_each most g = record {
-  keeps = g.keeps;
-  adds = record {
-    added = λ w b. omega (arith, g.added, most w b);
-    full = λ w b e. inr (record { full = (g.full e).full; past = omega (arith, (g.full e).past, most w b) });
-  };
-}
+within_each most g = grind arith
 
 pub within_one : {T : Type 0} {r : Result T StoreFault} {s t : Arena} {bounds : ℕ → Type 0} {n : ℕ} → ((w : ℕ) → bounds w → n ≤ w) → Grows r s t n → GrowsWithin r s t NoOtherCause bounds 1
 within_one most g = within_each {count = 1} (λ w b. omega (arith, most w b)) g

@@ -29,15 +29,7 @@ read-Contains es x has = slice_get-get_or es has.0 x has.1 ∙ ap Some has.2
 
 module _ {vars : ℕ} {es : List Entry} (sound : IsSound vars es) (e : Entry) (fits : IsSoundEntry vars es (length es) e) where
   IsSoundEntry-push : (p : ℕ) (x : Entry) → p ≤ length es → IsSoundEntry vars es p x → IsSoundEntry vars (es ++ e ∷ []) p x
-  IsSoundEntry-push p x low s = record {
-    lo_earlier = s.lo_earlier;
-    hi_earlier = s.hi_earlier;
-    apart = s.apart;
-    unmarked = s.unmarked;
-    within = s.within;
-    lo_below = omega (arith, s.lo_below, top_at-append vars es (e ∷ []) (index x.lo) (omega (arith, s.lo_earlier)));
-    hi_below = omega (arith, s.hi_below, top_at-append vars es (e ∷ []) (index x.hi) (omega (arith, s.hi_earlier)));
-  }
+  IsSoundEntry-push p x low s = grind (arith, top_at-append)
 
   -- a new entry, whose branches are there, leaves a sound store
   pub IsSound-push : (Contains es e → ⊥) → IsSound vars (es ++ e ∷ [])
@@ -63,18 +55,10 @@ with_entries a xs = record { vars = a.vars; limit = a.limit; entries = xs; roots
 
 -- what is kept when entries go last
 pub KeepsNodes-append : (a : Arena) (ys : List Entry) → IsSound a.vars a.entries → KeepsNodes a (with_entries a (a.entries ++ ys))
-KeepsNodes-append a ys sound = record {
-  vars = refl;
-  limit = refl;
-  more = omega (arith, length-append a.entries ys);
-  function = λ n bits in_n. ap (flipped (is_marked n)) (value_at-append a.entries ys (early sound) bits (index n) in_n);
-  variable = λ n in_n. top_at-append a.vars a.entries ys (index n) in_n;
-  roots = refl;
-}
+KeepsNodes-append a ys sound = grind (arith, length-append a.entries ys, value_at-append a.entries ys (early sound), early sound, top_at-append a.vars a.entries ys)
 
 pub length-entered : (es new : List Entry) (limit : ℕ) (e : Entry) → length es ≤ limit → IsEntered es new limit e → (length new ≤ limit) × (length new ≤ length es + 1)
-length-entered es new limit e room (inl h) = (omega (arith, ap length h), omega (arith, ap length h))
-length-entered es new limit e room (inr h) = (omega (arith, ap length h.0, length_push es e, h.2), omega (arith, ap length h.0, length_push es e))
+length-entered es new limit e room h = grind (arith, length_push)
 
 -- ---- what `make` is asked, and what it leaves
 
@@ -103,33 +87,18 @@ module _ (a : Arena) (var : ℕ) (lo hi : Node) (q : Asked a var lo hi) where
   entry = normal var lo hi
 
   entry-fits : IsSoundEntry a.vars a.entries (length a.entries) entry
-  entry-fits = record {
-    lo_earlier = omega (arith, q.in_lo, index-complemented_if mark lo);
-    hi_earlier = omega (arith, q.in_hi, index-complemented_if mark hi);
-    apart = λ e. q.apart (sym (complemented_if-twice mark lo) ∙ ap (complemented_if mark) (λ j. record { number = e j }) ∙ complemented_if-twice mark hi);
-    unmarked = is_marked-own hi;
-    within = q.within;
-    lo_below = rw (index-complemented_if mark lo) q.above_lo;
-    hi_below = rw (index-complemented_if mark hi) q.above_hi;
-  }
+  entry-fits = grind arith
 
   -- its branches have the functions of the wanted ones, or the complements
   branch_value : (bits : List Bool) (bit : Bool) → node_value a.entries (branch entry bit) bits ≡ flipped mark (if bit then den a hi bits else den a lo bits)
-  branch_value bits true = node_value-complemented_if mark a.entries hi bits
-  branch_value bits false = node_value-complemented_if mark a.entries lo bits
+  branch_value bits bit = grind arith
 
   module _ (limit : ℕ) (new : List Entry) (adds : IsEntered a.entries new limit entry) where
     pub make-sound : IsSound a.vars new
-    make-sound = elim adds [
-      | inl same ↦ rw same q.sound
-      | inr grown ↦ rw (grown.0) (IsSound-push q.sound entry entry-fits grown.1)
-    ]
+    make-sound = grind (arith, IsSound-push, entry-fits)
 
     pub make-keeps : KeepsNodes a (with_entries a new)
-    make-keeps = elim adds [
-      | inl same ↦ subst (λ (xs : List Entry). KeepsNodes a (with_entries a xs)) (append-nil a.entries ∙ sym same) (KeepsNodes-append a [] q.sound)
-      | inr grown ↦ rw (grown.0) (KeepsNodes-append a (entry ∷ []) q.sound)
-    ]
+    make-keeps = grind (arith, append-nil a.entries, KeepsNodes-append a [] q.sound, KeepsNodes-append a (entry ∷ []) q.sound)
 
     module _ (p : ℕ) (at : slice_get new p ≡ Some entry) (n : Node) (is : n.number ≡ 2 * p + 3) where
       abbrev made : Node
@@ -155,16 +124,7 @@ module _ (a : Arena) (var : ℕ) (lo hi : Node) (q : Asked a var lo hi) where
 
       -- a node that was not there is this one or its complement
       pub make-new_node : (m : Node) → IsNodeOf (with_entries a new) m → IsNodeOf a m ⊎ ((made ≡ m) ⊎ (made ≡ complemented m))
-      make-new_node m in_m = elim (cases_lt (index m) (length a.entries + 1)) [
-        | inl old ↦ inl (omega arith)
-        | inr above ↦ elim adds [
-          | inl same ↦ absurd (omega (arith, in_m, ap length same))
-          | inr grown ↦ elim (read_push a.entries entry entry p (sym (ap (λ (xs : List Entry). slice_get xs p) grown.0) ∙ at)) [
-            | inl there ↦ absurd (grown.1 (Contains-read a.entries entry p there))
-            | inr last ↦ inr (same_entry made m (omega (arith, in_m, last.0, here, ap length grown.0, length_push a.entries entry)))
-          ]
-        ]
-      ]
+      make-new_node m in_m = grind (arith, cases_lt, read_push, Contains-read, same_entry, here, length_push)
 
   -- where the entry is not there, no node has the function
   pub make-new_function : (Contains a.entries entry → ⊥) → IsNewFunction a (choice a var lo hi)
@@ -197,13 +157,8 @@ abbrev pub entry_eq : Entry → Entry → Bool
 entry_eq x y = eqb x.var y.var && (eqb x.lo.number y.lo.number && eqb x.hi.number y.hi.number)
 
 pub entry_eq-true : (x y : Entry) → entry_eq x y ≡ true → x ≡ y
-entry_eq-true x y h =
-    let a = and_parts (eqb x.var y.var) _ h in
-    let b = and_parts (eqb x.lo.number y.lo.number) _ a.1 in
-    λ j. record { var = eqb-true x.var y.var a.0 j; lo = record { number = eqb-true x.lo.number y.lo.number b.0 j }; hi = record { number = eqb-true x.hi.number y.hi.number b.1 j } }
+entry_eq-true x y h = grind arith
 
 -- where an entry is found, it stands
 pub slice_get-position : (es : List Entry) (e : Entry) (i : ℕ) → Some i ≡ position (entry_eq e) es → slice_get es i ≡ Some e
-slice_get-position es e i h =
-    let found = position-Some (entry_eq e) es i e (sym h) in
-    slice_get-get_or es i e found.0 ∙ ap Some (sym (entry_eq-true e (get_or es i e) found.1))
+slice_get-position es e i h = grind (arith, position-Some (entry_eq e) es i e, slice_get-get_or es i e, entry_eq-true e (get_or es i e))

@@ -14,10 +14,7 @@ marked-within : (marks : List Bool) (i : ℕ) → is_marked_at marks i ≡ true 
 marked-within marks i h = elim (cases_lt i (length marks)) [ inl l ↦ l | inr past ↦ absurd (true≢false (sym h ∙ get_or_past marks i false past)) ]
 
 mark-keeps : (marks : List Bool) (j : ℕ) → KeepsMarks marks (set marks j true)
-mark-keeps marks j i h = elim (cases_eq i j) [
-  | inl same ↦ ap (λ k. is_marked_at (set marks j true) k) same ∙ get_or-set_same marks j true false (subst (λ k. k < length marks) same (marked-within marks i h))
-  | inr apart ↦ get_or-set_other marks j i true false apart ∙ h
-]
+mark-keeps marks j i h = grind (arith, cases_eq, get_or-set_same, marked-within, get_or-set_other)
 
 mark-only : (marks : List Bool) (j i : ℕ) → is_marked_at (set marks j true) i ≡ true → (i ≡ j) ⊎ (is_marked_at marks i ≡ true)
 mark-only marks j i h = elim (cases_eq i j) [ inl same ↦ inl same | inr apart ↦ inr (rw (get_or-set_other marks j i true false apart) at h) ]
@@ -111,11 +108,7 @@ WaysAreMarked-mark es old now p e at long within low high marked was =
 
 -- the same as code reads it, which counts down to the entry
 pub WaysAreMarked-read : (es : List Entry) (old now : List Bool) (i a b : ℕ) (d : Entry) → ((p : ℕ) (e : Entry) → slice_get es p ≡ Some e → (index e.lo ≤ p) × (index e.hi ≤ p)) → length now ≡ length es + 1 → 1 ≤ i → i ≤ length es → a ≡ index (get_or es (i - 1) d).lo → b ≡ index (get_or es (i - 1) d).hi → is_marked_at now (i - 1 + 1) ≡ true → WaysAreMarked es old now i → WaysAreMarked es old (set (set now a true) b true) (i - 1)
-WaysAreMarked-read es old now i a b d earlier long some within a_is b_is marked was =
-    let at = slice_get-get_or es (i - 1) d (omega arith) in
-    let early = earlier (i - 1) (get_or es (i - 1) d) at in
-    let is : i ≡ i - 1 + 1 = omega arith in
-    rw (a_is, b_is) (WaysAreMarked-mark es old now (i - 1) (get_or es (i - 1) d) at long (omega arith) early.0 early.1 marked (subst (WaysAreMarked es old now) is was))
+WaysAreMarked-read es old now i a b d earlier long some within a_is b_is marked was = grind (arith, slice_get-get_or es (i - 1) d, WaysAreMarked-mark es old now (i - 1) (get_or es (i - 1) d))
 
 -- ---- both together
 

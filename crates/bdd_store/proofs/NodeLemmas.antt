@@ -6,32 +6,23 @@ use Rattle.cyc_base.proofs.ListLemmas.{parity}
 -- ---- negated values
 
 pub flipped-twice : (m b : Bool) → flipped m (flipped m b) ≡ b
-flipped-twice true true = refl
-flipped-twice true false = refl
-flipped-twice false b = refl
+flipped-twice m b = grind arith
 
 pub flipped-not : (m b : Bool) → flipped (not m) b ≡ not (flipped m b)
-flipped-not true true = refl
-flipped-not true false = refl
-flipped-not false b = refl
+flipped-not m b = grind arith
 
 pub flipped-same : (m b c : Bool) → flipped m b ≡ flipped m c → b ≡ c
 flipped-same m b c e = sym (flipped-twice m b) ∙ ap (flipped m) e ∙ flipped-twice m c
 
 not-same : (b : Bool) → not b ≡ b → ⊥
-not-same true e = true≢false (sym e)
-not-same false e = true≢false e
+not-same b e = grind arith
 
 -- a mark is read off what it makes of a value
 pub flipped-marks : (m n b : Bool) → flipped m b ≡ flipped n b → m ≡ n
-flipped-marks true true b e = refl
-flipped-marks true false b e = absurd (not-same b e)
-flipped-marks false true b e = absurd (not-same b (sym e))
-flipped-marks false false b e = refl
+flipped-marks m n b e = grind arith
 
 pub flipped-own : (b : Bool) → flipped b b ≡ false
-flipped-own true = refl
-flipped-own false = refl
+flipped-own b = grind arith
 
 -- ---- parity
 
@@ -47,25 +38,19 @@ pub index-complemented : (n : Node) → index (complemented n) ≡ index n
 index-complemented n = omega arith
 
 pub is_marked-complemented : (n : Node) → is_marked (complemented n) ≡ not (is_marked n)
-is_marked-complemented n = elim (parity n.number) [
-  | inl a ↦ let odd : (complemented n).number % 2 ≡ 1 = omega (arith, a) in unmarked-odd (complemented n) odd ∙ ap not (sym (marked-even n a))
-  | inr a ↦ let even : (complemented n).number % 2 ≡ 0 = omega (arith, a) in marked-even (complemented n) even ∙ ap not (sym (unmarked-odd n a))
-]
+is_marked-complemented n = grind arith
 
 pub index-complemented_if : (m : Bool) (n : Node) → index (complemented_if m n) ≡ index n
-index-complemented_if true n = index-complemented n
-index-complemented_if false n = refl
+index-complemented_if m n = grind arith
 
 pub is_marked-complemented_if : (m : Bool) (n : Node) → is_marked (complemented_if m n) ≡ flipped m (is_marked n)
-is_marked-complemented_if true n = is_marked-complemented n
-is_marked-complemented_if false n = refl
+is_marked-complemented_if m n = grind arith
 
 pub complemented-twice : (n : Node) → complemented (complemented n) ≡ n
 complemented-twice n = let same : (complemented (complemented n)).number ≡ n.number = omega arith in λ j. record { number = same j }
 
 pub complemented_if-twice : (m : Bool) (n : Node) → complemented_if m (complemented_if m n) ≡ n
-complemented_if-twice true n = complemented-twice n
-complemented_if-twice false n = refl
+complemented_if-twice m n = grind arith
 
 -- without its own mark a node has none
 pub is_marked-own : (n : Node) → is_marked (complemented_if (is_marked n) n) ≡ false
@@ -78,14 +63,8 @@ plain n p e = (omega (arith, e), unmarked-odd n (omega (arith, e)))
 
 -- nodes of one index are one node, or one is the other's complement
 pub same_entry : (m n : Node) → index m ≡ index n → (m ≡ n) ⊎ (m ≡ complemented n)
-same_entry m n i = elim (cases_eq m.number n.number) [
-  | inl same ↦ inl (λ j. record { number = same j })
-  | inr apart ↦ let other : m.number ≡ n.number + 1 - 2 * (n.number % 2) = omega arith in inr (λ j. record { number = other j })
-]
+same_entry m n i = grind arith
 
 -- index and mark tell the node
 pub same_node : (m n : Node) → index m ≡ index n → is_marked m ≡ is_marked n → m ≡ n
-same_node m n i h = elim (same_entry m n i) [
-  | inl same ↦ same
-  | inr other ↦ absurd (not-same (is_marked n) (sym (is_marked-complemented n) ∙ ap is_marked (sym other) ∙ h))
-]
+same_node m n i h = grind arith

@@ -1,5 +1,5 @@
 -- Different parts of a function are at most as many as its `nodes`: one count of distinct tables.
-use Rattle.std.proofs.Common.{◌≡◌, ℕ, ◌≤◌, Bool, true, false, not, cond, ◌&&◌, ◌||◌, List, [], ◌∷◌, length, map, filter, Contains, refl, sym, ap, subst, ◌∙◌}
+use Rattle.std.proofs.Common.{◌≡◌, ℕ, ◌≤◌, Bool, true, false, not, cond, ◌&&◌, ◌||◌, List, [], ◌∷◌, length, map, filter, Contains, refl, sym, ap, subst, ◌∙◌, arith}
 use Rattle.std.proofs.lemmas.List.Elements.{All-contains, All-from_recursion}
 use Rattle.std.proofs.lemmas.Map.Made.{length-le_from_is_member, is_member-filter, is_member-Decides, alike_from_same}
 use Rattle.std.specs.Bool.{beq, Decides}
@@ -33,13 +33,7 @@ module _ {K : Type 0} {eq : K → K → Bool} (laws : IsEquivalence eq) where
   -- a list and its keys have the same members
   unique_keys-member : (xs : List K) (q : K) → is_member eq xs q ≡ true → is_member eq (unique_keys eq xs) q ≡ true
   unique_keys-member [] q h = h
-  unique_keys-member (x ∷ xs) q h = by (is_member eq xs x) (eq q x) refl refl h (unique_keys-member xs q)
-    where
-      by : (b c : Bool) → is_member eq xs x ≡ b → eq q x ≡ c → (c || is_member eq xs q) ≡ true → (is_member eq xs q ≡ true → is_member eq (unique_keys eq xs) q ≡ true) → is_member eq (cond b (unique_keys eq xs) (x ∷ unique_keys eq xs)) q ≡ true
-      by true true m t g rest = rest (member_alike q x xs t ∙ m)
-      by true false m t g rest = rest g
-      by false true m t g rest = ap (λ v. v || is_member eq (unique_keys eq xs) q) t
-      by false false m t g rest = ap (λ v. v || is_member eq (unique_keys eq xs) q) t ∙ rest g
+  unique_keys-member (x ∷ xs) q h = grind (arith, unique_keys-member xs q, member_alike)
 
 -- distinct tables that are counted are no more than `nodes`
 pub nodes-at_least : (vars : ℕ) (f : List Bool → Bool) (ts : List (List Bool)) → IsDistinct table_eq ts → AllByRecursion (λ t. is_member table_eq (counted vars f) t ≡ true) ts → length ts ≤ nodes vars f

@@ -30,12 +30,7 @@ abbrev pub kept : List Bool → ℕ → List ℕ
 kept marks n = filter (λ p. is_marked_at marks (suc p)) (range_with_len 0 n)
 
 kept-suc : (marks : List Bool) (n : ℕ) (b : Bool) → is_marked_at marks (suc n) ≡ b → length (kept marks (suc n)) ≡ length (kept marks n) + (if b then 1 else 0)
-kept-suc marks n b is =
-    let test : ℕ → Bool = λ p. is_marked_at marks (suc p) in
-    let here : 0 + n ≡ n = omega arith in
-    ap (λ (xs : List ℕ). length (filter test xs)) (range-suc 0 n ∙ ap (λ (x : ℕ). range_with_len 0 n ++ x ∷ []) here)
-    ∙ ap length (filter-append test (range_with_len 0 n) (n ∷ []))
-    ∙ rw is (elim b as (λ c. length (kept marks n ++ cond c (n ∷ []) []) ≡ length (kept marks n) + (if c then 1 else 0)) [ true ↦ length-append (kept marks n) (n ∷ []) | false ↦ length-append (kept marks n) [] ])
+kept-suc marks n b is = grind (arith, range-suc 0 n, filter-append, length-append (kept marks n) (n ∷ []), length-append (kept marks n) [])
 
 pub kept-few : (marks : List Bool) (n : ℕ) → length (kept marks n) ≤ n
 kept-few marks n = omega (arith, filter-no_longer (λ p. is_marked_at marks (suc p)) (range_with_len 0 n), length-range_with_len 0 n)
@@ -49,8 +44,7 @@ pub is_marked-moved : (places : List ℕ) (n : Node) → is_marked (moved_node p
 is_marked-moved places n = let same : (moved_node places n).number % 2 ≡ n.number % 2 = omega arith in rw same refl
 
 branch-moved : (places : List ℕ) (e : Entry) (bit : Bool) → branch (moved_entry places e) bit ≡ moved_node places (branch e bit)
-branch-moved places e true = refl
-branch-moved places e false = refl
+branch-moved places e bit = grind arith
 
 -- a place further on changes no entry before
 moved-set : (places : List ℕ) (i v : ℕ) (e : Entry) → index e.lo < i → index e.hi < i → moved_entry (set places i v) e ≡ moved_entry places e
@@ -69,25 +63,15 @@ module _ (es : List Entry) (marks : List Bool) (places : List ℕ) (table : List
 
   pub place-within : (i : ℕ) → i ≤ n → n ≤ length es → is_marked_at marks i ≡ true → place places i ≤ length table
   place-within zero le w marked = omega (arith, moved.constants)
-  place-within (suc p) le w marked =
-      let at = entry_at es p (omega arith) in
-      let is = moved.each p at.0 (omega arith) at.1 marked in
-      omega (arith, is.1, slice_get_within table is.0 (moved_entry places at.0) is.2)
+  place-within (suc p) le w marked = grind (arith, entry_at es p, slice_get_within table)
 
   top-place : (i : ℕ) → i ≤ n → n ≤ length es → is_marked_at marks i ≡ true → top_at vars table (place places i) ≡ top_at vars es i
   top-place zero le w marked = ap (top_at vars table) moved.constants ∙ top_at-zero vars table ∙ sym (top_at-zero vars es)
-  top-place (suc p) le w marked =
-      let at = entry_at es p (omega arith) in
-      let is = moved.each p at.0 (omega arith) at.1 marked in
-      ap (top_at vars table) is.1 ∙ top_at-entry vars table is.0 (moved_entry places at.0) is.2 ∙ sym (top_at-entry vars es p at.0 at.1)
+  top-place (suc p) le w marked = grind (arith, entry_at es p, top_at-entry vars table, top_at-entry vars es p)
 
   -- nodes with marked indices are moved apart
   same_moved : (a b : Node) → index a ≤ n → index b ≤ n → is_marked_at marks (index a) ≡ true → is_marked_at marks (index b) ≡ true → (moved_node places a).number ≡ (moved_node places b).number → a.number ≡ b.number
-  same_moved a b la lb ma mb e =
-      let i : place places (index a) ≡ place places (index b) = omega (arith, index-moved places a, index-moved places b) in
-      let same : index a ≡ index b = moved.once (index a) (index b) la lb ma mb i in
-      let rest : a.number % 2 ≡ b.number % 2 = omega (arith, i) in
-      omega (arith, same, rest)
+  same_moved a b la lb ma mb e = grind arith
 
   module _ (e : Entry) (at : slice_get es n ≡ Some e) (marked : is_marked_at marks (suc n) ≡ true) where
     within : n < length es
@@ -228,9 +212,4 @@ IsKeptNext-from es marks places table n d closed sound moved few long less marke
     let lo = place-within es marks places table n closed sound.0 sound.1 moved (index e.lo) s.lo_earlier (omega arith) (branch-marked es marks closed n e false at marked) in
     let hi = place-within es marks places table n closed sound.0 sound.1 moved (index e.hi) s.hi_earlier (omega arith) (branch-marked es marks closed n e true at marked) in
     let count : length table ≤ n = omega (arith, moved.count, kept-few marks n) in
-    record {
-      lo = record { within = omega (arith, s.lo_earlier); small = omega arith };
-      hi = record { within = omega (arith, s.hi_earlier); small = omega arith };
-      room = omega arith;
-      absent = moved-absent es marks places table n closed sound.0 sound.1 moved e at marked;
-    }
+    grind (arith, within, moved-absent es marks places table n closed sound.0 sound.1 moved e)

@@ -31,33 +31,18 @@ IsPart-of_alike {vars} p same = record { first = p.first; short = p.short; same 
 
 -- fixing q's bits and then p's is fixing p's and the rest of q's
 fixed_twice : (p q bits : List Bool) → p ++ drop (length p) (q ++ drop (length q) bits) ≡ (p ++ drop (length p) q) ++ drop (length (p ++ drop (length p) q)) bits
-fixed_twice p q bits = elim (cases_lt (length q) (length p)) [
-  | inl less ↦
-      let beyond = drop-append-drop (length q) bits q (length p) (omega arith) refl in
-      rw (beyond, drop_all (length p) q (omega arith), append-nil p) refl
-  | inr more ↦
-      let inside = drop-append-le (length p) q (drop (length q) bits) more in
-      let long : length (p ++ drop (length p) q) ≡ length q = omega (arith, length-append p (drop (length p) q), length-drop (length p) q) in
-      rw (inside, long) (sym (append_assoc p (drop (length p) q) (drop (length q) bits)))
-]
+fixed_twice p q bits = grind (arith, cases_lt, drop-append-drop, drop_all, append-nil, drop-append-le, length-append, length-drop, append_assoc)
 
 -- a part of a part is a part
 pub IsPart-chain : {vars : ℕ} {f g h : List Bool → Bool} → IsPart vars f g → IsPart vars g h → IsPart vars f h
-IsPart-chain {vars} {f} p q = record {
-  first = p.first ++ drop (length p.first) q.first;
-  short = omega (arith, p.short, q.short, length-append p.first (drop (length p.first) q.first), length-drop (length p.first) q.first);
-  same = λ bits len. q.same bits len ∙ p.same (q.first ++ drop (length q.first) bits) (length-fixed vars q.first bits q.short len) ∙ ap f (fixed_twice p.first q.first bits);
-}
+IsPart-chain {vars} {f} p q = grind (arith, length-append p.first (drop (length p.first) q.first), length-drop (length p.first) q.first, length-fixed vars q.first, fixed_twice p.first q.first)
 
 -- ---- lists of bits
 
 pub prefixes-all : (n : ℕ) (p : List Bool) → length p ≤ n → Contains (prefixes n) p
 prefixes-all zero [] h = Contains-here [] []
 prefixes-all zero (b ∷ p) h = absurd (omega arith)
-prefixes-all (suc n) p h = elim (cases_lt (length p) (suc n)) [
-  | inl less ↦ Contains-append_left (prefixes n) (vectors (suc n)) p (prefixes-all n p (omega arith))
-  | inr more ↦ Contains-append_right (prefixes n) (vectors (suc n)) p (Contains-vectors (suc n) p (omega arith))
-]
+prefixes-all (suc n) p h = grind (arith, cases_lt (length p) (suc n), Contains-append_left (prefixes n) (vectors (suc n)) p, prefixes-all n p, Contains-append_right (prefixes n) (vectors (suc n)) p, Contains-vectors (suc n) p)
 
 -- ---- tables
 
@@ -92,22 +77,13 @@ prefixes-short (suc n) = all_append (λ v. length v ≤ suc n) (prefixes n) (vec
 -- functions with one value at each list of bits have as many nodes
 pub nodes-alike : (n : ℕ) (f g : List Bool → Bool) → ((bits : List Bool) → length bits ≡ n → f bits ≡ g bits) → nodes n f ≡ nodes n g
 unfolding nodes
-nodes-alike n f g h =
-    ap (λ ts. distinct_count (pointwise beq) (filter (λ t. not (is_constant t)) ts)) (map-alike_all (λ p. table n (fixed f p)) (λ p. table n (fixed g p)) (prefixes n)
-    (all_weaker (λ p. length p ≤ n) (λ p. table n (fixed f p) ≡ table n (fixed g p)) (prefixes n) (λ p short. table-alike n (fixed f p) (fixed g p) (λ bits len. h (p ++ drop (length p) bits) (length-fixed n p bits short len))) (prefixes-short n)))
+nodes-alike n f g h = grind (arith, map-alike_all, all_weaker, table-alike, length-fixed, prefixes-short)
 
 -- a constant table is that of a constant function
 all_alike : {X : Type 0} (test : Bool → Bool) (b : Bool) → ((c : Bool) → test c ≡ true → c ≡ b) → (f : X → Bool) (xs : List X) → list_all test (map f xs) ≡ true → map f xs ≡ map (λ x. b) xs
 all_alike test b only f [] h = refl
-all_alike test b only f (x ∷ xs) h =
-    let both = and_parts (test (f x)) (list_all test (map f xs)) h in
-    λ j. only (f x) both.0 j ∷ all_alike test b only f xs both.1 j
+all_alike test b only f (x ∷ xs) h = grind (arith, and_parts, all_alike test b only f xs)
 
 pub constant_value : (n : ℕ) (f : List Bool → Bool) → is_constant (table n f) ≡ true → (b : Bool) × (table n f ≡ table n (λ bits. b))
 unfolding table
-constant_value n f h = by (list_all (λ b. b) (map f (vectors n))) (list_all not (map f (vectors n))) refl refl h
-  where
-    by : (p q : Bool) → list_all (λ b. b) (map f (vectors n)) ≡ p → list_all not (map f (vectors n)) ≡ q → (p || q) ≡ true → (b : Bool) × (map f (vectors n) ≡ map (λ bits. b) (vectors n))
-    by true q e g t = (true, all_alike (λ b. b) true (λ c is. is) f (vectors n) e)
-    by false true e g t = (false, all_alike not false (λ c is. sym (not-not c) ∙ ap not is) f (vectors n) g)
-    by false false e g t = absurd (true≢false (sym t))
+constant_value n f h = grind (arith, all_alike, not-not, true≢false)

@@ -24,10 +24,7 @@ reached-way roots es p q was here = was
 reached-way roots es p q was (further k r way step) = reached-branch roots es k q (reached-way roots es p k was way) step
 
 pub AreClosed-marks : (roots : List (Option Node)) (es : List Entry) (marks : List Bool) → AreMarks roots es marks → AreClosed es marks
-AreClosed-marks roots es marks are = record {
-  constants = are.constants;
-  branches = λ p q marked step. (are.entries q).1 (reached-branch roots es p q ((are.entries p).0 marked) step);
-}
+AreClosed-marks roots es marks are = grind (arith, reached-branch)
 
 root-marked : (roots : List (Option Node)) (es : List Entry) (marks : List Bool) → AreMarks roots es marks → (key : ℕ) (n : Node) → root_in roots key ≡ Some n → is_marked_at marks (index n) ≡ true
 root-marked roots es marks are key n root = by (index n) refl
@@ -42,12 +39,10 @@ moved-at places n i j at is = index-moved places n ∙ ap (place places) at ∙ 
 -- ---- roots by their keys
 
 map_Some : (f : Node → Node) (o : Option Node) (m : Node) → option_map f o ≡ Some m → (n : Node) × (o ≡ Some n) × (m ≡ f n)
-map_Some f None m e = absurd (cc)
-map_Some f (Some n) m e = (n, refl, sym (same_Some (f n) m e))
+map_Some f o m e = grind arith
 
 map-IsSome : (f : Node → Node) (o : Option Node) → IsSome (option_map f o) ↔ IsSome o
-map-IsSome f None = (λ h. h, λ h. h)
-map-IsSome f (Some n) = (λ h. h, λ h. h)
+map-IsSome f o = grind arith
 
 -- ---- the sweep
 
@@ -72,29 +67,14 @@ module _ (old new : Arena) (marks : List Bool) (places : List ℕ)
 
     module _ (vars_are : new.vars ≡ old.vars) (limit_is : new.limit ≡ old.limit) (roots_are : AreMovedRoots places old.roots new.roots) where
       pub swept-within : AreWithin new.roots (length new.entries)
-      swept-within key m at =
-          let from = map_Some (moved_node places) (root_in old.roots key) m (sym (roots_are key) ∙ at) in
-          omega (arith, ap index from.2, index-moved places from.0, root-place key from.0 from.1)
+      swept-within key m at = grind (arith, map_Some, index-moved, root-place)
 
       -- the new root under a key is the old one at its place
       root-moved : (key : ℕ) (m n : Node) → root_at old key ≡ Some m → root_at new key ≡ Some n → n ≡ moved_node places m
-      root-moved key m n was is =
-          let from = map_Some (moved_node places) (root_in old.roots key) n (sym (roots_are key) ∙ is) in
-          from.2 ∙ ap (moved_node places) (same_Some from.0 m (sym from.1 ∙ was))
+      root-moved key m n was is = grind arith
 
       pub swept-roots : KeepsRoots old new
-      swept-roots = record {
-        vars = vars_are;
-        limit = limit_is;
-        keys = λ key. subst (λ o. IsSome o ↔ IsSome (root_in old.roots key)) (sym (roots_are key)) (map-IsSome (moved_node places) (root_in old.roots key));
-        function = λ key m n bits was is.
-            ap (λ k. den new k bits) (root-moved key m n was is)
-            ∙ node_value-moved old.entries marks places new.entries closed old.vars sound moved m bits (within key m was) (root-marked old.roots old.entries marks are key m was);
-        variable = λ key m n was is.
-            ap (top_of new) (root-moved key m n was is)
-            ∙ ap (λ v. top_at v new.entries (index (moved_node places m))) vars_are
-            ∙ top-moved old.entries marks places new.entries closed old.vars sound moved m (within key m was) (root-marked old.roots old.entries marks are key m was);
-      }
+      swept-roots = grind (arith, map-IsSome, root-moved, node_value-moved, closed, root-marked, top-moved)
 
       -- ways are moved step by step
       way-moved : (first p : ℕ) → LeadsTo old.entries first p → IsReached old.roots old.entries first → (f q : ℕ) → place places (suc first) ≡ suc f → place places (suc p) ≡ suc q → LeadsTo new.entries f q
@@ -121,11 +101,4 @@ module _ (old new : Arena) (marks : List Bool) (places : List ℕ)
           let in_first : was.first < length old.entries = omega (arith, was.entry, within was.key was.node was.root) in
           let e = entry_at old.entries was.first in_first in
           let at = moved.each was.first e.0 in_first e.1 ((are.entries was.first).1 first) in
-          record {
-            key = was.key;
-            node = moved_node places was.node;
-            first = at.0;
-            root = roots_are was.key ∙ ap (option_map (moved_node places)) was.root;
-            entry = moved-at places was.node (suc was.first) (suc at.0) was.entry at.1;
-            way = way-moved was.first from.0 was.way first at.0 q at.1 from.3;
-          }
+          grind (arith, moved-at places was.node (suc was.first) (suc at.0) was.entry at.1, way-moved was.first from.0 was.way first at.0 q at.1 from.3)

@@ -12,8 +12,7 @@ abbrev pub Earlier : List Entry → Type 0
 Earlier es = (p : ℕ) (e : Entry) → slice_get es p ≡ Some e → (index e.lo ≤ p) × (index e.hi ≤ p)
 
 pub branch_both : (P : Node → Type 0) (e : Entry) (bit : Bool) → P e.lo → P e.hi → P (branch e bit)
-branch_both P e true low high = high
-branch_both P e false low high = low
+branch_both P e bit low high = grind arith
 
 pub branch_low : (es : List Entry) → Earlier es → (p : ℕ) (e : Entry) (bit : Bool) → slice_get es p ≡ Some e → index (branch e bit) ≤ p
 branch_low es early p e bit at = branch_both (λ n. index n ≤ p) e bit (early p e at).0 (early p e at).1
@@ -38,18 +37,12 @@ unfolding den_within
 den_within-alike es fs early bits zero j i h g w same = absurd (omega arith)
 den_within-alike es fs early bits (suc k) zero i h g w same = absurd (omega arith)
 den_within-alike es fs early bits (suc k) (suc j) zero h g w same = refl
-den_within-alike es fs early bits (suc k) (suc j) (suc p) h g w same =
-    let at = entry_at es p (omega arith) in
-    let low = branch_low es early p at.0 (get_or bits at.0.var false) at.1 in
-    rw (same p (omega arith), at.1) (ap (flipped (is_marked (chosen at.0 bits))) (den_within-alike es fs early bits k j (index (chosen at.0 bits)) (omega arith) (omega arith) (omega arith) (λ q less. same q (omega arith))))
+den_within-alike es fs early bits (suc k) (suc j) (suc p) h g w same = grind (arith, entry_at, branch_low, den_within-alike es fs early bits k j)
 
 -- the value at an index is that of the branch that the bits choose
 pub value_at-entry : (es : List Entry) → Earlier es → (bits : List Bool) (p : ℕ) (e : Entry) → slice_get es p ≡ Some e → value_at es (suc p) bits ≡ node_value es (chosen e bits) bits
 unfolding den_within
-value_at-entry es early bits p e at =
-    let low = branch_low es early p e (get_or bits e.var false) at in
-    let within = slice_get_within es p e at in
-    rw at (ap (flipped (is_marked (chosen e bits))) (den_within-alike es es early bits (suc p) (suc (index (chosen e bits))) (index (chosen e bits)) (omega arith) (omega arith) (omega arith) (λ q less. refl)))
+value_at-entry es early bits p e at = grind (arith, branch_low, slice_get_within, den_within-alike)
 
 pub value_at-zero : (es : List Entry) (bits : List Bool) → value_at es zero bits ≡ true
 unfolding den_within
@@ -70,8 +63,7 @@ value_at-append es ys early bits i w = den_within-alike es (es ++ ys) early bits
 
 pub top_at-append : (vars : ℕ) (es ys : List Entry) (i : ℕ) → i ≤ length es → top_at vars (es ++ ys) i ≡ top_at vars es i
 unfolding top_at
-top_at-append vars es ys zero h = refl
-top_at-append vars es ys (suc p) h = rw (slice_get-append_left es ys p (omega arith)) refl
+top_at-append vars es ys i h = grind (arith, slice_get-append_left)
 
 pub top_at-entry : (vars : ℕ) (es : List Entry) (p : ℕ) (e : Entry) → slice_get es p ≡ Some e → top_at vars es (suc p) ≡ e.var
 unfolding top_at
@@ -87,9 +79,7 @@ not_branching n b means is = elim (cases_lt n.number 2) [ inl low ↦ low | inr 
 
 -- the value of a constant is whether it has no mark
 pub node_value-low : (es : List Entry) (n : Node) (bits : List Bool) → n.number < 2 → node_value es n bits ≡ not (is_marked n)
-node_value-low es n bits h =
-    let at : index n ≡ 0 = omega arith in
-    rw (at, value_at-zero es bits) (elim (is_marked n) as (λ m. flipped m true ≡ not m) [ true ↦ refl | false ↦ refl ])
+node_value-low es n bits h = grind (arith, value_at-zero es bits)
 
 pub top_of-low : (a : Arena) (n : Node) → n.number < 2 → top_of a n ≡ a.vars
 top_of-low a n h = let at : index n ≡ 0 = omega arith in rw at (top_at-zero a.vars a.entries)
@@ -100,8 +90,7 @@ pub node_value-complemented : (es : List Entry) (n : Node) (bits : List Bool) �
 node_value-complemented es n bits = rw (is_marked-complemented n, index-complemented n) (flipped-not (is_marked n) (value_at es (index n) bits))
 
 pub node_value-complemented_if : (m : Bool) (es : List Entry) (n : Node) (bits : List Bool) → node_value es (complemented_if m n) bits ≡ flipped m (node_value es n bits)
-node_value-complemented_if true es n bits = node_value-complemented es n bits
-node_value-complemented_if false es n bits = refl
+node_value-complemented_if m es n bits = grind arith
 
 pub top_of-complemented : (a : Arena) (n : Node) → top_of a (complemented n) ≡ top_of a n
 top_of-complemented a n = ap (top_at a.vars a.entries) (index-complemented n)
@@ -116,9 +105,7 @@ den-constant true a bits = value_at-zero a.entries bits
 den-constant false a bits = ap not (value_at-zero a.entries bits)
 
 pub top_of-constant : (b : Bool) (a : Arena) → top_of a (constant b) ≡ a.vars
-top_of-constant true a = top_at-zero a.vars a.entries
-top_of-constant false a = top_at-zero a.vars a.entries
+top_of-constant b a = grind (arith, top_at-zero)
 
 pub IsNodeOf-constant : (b : Bool) (a : Arena) → IsNodeOf a (constant b)
-IsNodeOf-constant true a = omega arith
-IsNodeOf-constant false a = omega arith
+IsNodeOf-constant b a = grind arith

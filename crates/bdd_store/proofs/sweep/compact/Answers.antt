@@ -1,4 +1,4 @@
-use Rattle.std.proofs.Common.{◌≡◌, ◌∙◌, length}
+use Rattle.std.proofs.Common.{◌≡◌, ◌∙◌, length, arith}
 use Rattle.std.proofs.lemmas.List.{take_at}
 use Rattle.bdd_store.proofs.sweep.compact.Goals as goal
 use Rattle.bdd_store.proofs.sweep.compact.Goals.{After-fill}
@@ -20,6 +20,4 @@ pub returns-clause-moved : goal.returns-clause-moved
 returns-clause-moved c = rw (take_at c.fill.new.places _ c.in_ok-places.places.len (long (goal.at.returns-clause-moved c).After-fill)) c.in_ok-fill.ensures
 
 pub returns-clause-places : goal.returns-clause-places
-returns-clause-places c =
-    let same = long (goal.at.returns-clause-places c).After-fill in
-    rw (take_at c.fill.new.places _ c.in_ok-places.places.len same) (same ∙ c.in_ok-places.ensures.len)
+returns-clause-places c = grind (arith, long, take_at)

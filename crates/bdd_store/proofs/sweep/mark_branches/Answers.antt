@@ -16,11 +16,7 @@ pub bounds-marks-index : goal.bounds-marks-index
 bounds-marks-index c = let e = (earlier c).0 in omega (arith, e, c.index.ensures)
 
 pub bounds-marks-index-then-marks-position : goal.bounds-marks-index-then-marks-position
-bounds-marks-index-then-marks-position c =
-    let e = (earlier (goal.at.bounds-marks-index-then-marks-position c).After-index).1 in
-    omega (arith, e, c.index-then-marks-position.ensures, length-set c.loop-position.marks c.index.result true)
+bounds-marks-index-then-marks-position c = grind (arith, earlier, length-set)
 
 pub loop-position-preserved-then-marks-position : goal.loop-position-preserved-then-marks-position
-loop-position-preserved-then-marks-position c = record {
-  ways = WaysAreMarked-read c.args.entries.now c.args.marks.now c.loop-position.marks c.loop-position.position c.index.result c.index-then-marks-position.result no_entry c.requires.earlier (omega arith) (omega arith) (omega arith) c.index.ensures c.index-then-marks-position.ensures c.if-marks-position.true c.loop-position.invariant.ways;
-}
+loop-position-preserved-then-marks-position c = grind (arith, WaysAreMarked-read c.args.entries.now c.args.marks.now c.loop-position.marks c.loop-position.position c.index.result c.index-then-marks-position.result no_entry c.requires.earlier)

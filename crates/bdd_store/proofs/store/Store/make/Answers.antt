@@ -8,25 +8,14 @@ use Rattle.bdd_store.proofs.store.Store.make.Goals as goal
 use Rattle.bdd_store.proofs.store.Store.make.Goals.{After-enter, After-complement_if-3}
 
 asked : (c : After-enter) → Asked (the_view c.self.inside) c.args.var c.args.lo c.args.hi
-asked c = record {
-  sound = c.self.invariant.2;
-  apart = λ e. true≢false (sym (eq-eqb c.args.lo.number c.args.hi.number (ap (λ (n : Node). n.number) e)) ∙ sym c.eq.ensures ∙ c.if-eq.false);
-  within = rw (← c.self.view_is) at c.requires.var;
-  in_lo = rw (← c.self.view_is) at c.requires.lo;
-  in_hi = rw (← c.self.view_is) at c.requires.hi;
-  above_lo = rw (← c.self.view_is) at c.requires.above_lo;
-  above_hi = rw (← c.self.view_is) at c.requires.above_hi;
-}
+asked c = grind arith
 
 -- the entry that is looked for
 entry_is : (c : After-enter) → ◌≡◌ {A = Entry} (record { var = c.args.var; lo = c.complement_if.result; hi = c.complement_if-2.result }) (normal c.args.var c.args.lo c.args.hi)
 entry_is c = rw (c.complement_if.ensures.complement, c.complement_if-2.ensures.complement, c.is_marked-mark.ensures) refl
 
 pub node_at-requires : goal.node_at-requires
-node_at-requires c =
-    let few = length-entered c.self.inside.entries.keys c.enter.new.entries.keys c.self.inside.limit _ c.self.invariant.1 c.in_ok-at.ensures.ok in
-    let within = slice_get_within c.enter.new.entries.keys c.in_ok-at.at _ c.in_ok-at.ensures.at in
-    omega (arith, few.0, within, c.self.invariant.0)
+node_at-requires c = grind (arith, length-entered c.self.inside.entries.keys c.enter.new.entries.keys c.self.inside.limit _ c.self.invariant.1 c.in_ok-at.ensures.ok, slice_get_within c.enter.new.entries.keys c.in_ok-at.at _ c.in_ok-at.ensures.at)
 
 module _ (c : After-complement_if-3) where
   abbrev before : After-enter
@@ -42,37 +31,26 @@ module _ (c : After-complement_if-3) where
   keeps = make-keeps (the_view c.self.inside) c.args.var c.args.lo c.args.hi (asked before) c.self.inside.limit c.enter.new.entries.keys entered
 
 pub invariant_of-self-2 : goal.invariant_of-self-2
-invariant_of-self-2 c = (
-  c.self.invariant.0,
-  (length-entered c.self.inside.entries.keys c.enter.new.entries.keys c.self.inside.limit _ c.self.invariant.1 (entered c)).0,
-  make-sound (the_view c.self.inside) c.args.var c.args.lo c.args.hi (asked (before c)) c.self.inside.limit c.enter.new.entries.keys (entered c),
-  λ key n at. omega (arith, (keeps c).more, c.self.invariant.3 key n at),
-)
+invariant_of-self-2 c =
+    grind (arith, length-entered c.self.inside.entries.keys c.enter.new.entries.keys c.self.inside.limit _ c.self.invariant.1 (entered c), entered c, make-sound (the_view c.self.inside) c.args.var c.args.lo c.args.hi (asked (before c)) c.self.inside.limit c.enter.new.entries.keys (entered c), asked (before c), keeps c)
 
 pub returns-clause-node : goal.returns-clause-node
-returns-clause-node c = let within = slice_get_within c.enter.new.entries.keys c.in_ok-at.at _ (found c) in
-    c.complement_if-3.ensures.node (with_entries (the_view c.self.inside) c.enter.new.entries.keys) (omega (arith, within, c.node_at.ensures))
+returns-clause-node c = grind (arith, slice_get_within, found)
 
 pub returns-clause-function : goal.returns-clause-function
 returns-clause-function c =
-    rw (← c.self.view_is, c.complement_if-3.ensures.complement, c.is_marked-mark.ensures)
-    (make-value (the_view c.self.inside) c.args.var c.args.lo c.args.hi (asked (before c)) c.self.inside.limit c.enter.new.entries.keys (entered c) c.in_ok-at.at (found c) c.node_at.result c.node_at.ensures)
+    grind (arith, make-value (the_view c.self.inside) c.args.var c.args.lo c.args.hi (asked (before c)) c.self.inside.limit c.enter.new.entries.keys (entered c) c.in_ok-at.at (found c) c.node_at.result c.node_at.ensures, asked (before c), entered c, found c)
 
 pub returns-clause-top : goal.returns-clause-top
 returns-clause-top c =
-    let top = make-top (the_view c.self.inside) c.args.var c.args.lo c.args.hi (asked (before c)) c.self.inside.limit c.enter.new.entries.keys (entered c) c.in_ok-at.at (found c) c.node_at.result c.node_at.ensures in
-    rw (c.complement_if-3.ensures.complement, c.is_marked-mark.ensures) (omega (arith, top))
+    grind (arith, make-top (the_view c.self.inside) c.args.var c.args.lo c.args.hi (asked (before c)) c.self.inside.limit c.enter.new.entries.keys (entered c) c.in_ok-at.at (found c) c.node_at.result c.node_at.ensures, asked (before c), entered c, found c)
 
 pub returns-clause-keeps : goal.returns-clause-keeps
 returns-clause-keeps c = rw (← c.self.view_is) (keeps c)
 
 pub returns-clause-new_node : goal.returns-clause-new_node
 returns-clause-new_node c n in_n =
-    let new = make-new_node (the_view c.self.inside) c.args.var c.args.lo c.args.hi (asked (before c)) c.self.inside.limit c.enter.new.entries.keys (entered c) c.in_ok-at.at (found c) c.node_at.result c.node_at.ensures n in_n in
-    rw (← c.self.view_is, c.complement_if-3.ensures.complement, c.is_marked-mark.ensures) (elim new [
-      | inl old ↦ inl old
-      | inr is ↦ elim is [ inl e ↦ inr (inl (ap Ok e)) | inr e ↦ inr (inr (ap Ok e)) ]
-    ])
+    grind (arith, make-new_node (the_view c.self.inside) c.args.var c.args.lo c.args.hi (asked (before c)) c.self.inside.limit c.enter.new.entries.keys (entered c) c.in_ok-at.at (found c) c.node_at.result c.node_at.ensures n in_n, asked (before c), entered c, found c)
 
 pub returns-in_err-at-clause-full : goal.returns-in_err-at-clause-full
 returns-in_err-at-clause-full c =

@@ -11,11 +11,7 @@ compact-requires-clause-closed c = rw c.deref.ensures.value (AreClosed-marks c.s
 pub renumber-requires : goal.renumber-requires
 renumber-requires c =
     let old = the_view c.self.inside in
-    root-placed old (with_entries old c.in_ok-table.table.keys) c.deref.result.now c.deref-2.result.now c.self.invariant.2 c.self.invariant.3
-    (rw (c.deref.ensures.value, ← c.as_slice-entries.ensures.keys) c.in_ok-marks.ensures)
-    (rw (c.deref-2.ensures.value, ← c.as_slice-entries.ensures.keys) c.in_ok-table.ensures.moved)
-    (omega (arith, c.self.invariant.0, c.self.invariant.1))
-    (ap length c.deref-2.ensures.value ∙ c.in_ok-table.ensures.places ∙ ap (λ (xs : List Entry). length xs + 1) c.as_slice-entries.ensures.keys)
+    grind (arith, root-placed old (with_entries old c.in_ok-table.table.keys) c.deref.result.now c.deref-2.result.now c.self.invariant.2 c.self.invariant.3)
 
 module _ (c : goal.After-drop-marks-2) where
   abbrev before : Arena
@@ -35,12 +31,7 @@ module _ (c : goal.After-drop-marks-2) where
   few = swept-few before after c.deref.result.now c.deref-2.result.now c.self.invariant.2 c.self.invariant.3 are moved
 
 pub invariant_of-self : goal.invariant_of-self
-invariant_of-self c = (
-  c.self.invariant.0,
-  omega (arith, c.self.invariant.1, few c),
-  (moved c).sound c.self.inside.vars c.self.invariant.2,
-  swept-within (before c) (after c) c.deref.result.now c.deref-2.result.now c.self.invariant.2 c.self.invariant.3 (are c) (moved c) refl refl c.renumber.ensures,
-)
+invariant_of-self c = grind (arith, few c, moved c, swept-within (before c) (after c) c.deref.result.now c.deref-2.result.now c.self.invariant.2 c.self.invariant.3 (are c) (moved c), are c)
 
 pub returns-clause-roots : goal.returns-clause-roots
 returns-clause-roots c = rw (← c.self.view_is) (swept-roots (before c) _ c.deref.result.now c.deref-2.result.now c.self.invariant.2 c.self.invariant.3 (are c) (moved c) refl refl c.renumber.ensures)
