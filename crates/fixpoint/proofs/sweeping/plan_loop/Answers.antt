@@ -3,9 +3,6 @@ use Rattle.fixpoint.proofs.Common.{All, Cut, Looped, Parts, block_at, is_cut, Is
 use Rattle.fixpoint.proofs.CutLemmas.{cuts-within, order-within}
 use Rattle.fixpoint.proofs.sweeping.plan_loop.Goals as goal
 
-pub gates_of-requires : goal.gates_of-requires
-gates_of-requires c = c.requires.at.within
-
 pub cuts_among-requires : goal.cuts_among-requires
 cuts_among-requires c k d less =
     let within = (c.gates_of.ensures.home k d less).0 in
