@@ -1,6 +1,7 @@
 -- Counting the nodes that a comparison of steps adds.
 use Rattle.std.proofs.Common.{◌≡◌, inl, inr, ◌⊎◌, ℕ, zero, suc, ◌+◌, ◌*◌, ◌<◌, ◌≤◌, Bool, ◌&&◌, List, [], ◌∷◌, length, refl, sym, ap, ap₂, ◌∙◌, subst, arith, Contains}
 use Rattle.fixpoint.proofs.Common.{get_or_default, All-contains, mul-le-mul_left, All, Node, Arena, den, IsNodeOf, KeepsNodes, Rails, IsWide, LoopSteps, step_at, steps_under, unknown, rails_at, AreNodes, IsCompared, IsComparedIn}
+use Rattle.std.proofs.lemmas.List.Elements.{All-nil, All-cons}
 use Rattle.bdd_store.specs.Subfunctions.{nodes}
 use Rattle.bdd_store.proofs.SubfunctionLemmas.{nodes-alike}
 use Rattle.bdd_ops.specs.Operations.{xor, conjunction, exclusive_or}
@@ -80,11 +81,8 @@ pair-second : (r q : Rails) (n : Node) → (n ≡ q.one) ⊎ (n ≡ q.zero) → 
 pair-second r q n is = record { step = r ∷ q ∷ []; among = (zero, omega arith, refl); rails = q; within = (suc zero, omega arith, refl); is = is }
 
 pub pair-nodes : (s : Arena) (r q : Rails) → AreNodes s r → AreNodes s q → (n : Node) → IsStepNode ((r ∷ q ∷ []) ∷ []) n → IsNodeOf s n
-pair-nodes s r q rn qn n is =
-    let e : r ∷ q ∷ [] ≡ is.step = one-contains (r ∷ q ∷ []) is.step is.among in
-    let has : Contains (r ∷ q ∷ []) is.rails = subst (λ (xs : List Rails). Contains xs is.rails) (sym e) is.within in
-    let of : AreNodes s is.rails = elim (pair-contains r q is.rails has) [ inl same ↦ subst (AreNodes s) same rn | inr same ↦ subst (AreNodes s) same qn ] in
-    elim is.is [ inl x ↦ subst (IsNodeOf s) (sym x) of.one | inr x ↦ subst (IsNodeOf s) (sym x) of.zero ]
+pair-nodes s r q rn qn =
+    step-nodes s ((r ∷ q ∷ []) ∷ []) (All-cons (All (AreNodes s)) (r ∷ q ∷ []) [] (All-cons (AreNodes s) r (q ∷ []) rn (All-cons (AreNodes s) q [] qn (All-nil (AreNodes s)))) (All-nil (All (AreNodes s))))
 
 -- two nodes of theirs are compared
 pub pair-bounds : (s t : Arena) (care : Node) → IsNodeOf s care → (r q : Rails) → AreNodes s r → AreNodes s q → KeepsNodes s t → (m n : Node) → (m ≡ r.one) ⊎ (m ≡ r.zero) → (n ≡ q.one) ⊎ (n ≡ q.zero) → {w : ℕ}

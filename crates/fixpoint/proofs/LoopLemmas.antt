@@ -45,10 +45,6 @@ module _ (l : Looped) (l_is : IsLooped l) (b : ℕ) (loop : IsLoopAt l.blocks b)
     listed : (n : ℕ) → Contains cuts n → ((n < length l.net.gates) × (home_of l.blocks n ≡ b)) × (is_cut l.cut.wires n ≡ true)
     listed n has = from-cuts l.net l.blocks l_is.blocks l.cut b loop n (subst (λ (ns : List ℕ). Contains ns n) is has)
 
-    next-value : (n : ℕ) (bits : List Bool) → n < length l.net.gates → home_of l.blocks n ≡ b →
-        value_of e (rails_at after (first_gate l.net + n)) bits ≡ value_in (after_sweeps l v (suc (length steps)) bits) n
-    next-value n bits less home = swept n bits less home
-
     now-value : (n : ℕ) (bits : List Bool) → Contains cuts n → value_of e (rails_at before n) bits ≡ value_in (after_sweeps l v (length steps) bits) n
     now-value n bits has =
         let f = listed n has in
@@ -86,14 +82,14 @@ module _ (l : Looped) (l_is : IsLooped l) (b : ℕ) (loop : IsLoopAt l.blocks b)
         now-value n bits has
         ∙ fixed-at l.net l.blocks l_is.blocks l.cut b loop l_is.cut (v bits) (underway.solved.vector bits) n (length steps) has2 (omega (arith, enough, size))
         ∙ sym (fixed-at l.net l.blocks l_is.blocks l.cut b loop l_is.cut (v bits) (underway.solved.vector bits) n (suc (length steps)) has2 (omega (arith, enough, size)))
-        ∙ sym (next-value n bits f.0.0 f.0.1))
+        ∙ sym (swept n bits f.0.0 f.0.1))
 
     -- where the cut wires stand still, the loop stands at the fixpoint
     module _ (still : (n : ℕ) → Contains cuts n → rails_at before n ≡ rails_at after (first_gate l.net + n)) where
       same-cut : (n : ℕ) (bits : List Bool) → Contains cuts n → value_in (after_sweeps l v (suc (length steps)) bits) n ≡ value_in (after_sweeps l v (length steps) bits) n
       same-cut n bits has =
           let f = listed n has in
-          sym (next-value n bits f.0.0 f.0.1) ∙ ap (λ (r : Rails). value_of e r bits) (sym (still n has)) ∙ now-value n bits has
+          sym (swept n bits f.0.0 f.0.1) ∙ ap (λ (r : Rails). value_of e r bits) (sym (still n has)) ∙ now-value n bits has
 
       fix-gate : (n : ℕ) (bits : List Bool) → n < length l.net.gates → home_of l.blocks n ≡ b → value_in (after_sweeps l v (suc (length steps)) bits) n ≡ value_in (fix_gates l.net (v bits)) n
       fix-gate n bits less home =
@@ -110,10 +106,10 @@ module _ (l : Looped) (l_is : IsLooped l) (b : ℕ) (loop : IsLoopAt l.blocks b)
       solved-next : IsSolvedBelow l e v (b + 1) before after
       solved-next =
           solved-more solved
-          (λ n bits less own. next-value n bits less own ∙ fix-gate n bits less own)
+          (λ n bits less own. swept n bits less own ∙ fix-gate n bits less own)
           (λ n bits less own cut_wire.
           let has : Contains cuts n = subst (λ (ns : List ℕ). Contains ns n) (sym is) (in-cuts l.net l.blocks l_is.blocks l.cut b loop n less own cut_wire) in
-          ap (λ (r : Rails). value_of e r bits) (still n has) ∙ next-value n bits less own ∙ fix-gate n bits less own)
+          ap (λ (r : Rails). value_of e r bits) (still n has) ∙ swept n bits less own ∙ fix-gate n bits less own)
 
       steps-are : AreStepsOf l.net l.blocks l.cut e v (record { block = b; cuts = cuts; steps = steps ++ map (rails_at before) cuts ∷ [] })
       steps-are =
@@ -159,7 +155,7 @@ module _ (l : Looped) (l_is : IsLooped l) (b : ℕ) (loop : IsLoopAt l.blocks b)
           cuts_are = subst (λ (k : ℕ). CutsAre l e (after_sweeps l v k) b before2) next
               (λ n bits less home cut_wire.
               ap (λ (r : Rails). value_of e r bits) (kept n (subst (λ (ns : List ℕ). Contains ns n) (sym is) (in-cuts l.net l.blocks l_is.blocks l.cut b loop n less home cut_wire)))
-              ∙ next-value n bits less home);
+              ∙ swept n bits less home);
           fresh = λ n less later. free n (λ has. let f = listed n has in omega (arith, later, f.0.1)) ∙ underway.fresh n less later;
           each = each-pushed;
           proper = proper-pushed;

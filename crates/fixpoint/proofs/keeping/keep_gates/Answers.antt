@@ -1,7 +1,6 @@
-use Rattle.std.proofs.Common.{◌+◌, ℕ, List, Some, None, get_or, refl, sym, subst, arith}
-use Rattle.fixpoint.proofs.Common.{take_all, HoldsRails, rails_at, unknown}
-use Rattle.std.specs.List.{Contains}
-use Rattle.fixpoint.proofs.KeptLemmas.{GainsRoots-refl, GainsRoots_chain, AreRailsOf-gained}
+use Rattle.std.proofs.Common.{◌+◌, ℕ, Some, None, get_or, refl, arith}
+use Rattle.fixpoint.proofs.Common.{HoldsRails, rails_at, unknown}
+use Rattle.fixpoint.proofs.KeptLemmas.{GainsRoots_chain, AreRailsOf-gained}
 use Rattle.fixpoint.proofs.KeepingLemmas.{holds-gained}
 use Rattle.fixpoint.proofs.WireLemmas.{set-taken, set-others}
 use Rattle.fixpoint.proofs.keeping.keep_gates.Goals as goal
@@ -17,23 +16,8 @@ loop-gate-preserved c =
       others = set-others c.args.gates.now c.args.places.now c.loop-gate.places c.loop-gate.gate-index (Some c.in_ok-kept.kept) None c.loop-gate-test.true inv.others;
     }
 
-pub loop-gate-init : goal.loop-gate-init
-loop-gate-init c = record {
-  gains = GainsRoots-refl c.args.d.now;
-  kept = λ n has. absurd (let less = has.1 in omega (arith, less));
-  others = λ n other. refl;
-}
-
 pub keep-requires : goal.keep-requires
 keep-requires c =
     let place : ℕ = c.args.first + get_or c.args.gates.now c.loop-gate.gate-index 0 in
     AreRailsOf-gained c.loop-gate.invariant.gains (get_or c.args.rails.now place unknown)
     (c.requires.proper place unknown (omega (arith, c.requires.width, c.requires.gates c.loop-gate.gate-index 0 c.loop-gate-test.true)))
-
-pub returns-clause-kept : goal.returns-clause-kept
-returns-clause-kept c n has =
-    c.loop-gate.invariant.kept n (subst (λ (gates : List ℕ). Contains gates n) (sym (take_all c.loop-gate.gate-index c.args.gates.now c.loop-gate-test.false)) has)
-
-pub returns-clause-others : goal.returns-clause-others
-returns-clause-others c n other =
-    c.loop-gate.invariant.others n (subst (λ (gates : List ℕ). ¬ Contains gates n) (sym (take_all c.loop-gate.gate-index c.args.gates.now c.loop-gate-test.false)) other)

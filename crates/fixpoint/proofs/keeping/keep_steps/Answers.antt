@@ -1,6 +1,6 @@
-use Rattle.std.proofs.Common.{[], map, get_or, ap, sym, ◌∙◌, subst, arith}
-use Rattle.fixpoint.proofs.Common.{get_or_default, take_all, All, AreRailsOf, rails_under, AreKept}
-use Rattle.fixpoint.proofs.KeptLemmas.{GainsRoots-refl, GainsRoots_chain, All-rails-gained, All-kept-gained, all_under-gained, more-kept}
+use Rattle.std.proofs.Common.{[], get_or, sym, ◌∙◌, subst}
+use Rattle.fixpoint.proofs.Common.{get_or_default, All, AreRailsOf}
+use Rattle.fixpoint.proofs.KeptLemmas.{GainsRoots_chain, All-rails-gained, All-kept-gained, all_under-gained, more-kept}
 use Rattle.fixpoint.proofs.keeping.keep_steps.Goals as goal
 
 pub keep_rails-requires : goal.keep_rails-requires
@@ -16,13 +16,3 @@ loop-step-preserved c =
     inv.keys inv.steps c.in_ok-kept.ensures.kept
     (c.in_ok-kept.ensures.rails ∙ c.items.ensures ∙ c.step-item.is ∙ get_or_default c.args.steps.now c.loop-step.step-index c.step-item.result [] c.loop-step-test.true) in
     record { gains = GainsRoots_chain inv.gains gains; keys = rw (c.in_ok-push.ensures.items, c.of.ensures) more.0; steps = rw (c.in_ok-push.ensures.items, c.of.ensures) more.1 }
-
-pub loop-step-init : goal.loop-step-init
-loop-step-init c = record {
-  gains = GainsRoots-refl c.args.d.now;
-  keys = subst (All (All (AreKept c.args.d.now))) (sym c.in_ok-list.ensures.items) (λ i none less. absurd (omega (arith, less)));
-  steps = ap (map (map (rails_under c.args.d.now))) c.in_ok-list.ensures.items;
-}
-
-pub returns-clause-steps : goal.returns-clause-steps
-returns-clause-steps c = c.loop-step.invariant.steps ∙ take_all c.loop-step.step-index c.args.steps.now c.loop-step-test.false

@@ -1,6 +1,6 @@
-use Rattle.std.proofs.Common.{get_or, map, ap, sym, ◌∙◌, subst, arith}
-use Rattle.fixpoint.proofs.Common.{take_all, All, rails_under, AreKept, unknown}
-use Rattle.fixpoint.proofs.KeptLemmas.{GainsRoots-refl, GainsRoots_chain, AreRailsOf-gained, AreKept-gained, rails_under-gained, more-kept}
+use Rattle.std.proofs.Common.{get_or}
+use Rattle.fixpoint.proofs.Common.{unknown}
+use Rattle.fixpoint.proofs.KeptLemmas.{GainsRoots_chain, AreRailsOf-gained, AreKept-gained, rails_under-gained, more-kept}
 use Rattle.fixpoint.proofs.kept.keep_rails.Goals as goal
 
 pub loop-one-preserved : goal.loop-one-preserved
@@ -11,16 +11,6 @@ loop-one-preserved c =
     inv.keys inv.rails c.in_ok-root.ensures.kept c.in_ok-root.ensures.rails in
     record { gains = GainsRoots_chain inv.gains gains; keys = rw c.in_ok-push.ensures.items more.0; rails = rw c.in_ok-push.ensures.items more.1 }
 
-pub loop-one-init : goal.loop-one-init
-loop-one-init c = record {
-  gains = GainsRoots-refl c.args.d.now;
-  keys = subst (All (AreKept c.args.d.now)) (sym c.in_ok-kept.ensures.items) (λ i none less. absurd (omega (arith, less)));
-  rails = ap (map (rails_under c.args.d.now)) c.in_ok-kept.ensures.items;
-}
-
 pub keep-requires : goal.keep-requires
 keep-requires c =
     AreRailsOf-gained c.loop-one.invariant.gains (get_or c.args.rails.now c.loop-one.one-index unknown) (c.requires c.loop-one.one-index unknown c.loop-one-test.true)
-
-pub returns-clause-rails : goal.returns-clause-rails
-returns-clause-rails c = c.loop-one.invariant.rails ∙ take_all c.loop-one.one-index c.args.rails.now c.loop-one-test.false

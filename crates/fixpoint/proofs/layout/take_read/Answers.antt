@@ -1,19 +1,8 @@
-use Rattle.std.proofs.Common.{◌∙◌, ◌<◌, ◌≤◌, ◌++◌, ℕ, List, length, get_or, take, refl, sym, ap, subst, arith}
-use Rattle.fixpoint.proofs.Common.{append-nil, take_all, Sig, first_signals, AreTaken}
+use Rattle.std.proofs.Common.{◌∙◌, ◌<◌, ◌≤◌, ◌++◌, ℕ, length, get_or, take, ap, arith}
+use Rattle.fixpoint.proofs.Common.{Sig, first_signals}
 use Rattle.fixpoint.proofs.OrderLemmas.{read-column, read-other}
 use Rattle.fixpoint.proofs.layout.take_read.Goals as goal
 use Rattle.fixpoint.proofs.layout.take_read.Goals.{then-pin-marks+in_ok-take_column, else-pin-marks}
-
-pub loop-pin-init : goal.loop-pin-init
-loop-pin-init c = record {
-  width = refl;
-  taken = λ from are. subst (λ (xs : List ℕ). AreTaken xs c.args.marks.now c.args.columns.now.items) (sym (append-nil from)) are;
-}
-
-pub returns-clause-taken : goal.returns-clause-taken
-returns-clause-taken c from are =
-    subst (λ (pins : List Sig). AreTaken (from ++ first_signals (length c.args.marks.now) pins) c.loop-pin.marks c.loop-pin.columns.items)
-    (take_all c.loop-pin.pin-index c.args.pins.now c.loop-pin-test.false) (c.loop-pin.invariant.taken from are)
 
 pub loop-pin-preserved : goal.loop-pin-preserved
 loop-pin-preserved c =

@@ -34,6 +34,3 @@ returns-clause-grows c = within_answered (c.lift_in_order.ensures.grows (λ bits
 pub returns-in_err-lift_in_order-clause-grows : goal.returns-in_err-lift_in_order-clause-grows
 returns-in_err-lift_in_order-clause-grows c =
     within_refused c.in_err-lift_in_order.was c.from_residual.ensures.1 (c.lift_in_order.ensures.grows (λ bits. values_of c.args.d.now c.args.given.now bits) (start (goal.at.returns-in_err-lift_in_order-clause-grows c).After-deref_mut))
-
-pub returns-clause-width : goal.returns-clause-width
-returns-clause-width c = ap length (given-back (goal.at.returns-clause-width c).After-lift_in_order) ∙ c.in_ok-lift_in_order.ensures.wires.width

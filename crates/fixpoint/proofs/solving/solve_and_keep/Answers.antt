@@ -6,19 +6,11 @@ use Rattle.fixpoint.proofs.KeepingLemmas.{vectors-are, solved-next, found-next, 
 use Rattle.fixpoint.proofs.solving.solve_and_keep.Goals as goal
 use Rattle.fixpoint.proofs.solving.solve_and_keep.Goals.{After-solve_block}
 
-pub solve_block-requires-clause-gate : goal.solve_block-requires-clause-gate
-solve_block-requires-clause-gate c = (c.gates_of-gates.ensures.home 0 0 c.gates_of-gates.ensures.some).0
-
 pub solve_block-requires-clause-solved : goal.solve_block-requires-clause-solved
 solve_block-requires-clause-solved c =
     let is = c.requires.solved.solved in
     rw (c.gates_of-gates.ensures.home 0 0 c.gates_of-gates.ensures.some).1
     (subst (λ (v : Vectors). IsSolvedBelow c.args.looped.now c.args.d.now v c.args.place c.args.progress.now.wires.before.items c.args.progress.now.wires.rails.items) (sym (vectors-are is)) is)
-
-pub solve_block-requires-clause-fresh : goal.solve_block-requires-clause-fresh
-solve_block-requires-clause-fresh c n less later =
-    let home = (c.gates_of-gates.ensures.home 0 0 c.gates_of-gates.ensures.some).1 in
-    c.requires.solved.fresh n less (omega (arith, later, home))
 
 -- what the block adds
 block-adds : (c : After-solve_block) → AddsWithin c.solve_block.result c.args.d.now c.solve_block.new.d (HasLargeCover c.args.looped.now.net) (IsWide c.args.d.now.vars (IsWorking c.args.looped.now.net (loops_by c.args.looped.now.blocks c.args.looped.now.cut) (values_under c.args.d.now c.args.given.now)))
@@ -33,18 +25,6 @@ returns-in_err-found-clause-roots c = RootsStay-kept (subst IsLawful c.store.ens
 
 pub returns-in_err-found-clause-adds : goal.returns-in_err-found-clause-adds
 returns-in_err-found-clause-adds c = adds_refused c.in_err-found.was c.from_residual.ensures.1 (block-adds ((goal.at.returns-in_err-found-clause-adds c).After-solve_block))
-
-pub keep_block-requires-clause-gates : goal.keep_block-requires-clause-gates
-keep_block-requires-clause-gates c k none less =
-    let at = (c.gates_of-gates.ensures.home k none less).0 in
-    let width = c.requires.solved.kept.width in
-    omega (arith, at, width)
-
-pub keep_block-requires-clause-width : goal.keep_block-requires-clause-width
-keep_block-requires-clause-width c =
-    let width = c.in_ok-found.ensures.solved.wires.width in
-    let places = c.requires.solved.kept.width in
-    omega (arith, width, places, c.columns-first.ensures.columns, ap first_gate c.net.ensures.net)
 
 pub keep_block-requires-clause-steps : goal.keep_block-requires-clause-steps
 keep_block-requires-clause-steps c =

@@ -1,5 +1,5 @@
-use Rattle.std.proofs.Common.{◌+◌, ◌*◌, length, ◌≡◌, ◌∙◌, List, false, ap, arith}
-use Rattle.fixpoint.proofs.Common.{get_or_default, GrowsWithin, size, gate_at, IsWide, loops_by, IsWorking, HasLargeCover, block_cost, within_moved, within_more, within_refused, within_answered, Block, block_at, home_of, no_block, Rails, rails_at, vectors}
+use Rattle.std.proofs.Common.{◌+◌, ◌*◌, length, ◌≡◌, ◌∙◌, false, ap}
+use Rattle.fixpoint.proofs.Common.{get_or_default, GrowsWithin, size, gate_at, IsWide, loops_by, IsWorking, HasLargeCover, block_cost, within_moved, within_more, within_refused, within_answered, Block, block_at, home_of, no_block, vectors}
 use Rattle.fixpoint.proofs.BoundLemmas.{plain-bounds, plain-cost, gate-few}
 use Rattle.fixpoint.proofs.BlockLemmas.{plain-solved}
 use Rattle.fixpoint.proofs.solving.solve_block.Goals as goal
@@ -30,21 +30,3 @@ returns-clause-grows c = within_answered (gate-set ((goal.at.returns-clause-grow
 
 pub returns-in_err-set_gate-clause-grows : goal.returns-in_err-set_gate-clause-grows
 returns-in_err-set_gate-clause-grows c = within_refused c.in_err-set_gate.was c.from_residual-in_err-set_gate.ensures.1 (gate-set ((goal.at.returns-in_err-set_gate-clause-grows c).After-set_gate))
-
-pub solve_loop-requires-clause-solved : goal.solve_loop-requires-clause-solved
-solve_loop-requires-clause-solved c = rw (c.items.ensures, c.blocks-blocks.ensures.blocks) c.requires.solved
-
-pub solve_loop-requires-clause-fresh : goal.solve_loop-requires-clause-fresh
-solve_loop-requires-clause-fresh c = rw (c.items.ensures, c.blocks-blocks.ensures.blocks) c.requires.fresh
-
-pub returns-then-items-place-clause-steps : goal.returns-then-items-place-clause-steps
-returns-then-items-place-clause-steps c = (c.in_ok-steps.ensures.steps, rw (c.items.ensures, c.blocks-blocks.ensures.blocks) at c.in_ok-steps.ensures.block)
-
-pub returns-then-items-place-clause-solved : goal.returns-then-items-place-clause-solved
-returns-then-items-place-clause-solved c = rw (c.items.ensures, c.blocks-blocks.ensures.blocks) at c.in_ok-steps.ensures.solved
-
-pub returns-then-items-place-clause-fresh : goal.returns-then-items-place-clause-fresh
-returns-then-items-place-clause-fresh c = rw (c.items.ensures, c.blocks-blocks.ensures.blocks) at c.in_ok-steps.ensures.fresh
-
-pub returns-clause-fresh : goal.returns-clause-fresh
-returns-clause-fresh c n within later = ap (λ (bs : List Rails). rails_at bs n) c.set_gate.ensures.before ∙ c.requires.fresh n within (omega (arith, later))

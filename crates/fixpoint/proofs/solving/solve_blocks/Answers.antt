@@ -31,9 +31,6 @@ loop-place-init c =
       steps = subst (All (AreKeptSteps c.args.looped.now.net c.args.looped.now.blocks c.args.looped.now.cut c.sweep_store.new.d (values_under c.sweep_store.new.d c.args.given.now))) (sym c.new-loops.ensures.items) (λ k none less. absurd (omega (arith, less)));
     }
 
-pub solve_with_retry-requires-clause-place : goal.solve_with_retry-requires-clause-place
-solve_with_retry-requires-clause-place c = omega (arith, c.loop-place-test.true, ap length c.items-place-end.ensures, ap (λ (x : Blocks). length x.list) c.blocks-2.ensures.blocks)
-
 pub sweep_if_due-requires-clause-places : goal.sweep_if_due-requires-clause-places
 sweep_if_due-requires-clause-places c = places-kept c.in_ok-found.ensures.solved.kept
 

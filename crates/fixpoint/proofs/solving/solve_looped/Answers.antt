@@ -1,12 +1,9 @@
-use Rattle.std.proofs.Common.{◌∙◌, ◌+◌, ◌*◌, Option, None, length, replicate, sym, ap, subst, arith}
-use Rattle.fixpoint.proofs.Common.{All, IsWide, loops_by, AddsWithin, adds_more, adds_refused, adds_swept, AreKept, KeptRails, Parts, values_under, IsWorking, HasLargeCover, effort}
+use Rattle.std.proofs.Common.{◌∙◌, ◌+◌, ◌*◌, Option, None, length, replicate, ap, arith}
+use Rattle.fixpoint.proofs.Common.{IsWide, loops_by, AddsWithin, adds_more, adds_refused, adds_swept, KeptRails, Parts, values_under, IsWorking, HasLargeCover, effort}
 use Rattle.fixpoint.proofs.KeptLemmas.{RootsStay-chain, adds_lacking}
 use Rattle.fixpoint.proofs.KeepingLemmas.{solution-is, solved-start}
 use Rattle.fixpoint.proofs.solving.solve_looped.Goals as goal
 use Rattle.fixpoint.proofs.solving.solve_looped.Goals.{After-solve_blocks}
-
-pub start-requires : goal.start-requires
-start-requires c = subst (All (AreKept c.args.d.now)) (sym c.deref.ensures.value) c.requires.keys
 
 pub solve_blocks-requires : goal.solve_blocks-requires
 solve_blocks-requires c =

@@ -1,7 +1,6 @@
 use Rattle.std.proofs.Common.{◌≡◌, ◌+◌, ◌∙◌, ℕ, List, ap, length, get_or, subst, sym, arith}
 use Rattle.std.proofs.lemmas.List.{get_or_read, length-set}
-use Rattle.std.specs.List.{Contains}
-use Rattle.fixpoint.proofs.Common.{All-set, AreRailsOf, Rails, rails_at, take_all, unknown}
+use Rattle.fixpoint.proofs.Common.{All-set, AreRailsOf, Rails, rails_at, unknown}
 use Rattle.fixpoint.proofs.WireLemmas.{rails_at-proper, set-taken, set-others}
 use Rattle.fixpoint.proofs.wires.Wires.keep_cuts.Goals as goal
 
@@ -25,7 +24,3 @@ loop-gate-preserved c =
       others = set-others cuts c.args.self.now.before.items before i c.index.result.now unknown inside inv.others;
       proper = λ a all old. All-set (AreRailsOf a) before gate c.index.result.now (subst (AreRailsOf a) (sym read) (rails_at-proper a rails all (c.args.first + gate))) (inv.proper a all old);
     }
-
-pub returns-clause-kept : goal.returns-clause-kept
-returns-clause-kept c n has =
-    c.loop-gate.invariant.kept n (subst (λ (ns : List ℕ). Contains ns n) (sym (take_all c.loop-gate.gate-index c.args.cuts.now c.loop-gate-test.false)) has)

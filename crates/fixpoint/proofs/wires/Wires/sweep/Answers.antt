@@ -51,9 +51,6 @@ loop-place-preserved c =
 pub returns-clause-swept : goal.returns-clause-swept
 returns-clause-swept c b v states ready = sweeping-end c.args.looped.now c.args.order.now c.args.d.now c.loop-place.d c.args.self.now.before.items c.args.self.now.rails.items c.loop-place.self.rails.items c.loop-place.place c.loop-place-test.false c.loop-place.invariant.swept b v states ready
 
-pub returns-clause-solved : goal.returns-clause-solved
-returns-clause-solved c b v states ready = (c.loop-place.invariant.swept b v states ready).0.solved
-
 pub returns-clause-grows : goal.returns-clause-grows
 returns-clause-grows c b k v ready few =
     within_more (omega (arith, sum_by-take-le (cost c.args.looped.now.net) c.args.order.now c.loop-place.place)) (within_answered (c.loop-place.invariant.grows b k v ready few))
@@ -62,3 +59,6 @@ pub returns-in_err-set_by_diagram-clause-grows : goal.returns-in_err-set_by_diag
 returns-in_err-set_by_diagram-clause-grows c b k v ready few =
     within_more (omega (arith, sum_by_more (cost c.args.looped.now.net) c.args.order.now c.loop-place.place 0 c.loop-place-test.true, sum_by-take-le (cost c.args.looped.now.net) c.args.order.now (c.loop-place.place + 1)))
     (within_refused c.in_err-set_by_diagram.was c.from_residual.ensures.1 (step ((goal.at.returns-in_err-set_by_diagram-clause-grows c).After-set_by_diagram) b k v ready few))
+
+pub returns-clause-solved : goal.returns-clause-solved
+returns-clause-solved c b v states ready = (c.loop-place.invariant.swept b v states ready).0.solved

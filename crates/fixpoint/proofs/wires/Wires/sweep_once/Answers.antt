@@ -1,31 +1,9 @@
-use Rattle.std.proofs.Common.{◌*◌, ◌≤◌, ◌≡◌, ◌∙◌, ◌+◌, ℕ, List, [], ◌∷◌, ◌++◌, length, map, filter, refl, subst, sym, ap, ap₂, arith, true≢false}
-use Rattle.fixpoint.proofs.Common.{length_push, GrowsWithin, NoOtherCause, IsLawful, within_refused, within_answered, IsWide, Rails, block_at, is_cut, loops_by, IsOrderOf, first_gate, AreLocalsOf, Vectors, rails_at, AreWires, IsSweepable, after_sweeps, IsUnderway, IsWorking, order_cost}
+use Rattle.std.proofs.Common.{◌*◌, ◌≤◌, ◌≡◌, ◌∙◌, ◌+◌, ℕ, List, [], ◌∷◌, ◌++◌, length, map, filter, subst, sym, ap, ap₂, arith, true≢false}
+use Rattle.fixpoint.proofs.Common.{GrowsWithin, NoOtherCause, IsLawful, within_refused, within_answered, IsWide, Rails, block_at, is_cut, loops_by, IsOrderOf, first_gate, Vectors, rails_at, AreWires, IsSweepable, after_sweeps, IsUnderway, IsWorking, order_cost}
 use Rattle.fixpoint.specs.Plans.{IsPlanOf}
 use Rattle.fixpoint.proofs.LoopLemmas.{at-rest, underway-next}
-use Rattle.fixpoint.proofs.PlanLemmas.{each-within}
 use Rattle.fixpoint.proofs.wires.Wires.sweep_once.Goals as goal
 use Rattle.fixpoint.proofs.wires.Wires.sweep_once.Goals.{After-sweep, After-are_still, After-keep_cuts}
-
-pub step_of-requires : goal.step_of-requires
-step_of-requires c = each-within c.items-cuts.ensures (sym (ap length c.deref.ensures.value ∙ c.requires.wires.before_width)) c.requires.plan.cuts
-
-pub sweep-requires-clause-order : goal.sweep-requires-clause-order
-sweep-requires-clause-order c = each-within c.items.ensures refl c.requires.plan.order
-
-pub sweep-requires-clause-locals : goal.sweep-requires-clause-locals
-sweep-requires-clause-locals c = subst (λ (ns : List ℕ). AreLocalsOf c.args.looped.now.net ns c.args.plan.now.locals) (sym c.items.ensures) c.requires.plan.locals
-
-pub are_still-requires-clause-cuts : goal.are_still-requires-clause-cuts
-are_still-requires-clause-cuts c = each-within c.items-cuts.ensures (sym c.in_ok-sweep.ensures.wires.before_width) c.requires.plan.cuts
-
-pub are_still-requires-clause-width : goal.are_still-requires-clause-width
-are_still-requires-clause-width c = omega (arith, c.in_ok-sweep.ensures.wires.width, c.in_ok-sweep.ensures.wires.before_width, c.columns-first.ensures.columns, ap first_gate c.net.ensures.net)
-
-pub keep_cuts-requires-clause-cuts : goal.keep_cuts-requires-clause-cuts
-keep_cuts-requires-clause-cuts c = each-within c.items-cuts.ensures (sym c.in_ok-sweep.ensures.wires.before_width) c.requires.plan.cuts
-
-pub keep_cuts-requires-clause-width : goal.keep_cuts-requires-clause-width
-keep_cuts-requires-clause-width c = omega (arith, c.in_ok-sweep.ensures.wires.width, c.in_ok-sweep.ensures.wires.before_width, c.columns-first.ensures.columns, ap first_gate c.net.ensures.net)
 
 -- where the loop is underway, the sweep may read what it reads
 abbrev Underway : (c : After-sweep) → ℕ → Vectors → Type 0
@@ -68,12 +46,6 @@ first-is c = omega (arith, c.columns-first.ensures.columns, ap first_gate c.net.
 -- the sweep leaves what was before it
 same-before : (c : After-are_still) (n : ℕ) → rails_at c.sweep.new.self.before.items n ≡ rails_at c.args.self.now.before.items n
 same-before c n = ap (λ (bs : List Rails). rails_at bs n) c.sweep.ensures.before
-
-pub returns-then-are_still-clause-longer : goal.returns-then-are_still-clause-longer
-returns-then-are_still-clause-longer c = ap length c.in_ok-push.ensures.items ∙ length_push c.args.steps.now.items c.of.result
-
-pub returns-clause-longer : goal.returns-clause-longer
-returns-clause-longer c = ap length c.in_ok-push.ensures.items ∙ length_push c.args.steps.now.items c.of.result
 
 -- the cut wires stand still
 pub returns-then-are_still-clause-swept : goal.returns-then-are_still-clause-swept
