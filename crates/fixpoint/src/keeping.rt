@@ -30,7 +30,6 @@ pub(crate) fn empty_places(
 }
 
 /// Keeps the rails of these gates, each in its place. On `AllocError` some may be kept.
-#[tactic(auto, using(crate::proofs::KeptLemmas::GainsRoots_chain))]
 fn keep_gates(
     d: &mut Diagrams,
     gates: &[u32],
@@ -53,7 +52,6 @@ fn keep_gates(
 }
 
 /// Keeps steps, each in its place. On `AllocError` some may be kept.
-#[tactic(auto, using(crate::proofs::KeptLemmas::GainsRoots_chain))]
 fn keep_steps(
     alloc: Global,
     d: &mut Diagrams,
@@ -88,7 +86,6 @@ fn keep_loop(alloc: Global, d: &mut Diagrams, found: SweptLoop) -> Result<LoopSt
 }
 
 /// Keeps what was found of a block: the rails of its gates, and the steps of its loop.
-#[tactic(auto, using(crate::proofs::KeptLemmas::GainsRoots_chain))]
 pub(crate) fn keep_block(
     alloc: Global,
     d: &mut Diagrams,

@@ -56,7 +56,6 @@ impl KeptRails {
 }
 
 /// Keeps proper rails, each in its place. The nodes and the other roots stay. On `AllocError` some may be kept.
-#[tactic(auto, using(crate::proofs::KeptLemmas::GainsRoots_chain))]
 pub fn keep_rails(
     alloc: Global,
     d: &mut Diagrams,

@@ -15,10 +15,6 @@ least_step-requires-clause-nodes c =
 pub least_step-requires-clause-widths : goal.least_step-requires-clause-widths
 least_step-requires-clause-widths c = rw (steps-are (goal.at.least_step-requires-clause-widths c).After-deref, c.items-2.ensures) (loop-widths c.args.d.now c.args.found.now c.requires.countable.widths)
 
-pub least_step-requires-clause-some : goal.least_step-requires-clause-some
-least_step-requires-clause-some c =
-    omega (arith, ap length (steps-are (goal.at.least_step-requires-clause-some c).After-deref), length-map {B = List Rails} c.args.found.now.steps (map (rails_under c.args.d.now)), c.requires.countable.some)
-
 pub least_step-requires-clause-fits : goal.least_step-requires-clause-fits
 least_step-requires-clause-fits c k least = c.requires.countable.fits k (rw (steps-are (goal.at.least_step-requires-clause-fits c).After-deref) at least)
 

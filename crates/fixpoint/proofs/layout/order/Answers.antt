@@ -1,5 +1,5 @@
 use Rattle.std.proofs.Common.{◌≡◌, ◌∙◌, ◌+◌, ◌++◌, [], ℕ, Bool, List, false, length, drop, take, replicate, sym, ap, ap₂, subst, arith}
-use Rattle.fixpoint.proofs.Common.{range_with_len, append-nil, length-replicate, take_all, IsLayout, Sig, first_gate, columns_read, first_signals, AreTaken}
+use Rattle.fixpoint.proofs.Common.{range_with_len, length-replicate, IsLayout, Sig, first_gate, columns_read, first_signals, AreTaken}
 use Rattle.std.proofs.lemmas.List.{take_at}
 use Rattle.fixpoint.specs.Orders.{order}
 use Rattle.fixpoint.proofs.OrderLemmas.{columns-more, gate-more, order-is, taken-none}
@@ -50,14 +50,4 @@ loop-gate-preserved c =
     record {
       width = ap length back ∙ c.in_ok-take_read.ensures.width ∙ old;
       taken = rw (back, ← more) (c.in_ok-take_read.ensures.taken (columns_read n (take gate net.gates)) (rw value c.loop-gate.invariant.taken));
-    }
-
-pub loop-column-init : goal.loop-column-init
-loop-column-init c =
-    let net = c.args.net.now in
-    let all : take c.loop-gate.gate net.gates ≡ net.gates = take_all c.loop-gate.gate net.gates (omega (arith, c.loop-gate-test.false, c.gates-gate-end.ensures.gates)) in
-    record {
-      width = c.loop-gate.invariant.width;
-      taken = subst (λ (xs : List ℕ). AreTaken xs c.loop-gate.marks.items c.loop-gate.columns.items) (ap (columns_read (first_gate net)) all ∙ sym (append-nil (columns_read (first_gate net) net.gates)))
-          c.loop-gate.invariant.taken;
     }

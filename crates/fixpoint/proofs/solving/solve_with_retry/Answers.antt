@@ -6,9 +6,6 @@ use Rattle.fixpoint.proofs.KeptLemmas.{RootsStay-chain, All-kept-stay, values-st
 use Rattle.fixpoint.proofs.KeepingLemmas.{kept-stay, places-kept, solved-swept}
 use Rattle.fixpoint.proofs.solving.solve_with_retry.Goals as goal
 
-pub sweep_store-requires-clause-given : goal.sweep_store-requires-clause-given
-sweep_store-requires-clause-given c = All-kept-stay c.solve_and_keep.ensures.roots c.args.given.now c.requires.solved.given_are.keys
-
 pub sweep_store-requires-clause-places : goal.sweep_store-requires-clause-places
 sweep_store-requires-clause-places c =
     rw (c.in-Err-Full.ensures.places (ap Err c.in-Err-Full.field-0-is)) (places-kept (kept-stay c.solve_and_keep.ensures.roots c.requires.solved.given_are c.requires.solved.kept))
@@ -47,3 +44,6 @@ returns-in_err-sweep_store-in-Err-Full-clause-roots c = RootsStay-chain c.solve_
 pub returns-in_ok-sweep_store-in-Err-Full-clause-roots : goal.returns-in_ok-sweep_store-in-Err-Full-clause-roots
 returns-in_ok-sweep_store-in-Err-Full-clause-roots c =
     RootsStay-chain (RootsStay-chain c.solve_and_keep.ensures.roots c.sweep_store.ensures.roots) c.solve_and_keep-in-Err-Full.ensures.roots
+
+pub sweep_store-requires-clause-given : goal.sweep_store-requires-clause-given
+sweep_store-requires-clause-given c = All-kept-stay c.solve_and_keep.ensures.roots c.args.given.now c.requires.solved.given_are.keys
