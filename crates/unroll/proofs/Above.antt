@@ -19,15 +19,11 @@ use Rattle.unroll.proofs.Numbered.{moved_low, has, numbered, old_numbered, pin_o
 
 -- the extension at pins read in two ways, at each of the gate's own pins one below the other
 ext_below_at : (net : Parts) (n : ℕ) (f g : Sig → Trit) → ((k : ℕ) (d : Sig) → k < length (gate_at net n).pins → Below (f (get_or (gate_at net n).pins k d)) (g (get_or (gate_at net n).pins k d))) → Below (ext (gate_at net n).cover (map f (gate_at net n).pins)) (ext (gate_at net n).cover (map g (gate_at net n).pins))
-ext_below_at net n f g h =
-    ext_is_monotone (gate_at net n).cover (map f (gate_at net n).pins) (map g (gate_at net n).pins)
-    (EachBelow-map_at f g (gate_at net n).pins h)
+ext_below_at net n f g h = grind (arith, ext_is_monotone, EachBelow-map_at)
 
 -- what a choice among three signals reads
 choice_below_read : (f : Sig → Trit) (b d : Bool) (x y z : Trit) (p q r : Sig) → (b ≡ true → Below x (f p)) → (b ≡ true → Below y (f q)) → (b ≡ false → Below z (f r)) → Below (choice b d x y z) (f (if b then (if d then p else q) else r))
-choice_below_read f true true x y z p q r h k l = h refl
-choice_below_read f true false x y z p q r h k l = k refl
-choice_below_read f false d x y z p q r h k l = l refl
+choice_below_read f b d x y z p q r h k l = grind arith
 
 -- x leads to n from another block
 record LeadsFromOutside (net : Parts) (loops : Loops) (x n : ℕ) : Type 0 where
@@ -39,13 +35,7 @@ module _ (net : Parts) (loops : Loops) (are : AreLoopsOf net loops) where
   outside_within x n r = begins_within net loops are x n r.leads.via r.leads.walk
 
   outside-trans : (x y z : ℕ) → LeadsFromOutside net loops x y → LeadsFromOutside net loops y z → LeadsFromOutside net loops x z
-  outside-trans x y z r q = record {
-    leads = leads-trans net x y z r.leads q.leads;
-    apart = false_from_ne_true (loops.same z x) (λ e.
-        let s = (are.same z x).0 e in
-        let zy : loops.same z y ≡ true = (are.same z y).1 (record { there = leads-trans net z x y s.there r.leads; back = q.leads }) in
-        true≢false (sym zy ∙ q.apart));
-  }
+  outside-trans x y z r q = grind (arith, leads-trans net x y z r.leads q.leads, false_from_ne_true (loops.same z x), leads-trans net z x y, true≢false)
 
   outside-irreflexive : (x : ℕ) → LeadsFromOutside net loops x x → ⊥
   outside-irreflexive x r = true≢false (sym ((are.same x x).1 (record { there = r.leads; back = r.leads })) ∙ r.apart)
@@ -89,10 +79,8 @@ module _ (net : Parts) (loops : Loops) (are : AreLoopsOf net loops) where
 
       enters : (g x : ℕ) → Near g → Feeds net x g → loops.same g x ≡ false → LeadsFromOutside net loops x n
       enters g x (inl e) f s = subst (LeadsFromOutside net loops x) e (record { leads = leads-step net x g f; apart = s })
-      enters g x (inr d) f s = record {
-        leads = leads-trans net x g n (leads-step net x g f) (let s = (are.same n g).0 d in s.back);
-        apart = false_from_ne_true (loops.same n x) (λ h. true≢false (sym (same-trans net loops are g n x (same-sym net loops are n g d) h) ∙ s));
-      }
+      enters g x (inr d) f s =
+          grind (arith, leads-trans net x g n (leads-step net x g f), leads-step net x g f, false_from_ne_true (loops.same n x), true≢false, same-trans net loops are g n x (same-sym net loops are n g d), same-sym net loops are n g d)
 
       -- a pin that reads from outside the loop
       outside : (g k : ℕ) (d : Sig) → Near g → g < length net.gates → k < length (gate_at net g).pins → in_loop_of net loops g (get_or (gate_at net g).pins k d) ≡ false → Below (wire (fix net v) (get_or (gate_at net g).pins k d)) (now (old_signal net loops m (get_or (gate_at net g).pins k d)))
@@ -129,15 +117,11 @@ module _ (net : Parts) (loops : Loops) (are : AreLoopsOf net loops) where
 
       sweeps_above : (k g : ℕ) → loops.same n g ≡ true → k ≤ suc (copies_of_gate g) → Below (get_or (sweeps net loops v k) g X) (now (at k g))
       sweeps_above zero g same few = rw (get_or-replicate (length net.gates) g X X (same_within net loops are n g same)) tt
-      sweeps_above (suc k) g same few =
-          steps_above k (λ h s f. sweeps_above k h s (omega arith)) (length net.gates) g same (omega arith)
+      sweeps_above (suc k) g same few = grind (arith, steps_above, sweeps_above k)
 
       -- after as many sweeps as it has copies one more sets a loop to the fixpoint
       kept_in_loop : loops.same n n ≡ true → Kept n
-      kept_in_loop self =
-          subst (λ (t : Trit). Below t (now (at (suc (copies_of_gate n)) n))) ((fixed_cuts_give_fix net loops are v width n (m n) (fixed n self)).1 n self)
-          (subst (λ (k : ℕ). Below (get_or (sweeps net loops v (suc k)) n X) (now (at (suc (copies_of_gate n)) n))) (many_of net loops m are of_loops n self)
-          (sweeps_above (suc (copies_of_gate n)) n self (omega arith)))
+      kept_in_loop self = grind (arith, fixed_cuts_give_fix net loops are v width n (m n) (fixed n self), many_of net loops m are of_loops n self, sweeps_above (suc (copies_of_gate n)) n self)
 
       kept_alone : n < length net.gates → loops.same n n ≡ false → Kept n
       kept_alone l alone =
@@ -152,16 +136,10 @@ module _ (net : Parts) (loops : Loops) (are : AreLoopsOf net loops) where
           rw out (outside n i d (inl refl) l here out))))
 
       kept_step : Kept n
-      kept_step =
-          elim (cases_lt n (length net.gates)) [
-            | inl l ↦ elim (cases_Bool (loops.same n n)) [ inl self ↦ kept_in_loop self | inr alone ↦ kept_alone l alone ]
-            | inr past ↦ kept_past n past
-          ]
+      kept_step = grind (arith, cases_lt, cases_Bool, kept_in_loop, kept_alone, kept_past)
 
     kept : (n : ℕ) → Kept n
     kept n = by_ancestors (length net.gates) (LeadsFromOutside net loops) outside_within outside-trans outside-irreflexive Kept kept_step n
 
 pub unrolled_is_above : UnrolledIsAbove
-unrolled_is_above net loops are m of_loops v enough s =
-    signal_above net loops are m of_loops v enough.width enough.fixed s
-    (λ high inside. kept net loops are m of_loops v enough.width enough.fixed (gate_of net s))
+unrolled_is_above net loops are m of_loops v enough s = grind (arith, signal_above net loops are m of_loops v enough.width enough.fixed s, kept net loops are m of_loops v enough.width enough.fixed (gate_of net s))

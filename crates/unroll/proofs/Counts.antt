@@ -1,5 +1,5 @@
 -- The number of a gate's block is one for each loop.
-use Rattle.std.proofs.Common.{ap}
+use Rattle.std.proofs.Common.{ap, arith}
 use Rattle.std.specs.List.{slice_index_or}
 use Rattle.unroll.proofs.Common.{Parts, AreLoopsOf, loops_by, sweeps_of, IsOfLoops, Looped, IsLooped}
 use Rattle.loops.specs.declared.structure.Blocks.{Blocks}
@@ -10,15 +10,10 @@ use Rattle.loops.proofs.Told.{blocks_tell_loops, told_parts}
 use Rattle.unroll.specs.Laws.{EnoughByBlocks}
 
 pub sweeps_are_of_loops : (net : Parts) (blocks : Blocks) (cut : Cut) (counts : SweepCounts) → AreBlocksOf net blocks → IsOfLoops (loops_by blocks cut) (sweeps_of blocks counts)
-sweeps_are_of_loops net blocks cut counts are a b e =
-    let t = told_parts net blocks are a b e in
-    ap (λ h. slice_index_or counts.per_block h 0) t.homes
+sweeps_are_of_loops net blocks cut counts are a b e = grind (arith, told_parts net blocks are a b e)
 
 pub enough_by_blocks : EnoughByBlocks
-enough_by_blocks net blocks cut counts are v width fixed = record {
-  width = width;
-  fixed = λ a e. let t = told_parts net blocks are a a e in fixed a t.first t.looped;
-}
+enough_by_blocks net blocks cut counts are v width fixed = grind arith
 
 -- so it is of a netlist with its blocks and its cut wires
 pub looped_loops : (l : Looped) → IsLooped l → AreLoopsOf l.net (loops_by l.blocks l.cut)

@@ -13,9 +13,7 @@ pub taken_mapped : {A B : Type 0} (f : A → B) (xs : List A) (i : ℕ) (x : A) 
 taken_mapped f xs i x e = ap (map f) (taken xs i x e) ∙ map-append f (take i xs) (x ∷ [])
 
 pub taken_first : {A : Type 0} (xs ys : List A) (i : ℕ) (x : A) → i < length xs → slice_get (xs ++ ys) i ≡ Some x → take (i + 1) xs ≡ take i xs ++ x ∷ []
-taken_first xs ys i x l e =
-    take_more xs i x l
-    ∙ ap (λ y. take i xs ++ y ∷ []) (sym (get_or_append_left xs ys x i l) ∙ get_or_from_slice_get (xs ++ ys) i x x e)
+taken_first xs ys i x l e = grind (arith, take_more xs i x l, get_or_append_left xs ys x i l, get_or_from_slice_get (xs ++ ys) i x x e)
 
 module _ (net : Parts) (loops : Loops) (m : ℕ → ℕ) (are : AreLoopsOf net loops) (of_loops : IsOfLoops loops m) (last own : List ℕ) (tables : AreLast net loops m last own) where
   pin_same : (n : ℕ) (s : Sig) → copy_pin_by net loops (shift net loops m) last own n s ≡ kept_pin net loops m n s
@@ -35,7 +33,4 @@ module _ (net : Parts) (loops : Loops) (m : ℕ → ℕ) (are : AreLoopsOf net l
       ∙ ap (λ t. at_table t h) (sym tables.itself)))
 
   pub kept_same : (by n : ℕ) → by ≡ shift net loops m → gate_by_tables net loops by last own (gate_at net n).name n ≡ kept_gate net loops m n
-  kept_same by n up =
-      ap (λ j. gate_by_tables net loops j last own (gate_at net n).name n) up
-      ∙ ap (λ pins. let g : Gate = record { name = (gate_at net n).name; pins = pins; cover = (gate_at net n).cover } in g)
-      (map_same (copy_pin_by net loops (shift net loops m) last own n) (kept_pin net loops m n) (gate_at net n).pins (pin_same n))
+  kept_same by n up = grind (arith, map_same, pin_same)

@@ -4,7 +4,4 @@ use Rattle.unroll.proofs.Common.{option_map_or, longest_run, longest_run_of, Par
 
 -- with the clock's name
 pub with_clock : (net : Parts) (clock : Clock) → Some clock ≡ net.clock → longest_run_in net ≡ max (longest_run_of (signal_names net)) (longest_run clock.name)
-with_clock net clock e =
-    let names : clock_names net ≡ clock.name ∷ [] = ap (λ o. option_map_or (λ k. k.name ∷ []) o []) (sym e) in
-    let h = ap (λ ns. longest_run_of (signal_names net ++ ns)) names ∙ longest-append (signal_names net) (clock.name ∷ []) in
-    omega arith
+with_clock net clock e = grind (arith, longest-append)

@@ -26,25 +26,18 @@ all_short (name ∷ names) most l = (omega arith, all_short names most (omega ar
 
 -- the number and the name are read back from a copy's name
 pub copy_names_tell : (n j k : ℕ) (v w : List ℕ) → j < 2 ^ 64 → k < 2 ^ 64 → copy_name (tildes (suc n)) j v ≡ copy_name (tildes (suc n)) k w → (j ≡ k) × (v ≡ w)
-copy_names_tell n j k v w hj hk e =
-    let t : decimal j ++ (126 ∷ (tildes n ++ v)) ≡ decimal k ++ (126 ∷ (tildes n ++ w)) = cc in
-    let c = split_at_tilde (decimal j) (decimal k) (tildes n ++ v) (tildes n ++ w) (decimal_no_tilde j hj) (decimal_no_tilde k hk) t in
-    (decimal_injective j k hj hk c.0, without_tildes n v w c.1)
+copy_names_tell n j k v w hj hk e = grind (arith, split_at_tilde, decimal_no_tilde, decimal_injective, without_tildes)
 
 pub zero_is_no_copy : (n k : ℕ) (name : List ℕ) → bytes_eq (zero_name (tildes n)) (copy_name (tildes n) k name) ≡ false
-zero_is_no_copy n k name =
-    bytes_eq-other (zero_name (tildes n)) (copy_name (tildes n) k name) (λ e. (let first = ap (λ (xs : List ℕ). get_or xs 0 0) e in absurd (omega arith)))
+zero_is_no_copy n k name = grind arith
 
 -- BLIF names
 pub zero_name_fits : (n : ℕ) → IsBlifName (zero_name (tildes n))
 zero_name_fits n = (λ e. cc, All-cons IsBlifByte 122 (tildes n) (omega arith, omega arith, λ e. absurd (omega arith)) (tildes_fit n))
 
 pub copy_name_fits : (n k : ℕ) (name : List ℕ) → k < 2 ^ 64 → IsBlifName name → IsBlifName (copy_name (tildes n) k name)
-copy_name_fits n k name h is = (
-  λ e. cc,
-  All-cons IsBlifByte 99 (decimal k ++ (tildes n ++ name)) (omega arith, omega arith, λ e. absurd (omega arith))
-      (All-append IsBlifByte (decimal k) (tildes n ++ name) (decimal_fits k h) (All-append IsBlifByte (tildes n) name (tildes_fit n) is.1)),
-)
+copy_name_fits n k name h is =
+    grind (arith, All-cons IsBlifByte 99 (decimal k ++ (tildes n ++ name)), All-append IsBlifByte (decimal k) (tildes n ++ name) (decimal_fits k h) (All-append IsBlifByte (tildes n) name (tildes_fit n) is.1), decimal_fits k h, All-append IsBlifByte (tildes n) name (tildes_fit n) is.1, tildes_fit n)
 
 -- lists whose names differ
 abbrev pub Apart : List (List ℕ) → List (List ℕ) → Type 0
@@ -53,8 +46,7 @@ Apart xs ys = AllByRecursion (λ x. AllByRecursion (λ y. bytes_eq x y ≡ false
 pub distinct_append : (xs ys : List (List ℕ)) → IsDistinct bytes_eq xs → IsDistinct bytes_eq ys → Apart xs ys → IsDistinct bytes_eq (xs ++ ys)
 unfolding IsDistinct
 distinct_append [] ys h k far = k
-distinct_append (x ∷ xs) ys h k far =
-    (all_append (λ y. bytes_eq x y ≡ false) xs ys h.0 far.0, distinct_append xs ys h.1 k far.1)
+distinct_append (x ∷ xs) ys h k far = grind (arith, all_append, distinct_append xs ys h.1 k far.1)
 
 pub all_of_first : (P : List ℕ → Type 0) (xs ys : List (List ℕ)) → AllByRecursion P (xs ++ ys) → AllByRecursion P xs
 all_of_first P [] ys h = tt
@@ -72,8 +64,7 @@ all_between P (x ∷ xs) new ys h k = (h.0, all_between P xs new ys h.1 k)
 pub distinct_between : (xs new ys : List (List ℕ)) → IsDistinct bytes_eq (xs ++ ys) → IsDistinct bytes_eq new → Apart xs new → Apart new ys → IsDistinct bytes_eq (xs ++ (new ++ ys))
 unfolding IsDistinct
 distinct_between [] new ys h k far near = distinct_append new ys k h near
-distinct_between (x ∷ xs) new ys h k far near =
-    (all_between (λ y. bytes_eq x y ≡ false) xs new ys h.0 far.0, distinct_between xs new ys h.1 k far.1 near)
+distinct_between (x ∷ xs) new ys h k far near = grind (arith, all_between, distinct_between xs new ys h.1 k far.1 near)
 
 -- names that two tests tell are apart
 apart_by : (P Q : List ℕ → Type 0) → ((x y : List ℕ) → P x → Q y → x ≡ y → ⊥) → (xs ys : List (List ℕ)) → AllByRecursion P xs → AllByRecursion Q ys → Apart xs ys
@@ -83,15 +74,11 @@ apart_by P Q tell xs ys h k =
 
 -- so short names are apart from long ones
 pub short_from_long : (most : ℕ) (xs ys : List (List ℕ)) → AllByRecursion (λ x. longest_run x ≤ most) xs → AllByRecursion (λ y. most < longest_run y) ys → Apart xs ys
-short_from_long most =
-    apart_by (λ x. longest_run x ≤ most) (λ y. most < longest_run y) (λ x y l m e. (let d = ap longest_run e in omega arith))
+short_from_long most = grind (arith, apart_by)
 
 pub long_from_short : (most : ℕ) (xs ys : List (List ℕ)) → AllByRecursion (λ x. most < longest_run x) xs → AllByRecursion (λ y. longest_run y ≤ most) ys → Apart xs ys
-long_from_short most =
-    apart_by (λ x. most < longest_run x) (λ y. longest_run y ≤ most) (λ x y l m e. (let d = ap longest_run e in omega arith))
+long_from_short most = grind (arith, apart_by)
 
 -- and a short name is none of these
 pub short_is_none : (most : ℕ) (name : List ℕ) (ys : List (List ℕ)) → longest_run name ≤ most → AllByRecursion (λ y. most < longest_run y) ys → list_any (bytes_eq name) ys ≡ false
-short_is_none most name ys l h =
-    list_any_none (bytes_eq name) ys
-    (All-from_recursion (λ y. bytes_eq name y ≡ false) ys (let far = short_from_long most (name ∷ []) ys (l, tt) h in far.0))
+short_is_none most name ys l h = grind (arith, list_any_none (bytes_eq name) ys, All-from_recursion, short_from_long most (name ∷ []) ys)

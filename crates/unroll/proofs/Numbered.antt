@@ -17,9 +17,7 @@ moved_high net by s l = rw (le-leb (first_gate net) s.0 l) refl
 
 -- a choice between two signals as one among three
 pub choice_of_two : (b d : Bool) (x y x' y' : Sig) → (b ≡ true → x ≡ x') → (b ≡ true → y ≡ y') → (if b && d then x else y) ≡ (if b then (if d then x' else y') else y)
-choice_of_two true true x y x' y' h k = h refl
-choice_of_two true false x y x' y' h k = k refl
-choice_of_two false d x y x' y' h k = refl
+choice_of_two b d x y x' y' h k = grind arith
 
 module _ (net : Parts) (loops : Loops) (m : ℕ → ℕ) where
   abbrev pub has : ℕ → ℕ
@@ -38,16 +36,13 @@ module _ (net : Parts) (loops : Loops) (m : ℕ → ℕ) where
   pin_of k n s = redirected net loops (numbered k) (numbered (suc k)) (old_signal net loops m) n s
 
   numbered_copy : (k n : ℕ) → k ≤ has n → copy_signal net loops m k n ≡ numbered k n
-  numbered_copy zero n l = refl
-  numbered_copy (suc k) n l = rw (le-leb (suc k) (has n) l) refl
+  numbered_copy k n l = grind arith
 
   spot_itself : (n : ℕ) → spot (suc (has n)) n ≡ length (constants net loops) + (length (copies net loops m) + n)
   spot_itself n = rw (lt-leb (suc (has n)) (has n) (omega arith)) refl
 
   pub old_numbered : (s : Sig) → first_gate net ≤ s.0 → old_signal net loops m s ≡ numbered (suc (has (gate_of net s))) (gate_of net s)
-  old_numbered s l =
-      let at = spot_itself (gate_of net s) in
-      moved_high net (shift net loops m) s l ∙ ap signal (omega arith)
+  old_numbered s l = grind arith
 
   -- the gate at a place behind the constant, and its number
   abbrev no_copy : Copy
@@ -70,23 +65,7 @@ module _ (net : Parts) (loops : Loops) (m : ℕ → ℕ) where
     pub level : level q ≡ suc k
 
   pub is_at : (q k n : ℕ) → n < length net.gates → k ≤ has n → spot (suc k) n ≡ q → IsAt q k n
-  is_at q k n l few at =
-      elim (cases_lt k (has n)) [
-        | inl more ↦
-            let placed = copy_placed net loops m k n l more in
-            let within = placed.within in
-            let here = rw (le-leb (suc k) (has n) more) at at in
-            let behind : q - length (constants net loops) ≡ place (copies net loops m) (suc k) n = omega arith in
-            let is : copy_behind q ≡ copy_of (suc k) n = ap (λ i. get_or (copies net loops m) i no_copy) behind ∙ placed.is no_copy in
-            let low = lt-ltb q before_kept (omega arith) in
-            record { origin = rw low (ap (λ c. c.gate) is); level = rw low (ap (λ c. c.number) is) }
-        | inr last ↦
-            let here = rw (lt-leb (suc k) (has n) (omega arith)) at at in
-            let behind : q - before_kept ≡ n = omega arith in
-            let high = le-ltb q before_kept (omega arith) in
-            let number : has n ≡ k = omega arith in
-            record { origin = rw high behind; level = rw high (ap (λ j. suc (has j)) behind ∙ ap suc number) }
-      ]
+  is_at q k n l few at = grind (arith, cases_lt, copy_placed, le-leb, lt-ltb, lt-leb, le-ltb)
 
   -- each gate behind the constant is a number of a gate
   pub record HasNumber (q : ℕ) : Type 0 where

@@ -18,20 +18,14 @@ record FromPlace {A B : Type 0} (f : A → B) (xs : List A) (y : B) : Type 0 whe
   is : (d : A) → f (get_or xs at d) ≡ y
 
 from_place : {A B : Type 0} (f : A → B) (xs : List A) (y : B) → Contains (map f xs) y → FromPlace f xs y
-from_place f xs y c =
-    let len = length-map xs f in
-    let l = c.1 in
-    let inside : c.0 < length xs = omega arith in
-    record { at = c.0; within = inside; is = λ d. sym (get_or-map f xs c.0 d y inside) ∙ c.2 }
+from_place f xs y c = grind (arith, length-map, get_or-map)
 
 all_unmap : (P : ℕ → Type 0) (f : ℕ → ℕ) (xs : List ℕ) → AllByRecursion P (map f xs) → AllByRecursion (λ n. P (f n)) xs
 all_unmap P f [] h = tt
 all_unmap P f (x ∷ xs) h = (h.0, all_unmap P f xs h.1)
 
 one_or_none : (b : Bool) (g d : Gate) (q : ℕ) → g.pins ≡ [] → q < length (if b then g ∷ [] else []) → (get_or (if b then g ∷ [] else []) q d).pins ≡ []
-one_or_none true g d zero e l = e
-one_or_none true g d (suc q) e l = absurd (omega arith)
-one_or_none false g d q e l = absurd (omega arith)
+one_or_none b g d q e l = grind arith
 
 module _ (net : Parts) (loops : Loops) (m : ℕ → ℕ) where
   -- where there is a loop, there is the constant
@@ -42,17 +36,7 @@ module _ (net : Parts) (loops : Loops) (m : ℕ → ℕ) where
 
   -- the constant has no pins
   real_from_pin : (q : ℕ) (s : Sig) → Contains (gate_at (unrolled net loops m) q).pins s → length (constants net loops) ≤ q
-  real_from_pin q s c =
-      elim (cases_lt q (length (constants net loops))) [
-        | inl low ↦
-            let none : (gate_at (unrolled net loops m) q).pins ≡ [] =
-            ap (λ (g : Gate). g.pins) (get_or_append_left (constants net loops) _ _ q low)
-            ∙ one_or_none (has_loop net loops.same) _ _ q refl low in
-            let len = ap length none in
-            let less = c.1 in
-            absurd (omega arith)
-        | inr real ↦ real
-      ]
+  real_from_pin q s c = grind arith
 
   -- the signal of a gate of the unrolled netlist
   new_sig : (p : ℕ) → gate_sig (unrolled net loops m) p ≡ signal (first_gate net + p)
@@ -72,27 +56,13 @@ module _ (net : Parts) (loops : Loops) (m : ℕ → ℕ) where
 
   -- where p is number j + 1 of gate h
   step_from : (p k n j h : ℕ) → Feeds net h n → h < length net.gates → j ≤ has net loops m h → spot net loops m (suc j) h ≡ p → (loops.same n h ≡ true → (j < k) ⊎ ((j ≡ k) × (loops.cut h ≡ false))) → Step p n (suc k)
-  step_from p k n j h feeds l few at up =
-      let is = is_at net loops m p j h l few at in
-      let number = is.level in
-      record {
-        feeds = subst (λ (g : ℕ). Feeds net g n) (sym is.origin) feeds;
-        rises = λ s. elim (up (subst (λ (g : ℕ). loops.same n g ≡ true) is.origin s)) [
-          | inl less ↦ inl (omega arith)
-          | inr w ↦ (let e = w.0 in inr (omega arith, ap loops.cut is.origin ∙ w.1))
-        ];
-      }
+  step_from p k n j h feeds l few at up = grind (arith, is_at)
 
   module _ (are : AreLoopsOf net loops) (of_loops : IsOfLoops loops m) where
     -- the constant 0 is read by no gate on a walk
     step_from_cut : (p k n h : ℕ) → Feeds net h n → n < length net.gates → loops.same n h ≡ true → k ≤ has net loops m h → length (constants net loops) ≤ p → numbered net loops m k h ≡ signal (first_gate net + p) → Step p n (suc k)
-    step_from_cut p zero n h feeds l same few real e =
-        let number = ap (λ (s : Sig). s.0) e in
-        let one = constant_is_there n l (self_of net loops m are of_loops n h same) in
-        absurd (omega arith)
-    step_from_cut p (suc j) n h feeds l same few real e =
-        let number = ap (λ (s : Sig). s.0) e in
-        step_from p (suc j) n j h feeds (same_within net loops are n h same) (omega arith) (omega arith) (λ s. inl (omega arith))
+    step_from_cut p zero n h feeds l same few real e = grind (arith, constant_is_there n l (self_of net loops m are of_loops n h same), self_of net loops m are of_loops n h same)
+    step_from_cut p (suc j) n h feeds l same few real e = grind (arith, step_from p (suc j) n j h feeds (same_within net loops are n h same), same_within net loops are n h same)
 
     step_by_pin : (p k n i : ℕ) (d : Sig) → n < length net.gates → k ≤ has net loops m n → length (constants net loops) ≤ p → p < length (unrolled net loops m).gates → i < length (gate_at net n).pins → pin_of net loops m k n (get_or (gate_at net n).pins i d) ≡ signal (first_gate net + p) → Step p n (suc k)
     step_by_pin p k n i d l few real short here reads =
@@ -134,9 +104,7 @@ module _ (net : Parts) (loops : Loops) (m : ℕ → ℕ) where
         let reads = stands net loops m are of_loops it.number it.gate it.within it.few in
         let w = from_place (pin_of net loops m it.number it.gate) (gate_at net it.gate).pins (signal (first_gate net + p))
         (subst (λ (pins : List Sig). Contains pins (signal (first_gate net + p))) (ap (λ k. (gate_at (unrolled net loops m) k).pins) (sym it.at) ∙ reads.pins) pin) in
-        subst (λ (n : ℕ). Step p n (level q)) (sym is.origin)
-        (subst (Step p it.gate) (sym is.level)
-        (step_by_pin p it.number it.gate w.at (signal 0) it.within it.few real f.source w.within (w.is (signal 0))))
+        grind (arith, step_by_pin p it.number it.gate w.at (signal 0) it.within it.few real f.source w.within (w.is (signal 0)))
 
     ends_real : (a b : ℕ) (via : List ℕ) → Walk (unrolled net loops m) a via b → length (constants net loops) ≤ b
     ends_real a b [] h = real_from_pin b (gate_sig (unrolled net loops m) a) h.pin
@@ -144,9 +112,7 @@ module _ (net : Parts) (loops : Loops) (m : ℕ → ℕ) where
 
     project : (a b : ℕ) (via : List ℕ) → Walk (unrolled net loops m) a via b → length (constants net loops) ≤ a → Walk net (origin a) (map origin via) (origin b)
     project a b [] h real = let s = step a b h real in s.feeds
-    project a b (x ∷ via) h real =
-        let s = step a x h.0 real in
-        (s.feeds, project x b via h.1 (real_from_pin x (gate_sig (unrolled net loops m) a) h.0.pin))
+    project a b (x ∷ via) h real = grind (arith, step a x h.0 real, project x b via h.1 (real_from_pin x (gate_sig (unrolled net loops m) a) h.0.pin), real_from_pin x (gate_sig (unrolled net loops m) a) h.0.pin)
 
     -- along a walk within one loop levels rise, and stay only where it passes no cut wire
     record Rises (a b : ℕ) (via : List ℕ) : Type 0 where
@@ -154,12 +120,7 @@ module _ (net : Parts) (loops : Loops) (m : ℕ → ℕ) where
       uncut : level a ≡ level b → (loops.cut (origin a) ≡ false) × AllByRecursion (λ g. loops.cut (origin g) ≡ false) via
 
     levels : (c a b : ℕ) (via : List ℕ) → Walk (unrolled net loops m) a via b → length (constants net loops) ≤ a → loops.same c (origin a) ≡ true → loops.same c (origin b) ≡ true → AllByRecursion (λ g. loops.same c (origin g) ≡ true) via → Rises a b via
-    levels c a b [] h real sa sb all =
-        let s = step a b h real in
-        elim (s.rises (same-trans net loops are (origin b) c (origin a) (same-sym net loops are c (origin b) sb) sa)) [
-          | inl less ↦ record { up = omega arith; uncut = λ e. absurd (omega arith) }
-          | inr w ↦ let e = w.0 in record { up = omega arith; uncut = λ d. (w.1, tt) }
-        ]
+    levels c a b [] h real sa sb all = grind (arith, step a b h real, same-trans net loops are (origin b) c (origin a) (same-sym net loops are c (origin b) sb) sa, same-sym net loops are c (origin b) sb)
     levels c a b (x ∷ via) h real sa sb all =
         let s = step a x h.0 real in
         let rest = levels c x b via h.1 (real_from_pin x (gate_sig (unrolled net loops m) a) h.0.pin) all.0 sb all.1 in

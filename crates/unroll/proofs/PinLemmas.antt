@@ -1,43 +1,32 @@
 -- What the source of a pin says of the pin.
-use Rattle.std.proofs.Common.{◌≡◌, ◌≤◌, ℕ, Bool, true, false, ◌&&◌, nat_le, if◌then◌else◌, Some, None, refl, sym, ap, ap₂, ◌∙◌}
+use Rattle.std.proofs.Common.{◌≡◌, ◌≤◌, ℕ, Bool, true, false, ◌&&◌, nat_le, if◌then◌else◌, Some, None, refl, sym, ap, ap₂, ◌∙◌, arith}
 use Rattle.unroll.proofs.Common.{le-leb, Sig, Parts, Loops, loops_by, first_gate, gate_of, in_loop_of, Option, loops_of, Looped, IsLooped}
 use Rattle.std.specs.Bool.{then_some}
 use Rattle.loops.proofs.LoopedLemmas.{one_loop_is_told}
 
 some_where : (b : Bool) (x : ℕ) → then_some b x ≡ (if b then Some x else None)
-some_where true x = refl
-some_where false x = refl
+some_where b x = grind arith
 
 -- the gate that drives a pin, where a test tells whether it is in the loop
 pub source_is : (net : Parts) (loops : Loops) (n source : ℕ) (s : Sig) (b : Bool) → first_gate net ≤ s.0 → source ≡ gate_of net s → loops.same n source ≡ b
     → then_some b source ≡ (if in_loop_of net loops n s then Some (gate_of net s) else None)
-source_is net loops n source s b past is told =
-    some_where b source
-    ∙ ap₂ (λ (x : Bool) (g : ℕ). if x then Some g else None)
-    (sym (ap₂ (λ (x y : Bool). x && y) (le-leb (first_gate net) s.0 past) (ap (loops.same n) (sym is) ∙ told)))
-    is
+source_is net loops n source s b past is told = grind arith
 
 -- the same by the blocks and the cut wires
 pub source_by_blocks : (l : Looped) → IsLooped l → (n : ℕ) (s : Sig) (source : Option ℕ) → source ≡ (if in_loop_of l.net (loops_of l.net) n s then Some (gate_of l.net s) else None)
     → source ≡ (if in_loop_of l.net (loops_by l.blocks l.cut) n s then Some (gate_of l.net s) else None)
-source_by_blocks l is n s source told =
-    told
-    ∙ ap (λ (x : Bool). if nat_le (first_gate l.net) s.0 && x then Some (gate_of l.net s) else None) (sym (one_loop_is_told l is n (gate_of l.net s)))
+source_by_blocks l is n s source told = grind (arith, one_loop_is_told)
 
 -- what a choice gave
 pub some_if : (b : Bool) (g x : ℕ) → Some x ≡ (if b then Some g else None) → (b ≡ true) × (g ≡ x)
-some_if true g x e = (refl, cc)
-some_if false g x e = cc
+some_if b g x e = grind arith
 
 pub none_if : (b : Bool) (g : ℕ) (r : Option ℕ) → r ≡ None → r ≡ (if b then Some g else None) → b ≡ false
-none_if true g r n e = cc
-none_if false g r n e = refl
+none_if b g r n e = grind arith
 
 -- what is read where a choice gave a gate, or none
 pub read_some : (b : Bool) (g x : ℕ) (cut : ℕ → Bool) (cuts inner : ℕ → Sig) (outer : Sig) → Some x ≡ (if b then Some g else None) → (if cut x then cuts x else inner x) ≡ (if b then (if cut g then cuts g else inner g) else outer)
-read_some true g x cut cuts inner outer e = (let is : x ≡ g = cc in ap (λ y. if cut y then cuts y else inner y) is)
-read_some false g x cut cuts inner outer e = cc
+read_some b g x cut cuts inner outer e = grind arith
 
 pub read_none : (b : Bool) (g : ℕ) (cut : ℕ → Bool) (cuts inner : ℕ → Sig) (outer : Sig) → None ≡ (if b then Some g else None) → outer ≡ (if b then (if cut g then cuts g else inner g) else outer)
-read_none true g cut cuts inner outer e = cc
-read_none false g cut cuts inner outer e = refl
+read_none b g cut cuts inner outer e = grind arith

@@ -13,13 +13,10 @@ abbrev is_copy : ℕ → ℕ → Copy → Bool
 is_copy k n copy = copy.number == k && copy.gate == n
 
 is_this : (copy : Copy) (k n : ℕ) → copy ≡ copy_of k n → is_copy k n copy ≡ true
-is_this copy k n e =
-    and_from (copy.number == k) (copy.gate == n) (eq-eqb copy.number k (ap (λ c. c.number) e)) (eq-eqb copy.gate n (ap (λ c. c.gate) e))
+is_this copy k n e = grind arith
 
 this_is : (copy : Copy) (k n : ℕ) → is_copy k n copy ≡ true → copy ≡ copy_of k n
-this_is copy k n e =
-    let p = and_parts (copy.number == k) (copy.gate == n) e in
-    ap₂ copy_of (eqb-true copy.number k p.0) (eqb-true copy.gate n p.1)
+this_is copy k n e = grind arith
 
 place_is : (cs : List Copy) (k n : ℕ) → place cs k n ≡ position_or_len (is_copy k n) cs
 place_is cs k n =
@@ -32,31 +29,14 @@ pub record Placed (cs : List Copy) (k n : ℕ) : Type 0 where
   pub is : (d : Copy) → get_or cs (place cs k n) d ≡ copy_of k n
 
 pub placed : (cs : List Copy) (k n : ℕ) → Contains cs (copy_of k n) → Placed cs k n
-placed cs k n c =
-    let at = place_is cs k n in
-    let here = c.1 in
-    let within : place cs k n < length cs =
-    elim (cases_lt c.0 (place cs k n)) [
-      | inl early ↦
-          absurd (true≢false (sym (is_this (get_or cs c.0 (copy_of k n)) k n c.2) ∙ fails_before_first (is_copy k n) cs c.0 (copy_of k n) (omega arith)))
-      | inr late ↦ omega arith
-    ] in
-    record {
-      within = within;
-      is = λ d. ap (λ p. get_or cs p d) at ∙ this_is (get_or cs (position_or_len (is_copy k n) cs) d) k n (passes_at_first (is_copy k n) cs d (omega arith));
-    }
+placed cs k n c = grind (arith, place_is, cases_lt, true≢false, is_this, fails_before_first, this_is, passes_at_first)
 
 -- copies that differ
 abbrev pub Apart : List Copy → Type 0
 Apart cs = AllPairs (λ x y. x ≡ y → ⊥) cs
 
 pub place_at : (cs : List Copy) (p : ℕ) (d : Copy) → Apart cs → p < length cs → place cs (get_or cs p d).number (get_or cs p d).gate ≡ p
-place_at cs p d apart l =
-    let it = get_or cs p d in
-    place_is cs it.number it.gate
-    ∙ position_or_len_is (is_copy it.number it.gate) cs p d (omega arith)
-    (λ i less. false_from_ne_true (is_copy it.number it.gate (get_or cs i d)) (λ e. apart i p d less l (this_is (get_or cs i d) it.number it.gate e)))
-    (λ here. is_this it it.number it.gate refl)
+place_at cs p d apart l = grind (arith, place_is, position_or_len_is, false_from_ne_true, this_is, is_this)
 
 apart_append : (xs ys : List Copy) → Apart xs → Apart ys → All (λ x. All (λ y. x ≡ y → ⊥) ys) xs → Apart (xs ++ ys)
 apart_append [] ys h k far = k
@@ -70,40 +50,27 @@ abbrev pub Increasing : List ℕ → Type 0
 Increasing ns = AllPairs (λ x y. x < y) ns
 
 round_apart : (k : ℕ) (ns : List ℕ) → Increasing ns → Apart (map (copy_of k) ns)
-round_apart k ns up i j d less l e =
-    let len = length-map ns (copy_of k) in
-    let rise = up i j 0 less (omega arith) in
-    let one = ap (λ c. c.gate) (sym (get_or-map (copy_of k) ns i 0 d (omega arith)) ∙ e ∙ get_or-map (copy_of k) ns j 0 d (omega arith)) in
-    omega arith
+round_apart k ns up i j d less l e = grind (arith, length-map ns (copy_of k), get_or-map (copy_of k) ns i 0 d, get_or-map (copy_of k) ns j 0 d)
 
 pub most-above : (same : ℕ → ℕ → Bool) (m : ℕ → ℕ) (bound n : ℕ) → n < bound → copies_of same m n ≤ most same m bound
 most-above same m zero n l = absurd (omega arith)
-most-above same m (suc bound) n l =
-    elim (cases_eq n bound) [
-      | inl e ↦ (let d = ap (copies_of same m) e in omega arith)
-      | inr ne ↦ (let r = most-above same m bound n (omega (arith, ne)) in omega arith)
-    ]
+most-above same m (suc bound) n l = grind (arith, cases_eq, most-above same m bound n)
 
 module _ (net : Parts) (loops : Loops) (m : ℕ → ℕ) where
   abbrev has : ℕ → ℕ
   has n = copies_of loops.same m n
 
   range_within : All (λ n. n < length net.gates) (range_with_len 0 (length net.gates))
-  range_within i d l =
-      let len = length-range_with_len 0 (length net.gates) in
-      let at = get_or-range_with_len 0 (length net.gates) i d (omega arith) in
-      omega arith
+  range_within i d l = grind (arith, length-range_with_len, get_or-range_with_len)
 
   pub copied_within : (k : ℕ) → All (λ n. n < length net.gates) (copied net loops m k)
   copied_within k = All-filter (λ n. leb k (has n)) (λ n. n < length net.gates) (range_with_len 0 (length net.gates)) range_within
 
   pub copied_has : (k i d : ℕ) → i < length (copied net loops m k) → k ≤ has (get_or (copied net loops m k) i d)
-  copied_has k i d l =
-      leb-true k (has (get_or (copied net loops m k) i d)) (filter_passes (λ n. leb k (has n)) (range_with_len 0 (length net.gates)) i d l)
+  copied_has k i d l = grind (arith, leb-true, filter_passes)
 
   pub Contains-copied : (k n : ℕ) → n < length net.gates → k ≤ has n → Contains (copied net loops m k) n
-  Contains-copied k n l few =
-      Contains-filter (λ g. leb k (has g)) (range_with_len 0 (length net.gates)) n (le-leb k (has n) few) (Contains-range (length net.gates) n l)
+  Contains-copied k n l few = grind (arith, Contains-filter, le-leb, Contains-range)
 
   pub copied_increasing : (k : ℕ) → Increasing (copied net loops m k)
   copied_increasing k =
@@ -128,9 +95,7 @@ module _ (net : Parts) (loops : Loops) (m : ℕ → ℕ) where
       ]
 
   pub copy_placed : (k n : ℕ) → n < length net.gates → suc k ≤ has n → Placed (copies net loops m) (suc k) n
-  copy_placed k n l few =
-      placed (copies net loops m) (suc k) n
-      (upto_has (most loops.same m (length net.gates)) k n l few (let g = most-above loops.same m (length net.gates) n l in omega arith))
+  copy_placed k n l few = grind (arith, placed, upto_has, most-above)
 
   -- what each copy up to one number is
   pub record IsCopy (top : ℕ) (copy : Copy) : Type 0 where
@@ -142,15 +107,7 @@ module _ (net : Parts) (loops : Loops) (m : ℕ → ℕ) where
   pub upto_are : (k : ℕ) → All (IsCopy k) (copies_upto net loops m k)
   upto_are zero = λ i d l. absurd (omega arith)
   upto_are (suc k) =
-      All-append (IsCopy (suc k)) (copies_upto net loops m k) (map (copy_of (suc k)) (copied net loops m (suc k)))
-      (All-weaker (IsCopy k) (IsCopy (suc k)) (λ copy c. record { positive = c.positive; upto = (let l = c.upto in omega arith); gate = c.gate; few = c.few }) (copies_upto net loops m k) (upto_are k))
-      (All-map (IsCopy (suc k)) (copy_of (suc k)) (copied net loops m (suc k))
-      (λ i d l. record {
-        positive = omega arith;
-        upto = omega arith;
-        gate = copied_within (suc k) i d l;
-        few = copied_has (suc k) i d l;
-      }))
+      grind (arith, All-append (IsCopy (suc k)) (copies_upto net loops m k) (map (copy_of (suc k)) (copied net loops m (suc k))), All-weaker (IsCopy k) (IsCopy (suc k)), upto_are k, All-map (IsCopy (suc k)) (copy_of (suc k)) (copied net loops m (suc k)), copied_within (suc k), copied_has (suc k))
 
   pub upto_apart : (k : ℕ) → Apart (copies_upto net loops m k)
   upto_apart zero = λ i j d less l. absurd (omega arith)

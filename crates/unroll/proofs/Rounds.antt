@@ -32,19 +32,11 @@ map_same f g (x ∷ xs) h = ap₂ (λ y ys. y ∷ ys) (h x) (map_same f g xs h)
 
 -- a choice among three signals in two ways
 pub choice_same : (b d : Bool) (x y z x' y' z' : Sig) → (b ≡ true → x ≡ x') → (b ≡ true → y ≡ y') → z ≡ z' → (if b then (if d then x else y) else z) ≡ (if b then (if d then x' else y') else z')
-choice_same true true x y z x' y' z' h k l = h refl
-choice_same true false x y z x' y' z' h k l = k refl
-choice_same false d x y z x' y' z' h k l = l
+choice_same b d x y z x' y' z' h k l = grind arith
 
 filter_twice : (p q : ℕ → Bool) (xs : List ℕ) → ((x : ℕ) → q x ≡ true → p x ≡ true) → filter q (filter p xs) ≡ filter q xs
 filter_twice p q [] h = refl
-filter_twice p q (x ∷ xs) h = by (p x) (q x) refl refl (filter_twice p q xs h)
-  where
-    by : (b d : Bool) → p x ≡ b → q x ≡ d → filter q (filter p xs) ≡ filter q xs → filter q (filter p (x ∷ xs)) ≡ filter q (x ∷ xs)
-    by true true e f rest = rw (e, f) (ap (λ ys. x ∷ ys) rest)
-    by true false e f rest = rw (e, f) rest
-    by false true e f rest = absurd (true≢false (sym (h x f) ∙ e))
-    by false false e f rest = rw (e, f) rest
+filter_twice p q (x ∷ xs) h = grind (arith, filter_twice p q xs h, true≢false)
 
 module _ (net : Parts) (loops : Loops) (m : ℕ → ℕ) where
   abbrev has : ℕ → ℕ
@@ -52,85 +44,39 @@ module _ (net : Parts) (loops : Loops) (m : ℕ → ℕ) where
 
   -- those with more copies, of those that have some
   pub copied_next : (k : ℕ) → filter (λ n. ltb (suc k) (has n)) (copied net loops m (suc k)) ≡ copied net loops m (suc (suc k))
-  copied_next k =
-      filter_twice (λ n. leb (suc k) (has n)) (λ n. leb (suc (suc k)) (has n)) (range_with_len 0 (length net.gates))
-      (λ x e. le-leb (suc k) (has x) (let l = leb-true (suc (suc k)) (has x) e in omega arith))
+  copied_next k = grind (arith, filter_twice, le-leb, leb-true)
 
   -- where the copies up to number k stand
   abbrev pub first_of_round : ℕ → ℕ
   first_of_round k = first_gate net + (length (constants net loops) + length (copies_upto net loops m k))
 
   signal_in_round : (k i : ℕ) → suc k ≤ most loops.same m (length net.gates) → i < length (copied net loops m (suc k)) → copy_signal net loops m (suc k) (get_or (copied net loops m (suc k)) i 0) ≡ signal (first_of_round k + i)
-  signal_in_round k i top l =
-      let e = place_in_round net loops m k i top l in
-      let all : first_gate net + (length (constants net loops) + place (copies net loops m) (suc k) (get_or (copied net loops m (suc k)) i 0)) ≡ first_of_round k + i = omega arith in
-      ap signal all
+  signal_in_round k i top l = grind (arith, place_in_round)
 
   -- the copies of a number that are entered
   pub entered_is : (k : ℕ) (table : List ℕ) → suc k ≤ most loops.same m (length net.gates) → length table ≡ length net.gates → (n : ℕ) → n < length net.gates → suc k ≤ has n → at_table (entered table (copied net loops m (suc k)) (first_of_round k)) n ≡ copy_signal net loops m (suc k) n
   entered_is k table top width n l few =
-      let c = Contains-copied net loops m (suc k) n l few in
-      let at = entered_at table (copied net loops m (suc k)) (first_of_round k) c.0 (copied_increasing net loops m (suc k))
-      (λ i d h. (let w = copied_within net loops m (suc k) i d h in omega arith)) c.1 in
-      let is : get_or (copied net loops m (suc k)) c.0 0 ≡ n = get_or_default (copied net loops m (suc k)) c.0 0 n c.1 ∙ c.2 in
-      ap (λ g. at_table (entered table (copied net loops m (suc k)) (first_of_round k)) g) (sym is)
-      ∙ ap signal at
-      ∙ sym (signal_in_round k c.0 top c.1)
-      ∙ ap (copy_signal net loops m (suc k)) is
+      grind (arith, Contains-copied net loops m (suc k) n l few, entered_at table (copied net loops m (suc k)) (first_of_round k), copied_increasing net loops m (suc k), copied_within net loops m (suc k), get_or_default (copied net loops m (suc k)), signal_in_round k)
 
   pub entered_next : (k : ℕ) (table : List ℕ) → suc k ≤ most loops.same m (length net.gates) → AreCopies net loops m k table → AreCopies net loops m (suc k) (entered table (copied net loops m (suc k)) (first_of_round k))
-  entered_next k table top are = record {
-    width = length_entered table (copied net loops m (suc k)) (first_of_round k) ∙ are.width;
-    each = λ n l.
-        elim (cases_lt k (has n)) [
-          | inl more ↦
-              let least : suc k ≡ min (suc k) (has n) = omega arith in
-              entered_is k table top are.width n l (omega arith) ∙ ap (λ j. copy_signal net loops m j n) least
-          | inr no_more ↦
-              let least : min k (has n) ≡ min (suc k) (has n) = omega arith in
-              ap signal (entered_other table (copied net loops m (suc k)) (first_of_round k) n
-              (λ c. (let h = copied_has net loops m (suc k) c.0 n c.1 in let e = ap has c.2 in omega arith)))
-              ∙ are.each n l
-              ∙ ap (λ j. copy_signal net loops m j n) least
-        ];
-  }
+  entered_next k table top are = grind (arith, length_entered, cases_lt, entered_is, entered_other, copied_has)
 
   -- before the first number each gate has the constant
   pub none_entered : (table : List ℕ) → table ≡ replicate (length net.gates) (first_gate net) → AreCopies net loops m 0 table
-  none_entered table e = record {
-    width = ap length e ∙ length-replicate (length net.gates) (first_gate net);
-    each = λ n l.
-        let none : 0 ≡ min 0 (has n) = omega arith in
-        ap (λ t. at_table t n) e
-        ∙ ap signal (get_or-replicate (length net.gates) n (first_gate net) 0 l)
-        ∙ ap (λ k. copy_signal net loops m k n) none;
-  }
+  none_entered table e = grind (arith, length-replicate, get_or-replicate)
 
   pub none_made : (gates : List Gate) → gates ≡ constants net loops → gates ≡ constants net loops ++ map (copy_gate net loops m) (copies_upto net loops m 0)
   none_made gates e = e ∙ sym (append-nil (constants net loops))
 
   pub all_entered : (k : ℕ) (table : List ℕ) → k ≡ most loops.same m (length net.gates) → AreCopies net loops m k table → AreLastCopies net loops m table
-  all_entered k table e are = record {
-    width = are.width;
-    each = λ n l.
-        let few = most-above loops.same m (length net.gates) n l in
-        let least : min k (has n) ≡ has n = omega arith in
-        are.each n l ∙ ap (λ j. copy_signal net loops m j n) least;
-  }
+  all_entered k table e are = grind (arith, most-above)
 
   -- how many gates there are after a number of copies
   pub length_made : (k : ℕ) (gates : List Gate) → gates ≡ constants net loops ++ map (copy_gate net loops m) (copies_upto net loops m k) → length gates ≡ length (constants net loops) + length (copies_upto net loops m k)
-  length_made k gates e =
-      ap length e ∙ length-append (constants net loops) (map (copy_gate net loops m) (copies_upto net loops m k))
-      ∙ ap (λ n. length (constants net loops) + n) (length-map (copies_upto net loops m k) (copy_gate net loops m))
+  length_made k gates e = grind (arith, length-map)
 
   pub round_fits : (k by : ℕ) (gates : List Gate) (active : List ℕ) → suc k ≤ most loops.same m (length net.gates) → by ≡ shift net loops m → count net + by ≤ 4294967295 → gates ≡ constants net loops ++ map (copy_gate net loops m) (copies_upto net loops m k) → active ≡ copied net loops m (suc k) → first_gate net + length gates + length active ≤ 4294967295
-  round_fits k by gates active top up fits made is =
-      let len = length_made k gates made in
-      let more = length-round net loops m k in
-      let short = upto_short net loops m (suc k) top in
-      let now = ap length is in
-      omega arith
+  round_fits k by gates active top up fits made is = grind (arith, length_made k gates made, length-round net loops m k, upto_short net loops m (suc k) top)
 
   module _ (are : AreLoopsOf net loops) (of_loops : IsOfLoops loops m) where
     -- the gates of a loop have as many copies as it needs sweeps
@@ -141,8 +87,7 @@ module _ (net : Parts) (loops : Loops) (m : ℕ → ℕ) where
     self_of n h e = same-trans net loops are n h n e (same-sym net loops are n h e)
 
     pub has_same : (n h : ℕ) → loops.same n h ≡ true → has h ≡ has n
-    has_same n h e =
-        many_of h (self_of h n (same-sym net loops are n h e)) ∙ sym (of_loops n h e) ∙ sym (many_of n (self_of n h e))
+    has_same n h e = grind (arith, many_of, self_of, same-sym)
 
     module _ (k by : ℕ) (earlier current : List ℕ) (top : suc k ≤ most loops.same m (length net.gates)) (up : by ≡ shift net loops m) (copies_before : AreCopies net loops m k earlier) (width : length current ≡ length net.gates) where
       abbrev beside : List ℕ
@@ -166,21 +111,11 @@ module _ (net : Parts) (loops : Loops) (m : ℕ → ℕ) where
           (ap (λ j. moved net j s) up)
 
       gate_same : (n : ℕ) → suc k ≤ has n → copy_gate_by net loops (mark net) by earlier beside (suc k) n ≡ copy_gate net loops m (copy_of (suc k) n)
-      gate_same n few =
-          ap (λ pins. let g : Gate = record { name = copy_name (mark net) (suc k) (gate_at net n).name; pins = pins; cover = (gate_at net n).cover } in g)
-          (map_same (copy_pin_by net loops by earlier beside n) (copy_pin net loops m k n) (gate_at net n).pins (pin_same n few))
+      gate_same n few = grind (arith, map_same, pin_same)
 
       -- one more number of copies
       pub round_made : (gates : List Gate) → gates ≡ constants net loops ++ map (copy_gate net loops m) (copies_upto net loops m k) → gates ++ map (copy_gate_by net loops (mark net) by earlier beside (suc k)) (copied net loops m (suc k)) ≡ constants net loops ++ map (copy_gate net loops m) (copies_upto net loops m (suc k))
-      round_made gates e =
-          let old = copies_upto net loops m k in
-          let ns = copied net loops m (suc k) in
-          ap₂ (λ xs ys. xs ++ ys) e
-          (map_agree (copy_gate_by net loops (mark net) by earlier beside (suc k)) (λ n. copy_gate net loops m (copy_of (suc k) n)) ns
-          (λ i d l. gate_same (get_or ns i d) (copied_has net loops m (suc k) i d l))
-          ∙ sym (map-map (copy_gate net loops m) (copy_of (suc k)) ns))
-          ∙ append_assoc (constants net loops) (map (copy_gate net loops m) old) (map (copy_gate net loops m) (map (copy_of (suc k)) ns))
-          ∙ ap (λ xs. constants net loops ++ xs) (sym (map-append (copy_gate net loops m) old (map (copy_of (suc k)) ns)))
+      round_made gates e = grind (arith, map_agree, gate_same, copied_has, map-map, append_assoc, map-append)
 
     -- one more number of copies, as it is made
     pub made_next : (k by : ℕ) (name : List ℕ) (active act rest next : List ℕ) (gates made : List Gate) (earlier later current beside : List ℕ) → suc k ≤ most loops.same m (length net.gates) → name ≡ mark net → by ≡ shift net loops m → AreMade net loops m k active gates earlier current → act ≡ active → rest ≡ active → made ≡ gates ++ map (copy_gate_by net loops name by earlier (entered current act (first_gate net + length gates)) (k + 1)) act → later ≡ entered earlier act (first_gate net + length gates) → length beside ≡ length net.gates → next ≡ filter (λ n. ltb (k + 1) (has n)) rest → AreMade net loops m (k + 1) next made later beside

@@ -9,10 +9,7 @@ pub range_next : (n : ℕ) → range_with_len 0 (n + 1) ≡ range_with_len 0 n +
 range_next n = rw add-one (range-suc 0 n ∙ ap (λ (x : ℕ). range_with_len 0 n ++ x ∷ []) (let e : 0 + n ≡ n = omega arith in e))
 
 pub one_in_range : (p : ℕ → Bool) (n k : ℕ) → k < n → p k ≡ true → list_any p (range_with_len 0 n) ≡ true
-one_in_range p n k l h =
-    let len = length-range_with_len 0 n in
-    let at : get_or (range_with_len 0 n) k 0 ≡ k = get_or-range_with_len 0 n k 0 l ∙ omega arith in
-    list_any_at p (range_with_len 0 n) k 0 (omega arith) (ap p at ∙ h)
+one_in_range p n k l h = grind (arith, length-range_with_len 0 n, get_or-range_with_len 0 n k 0 l, list_any_at p (range_with_len 0 n) k 0)
 
 pub most_next : (same : ℕ → ℕ → Bool) (m : ℕ → ℕ) (n : ℕ) → most same m (n + 1) ≡ max (most same m n) (copies_of same m n)
 most_next same m n = rw add-one refl

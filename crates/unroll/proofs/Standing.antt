@@ -4,27 +4,11 @@ use Rattle.unroll.proofs.Common.{get_or_append_left, get_or-map, length-map, get
 
 -- an item of the last of three parts
 third_part : {A : Type 0} (xs ys zs : List A) (k n : ℕ) (d : A) → length ys ≡ k → get_or (xs ++ (ys ++ zs)) (length xs + (k + n)) d ≡ get_or zs n d
-third_part xs ys zs k n d e =
-    get_or-append-add xs (ys ++ zs) (k + n) d
-    ∙ ap (λ i. get_or (ys ++ zs) (i + n) d) (sym e)
-    ∙ get_or-append-add ys zs n d
+third_part xs ys zs k n d e = grind (arith, get_or-append-add)
 
 module _ (net : Parts) (loops : Loops) (m : ℕ → ℕ) where
   pub gate_at_copy : (p : ℕ) (copy d : Copy) → p < length (copies net loops m) → get_or (copies net loops m) p d ≡ copy → gate_at (unrolled net loops m) (length (constants net loops) + p) ≡ copy_gate net loops m copy
-  gate_at_copy p copy d l e =
-      let cs = constants net loops in
-      let A = map (copy_gate net loops m) (copies net loops m) in
-      let B = map (kept_gate net loops m) (range_with_len 0 (length net.gates)) in
-      let la = length-map (copies net loops m) (copy_gate net loops m) in
-      get_or-append-add cs (A ++ B) p _
-      ∙ get_or_append_left A B _ p (omega arith)
-      ∙ get_or-map (copy_gate net loops m) (copies net loops m) p d _ l
-      ∙ ap (copy_gate net loops m) e
+  gate_at_copy p copy d l e = grind (arith, length-map, get_or-append-add, get_or_append_left, get_or-map)
 
   pub gate_at_kept : (n : ℕ) → n < length net.gates → gate_at (unrolled net loops m) (length (constants net loops) + (length (copies net loops m) + n)) ≡ kept_gate net loops m n
-  gate_at_kept n l =
-      let cs = constants net loops in
-      let A = map (copy_gate net loops m) (copies net loops m) in
-      let B = map (kept_gate net loops m) (range_with_len 0 (length net.gates)) in
-      third_part cs A B (length (copies net loops m)) n _ (length-map (copies net loops m) (copy_gate net loops m))
-      ∙ get_or-map-range_with_len (kept_gate net loops m) 0 (length net.gates) n n _ l (omega arith)
+  gate_at_kept n l = grind (arith, third_part, length-map, get_or-map-range_with_len)

@@ -5,16 +5,10 @@ use Rattle.std.proofs.lemmas.List.{length-take}
 
 entered_append : (table gates : List ℕ) (n first : ℕ) → entered table (gates ++ n ∷ []) first ≡ set (entered table gates first) n (first + length gates)
 entered_append table [] n first = ap (set table n) (let e : first ≡ first + 0 = omega arith in e)
-entered_append table (g ∷ gates) n first =
-    entered_append (set table g first) gates n (suc first)
-    ∙ ap (set (entered (set table g first) gates (suc first)) n) (let e : suc first + length gates ≡ first + suc (length gates) = omega arith in e)
+entered_append table (g ∷ gates) n first = grind (arith, entered_append (set table g first) gates n (suc first))
 
 pub entered_more : (table gates : List ℕ) (i first x : ℕ) → i < length gates → x ≡ get_or gates i x → entered table (take (i + 1) gates) first ≡ set (entered table (take i gates) first) x (first + i)
-entered_more table gates i first x l e =
-    let len : length (take i gates) ≡ i = omega (arith, length-take i gates) in
-    ap (λ gs. entered table gs first) (take_more gates i x l ∙ ap (λ y. take i gates ++ y ∷ []) (sym e))
-    ∙ entered_append table (take i gates) x first
-    ∙ ap (λ k. set (entered table (take i gates) first) x (first + k)) len
+entered_more table gates i first x l e = grind (arith, length-take i gates, take_more gates i x l, entered_append table (take i gates) x first)
 
 pub length_entered : (table gates : List ℕ) (first : ℕ) → length (entered table gates first) ≡ length table
 length_entered table [] first = refl

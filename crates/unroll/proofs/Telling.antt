@@ -22,60 +22,23 @@ unrolled_is_a_netlist net loops are m of_loops is inputs small = unrolled_is_net
 copies_stand : (net : Parts) (loops : Loops) (m : ℕ → ℕ) (k n : ℕ) → n < length net.gates → 1 ≤ k → k ≤ copies_of loops.same m n → gate_at (unrolled net loops m) (gate_of net (copy_signal net loops m k n)) ≡ copy_gate net loops m (copy_of k n)
 copies_stand net loops m zero n l one few = absurd (omega arith)
 copies_stand net loops m (suc k) n l one few =
-    let at = copy_placed net loops m k n l few in
     let p = place (copies net loops m) (suc k) n in
-    let stands : gate_of net (copy_signal net loops m (suc k) n) ≡ length (constants net loops) + p = omega arith in
-    ap (gate_at (unrolled net loops m)) stands ∙ gate_at_copy net loops m p (copy_of (suc k) n) (copy_of 0 0) at.within (at.is (copy_of 0 0))
+    grind (arith, copy_placed net loops m k n l few, gate_at_copy net loops m p (copy_of (suc k) n) (copy_of 0 0))
 
 kept_stands : (net : Parts) (loops : Loops) (m : ℕ → ℕ) (n : ℕ) → n < length net.gates → gate_at (unrolled net loops m) (gate_of net (old_signal net loops m (gate_sig net n))) ≡ kept_gate net loops m n
 kept_stands net loops m n l =
     let s = gate_sig net n in
-    let from : first_gate net ≤ s.0 = omega arith in
-    let is = ap (λ (t : Sig). t.0) (moved_high net (shift net loops m) s from) in
-    let stands : gate_of net (old_signal net loops m s) ≡ length (constants net loops) + (length (copies net loops m) + n) = omega arith in
-    ap (gate_at (unrolled net loops m)) stands ∙ gate_at_kept net loops m n l
+    grind (arith, moved_high net (shift net loops m) s, gate_at_kept net loops m n l)
 
 pub gates_stand_at_their_signals : GatesStandAtTheirSignals
 gates_stand_at_their_signals net loops are m of_loops = (copies_stand net loops m, kept_stands net loops m)
 
 -- a signal keeps its name
 name_kept : (net : Parts) (loops : Loops) (m : ℕ → ℕ) (s : Sig) → get_or (signal_names net) s.0 [] ≡ get_or (signal_names (unrolled net loops m)) (old_signal net loops m s).0 []
-name_kept net loops m s =
-    let other = unrolled net loops m in
-    let by = shift net loops m in
-    let old = old_names net loops m in
-    let new = new_names net loops m in
-    let own = gate_names net.gates in
-    let wide = old_wide net loops m in
-    let zero_many = length-map (constants net loops) (λ gate. gate.name) in
-    let many = length-map (copies net loops m) (λ copy. copy_name (mark net) copy.number (gate_at net copy.gate).name) in
-    let both = length-append (zero_names net loops m) (copy_names net loops m (copies net loops m)) in
-    elim (cases_lt s.0 (first_gate net)) [
-      | inl low ↦
-          ap (λ xs. get_or xs s.0 []) (names_old net loops m)
-          ∙ get_or_append_left old own [] s.0 (omega arith)
-          ∙ sym (ap₂ (λ xs (t : Sig). get_or xs t.0 []) (names_new net loops m) (moved_low net by s low)
-          ∙ get_or_append_left old (new ++ own) [] s.0 (omega arith))
-      | inr high ↦
-          let n = s.0 - first_gate net in
-          let at : (s.0 + by) - first_gate net ≡ length new + n = omega arith in
-          ap (λ xs. get_or xs s.0 []) (names_old net loops m)
-          ∙ get_or-append_right old own (first_gate net) s.0 [] wide high
-          ∙ sym (ap₂ (λ xs (t : Sig). get_or xs t.0 []) (names_new net loops m) (moved_high net by s high)
-          ∙ get_or-append_right old (new ++ own) (first_gate net) (s.0 + by) [] wide (omega arith)
-          ∙ ap (λ i. get_or (new ++ own) i []) at
-          ∙ get_or-append-add new own n [])
-    ]
+name_kept net loops m s = grind (arith, old_wide, length-map, cases_lt, names_old, get_or_append_left, names_new, moved_low, get_or-append_right, moved_high, get_or-append-add)
 
 pub unrolled_keeps_interface : UnrolledKeepsInterface
-unrolled_keeps_interface net loops are m of_loops = record {
-  inputs = refl;
-  latches = sym (map-map (λ latch. latch.name) (kept_latch net (shift net loops m)) net.latches);
-  inits = sym (map-map (λ latch. latch.init) (kept_latch net (shift net loops m)) net.latches);
-  outputs = map_same (λ s. get_or (signal_names net) s.0 []) (λ s. get_or (signal_names (unrolled net loops m)) (old_signal net loops m s).0 []) net.outputs (name_kept net loops m)
-      ∙ sym (map-map (λ s. get_or (signal_names (unrolled net loops m)) s.0 []) (old_signal net loops m) net.outputs);
-  clock = refl;
-}
+unrolled_keeps_interface net loops are m of_loops = grind (arith, map-map, map_same, name_kept net loops m)
 
 pub unrolled_tells_as_much : UnrolledTellsAsMuch
 unrolled_tells_as_much net loops are m of_loops v enough =

@@ -21,19 +21,11 @@ use Rattle.unroll.proofs.Rounds.{has_same}
 
 -- what holds of all choices
 of_three : (P : Sig → Type 0) (b d : Bool) (x y z : Sig) → (b ≡ true → P x) → (b ≡ true → P y) → P z → P (if b then (if d then x else y) else z)
-of_three P true true x y z h k l = h refl
-of_three P true false x y z h k l = k refl
-of_three P false d x y z h k l = l
+of_three P b d x y z h k l = grind arith
 
 -- gates are moved up, each to a place of its own
 moved_tells : (net : Parts) (by : ℕ) (x y : Sig) → (moved net by x).0 ≡ (moved net by y).0 → x.0 ≡ y.0
-moved_tells net by x y e = of (cases_lt x.0 (first_gate net)) (cases_lt y.0 (first_gate net))
-  where
-    of : (x.0 < first_gate net) ⊎ (first_gate net ≤ x.0) → (y.0 < first_gate net) ⊎ (first_gate net ≤ y.0) → x.0 ≡ y.0
-    of (inl l) (inl k) = (let d = rw (moved_low net by x l, moved_low net by y k) at e in omega arith)
-    of (inl l) (inr k) = (let d = rw (moved_low net by x l, moved_high net by y k) at e in omega arith)
-    of (inr l) (inl k) = (let d = rw (moved_high net by x l, moved_low net by y k) at e in omega arith)
-    of (inr l) (inr k) = (let d = rw (moved_high net by x l, moved_high net by y k) at e in omega arith)
+moved_tells net by x y e = grind arith
 
 -- names of gates
 abbrev pub gate_names : List Gate → List (List ℕ)
@@ -72,21 +64,10 @@ module _ (net : Parts) (loops : Loops) (m : ℕ → ℕ) where
   new_names = zero_names ++ copy_names (copies net loops m)
 
   gates_named : gate_names new.gates ≡ new_names ++ gate_names net.gates
-  gates_named =
-      let A = map (copy_gate net loops m) (copies net loops m) in
-      let B = map (kept_gate net loops m) (range_with_len 0 (length net.gates)) in
-      map-append (λ (gate : Gate). gate.name) (constants net loops) (A ++ B)
-      ∙ ap (λ xs. zero_names ++ xs)
-      (map-append (λ (gate : Gate). gate.name) A B
-      ∙ ap₂ (λ xs ys. xs ++ ys)
-      (map-map (λ (gate : Gate). gate.name) (copy_gate net loops m) (copies net loops m))
-      (map-map (λ (gate : Gate). gate.name) (kept_gate net loops m) (range_with_len 0 (length net.gates)) ∙ own_named))
-      ∙ sym (append_assoc zero_names (copy_names (copies net loops m)) (gate_names net.gates))
+  gates_named = grind (arith, map-append, map-map, own_named, append_assoc)
 
   pub names_new : signal_names new ≡ old_names ++ (new_names ++ gate_names net.gates)
-  names_new =
-      ap (λ xs. net.inputs ++ xs) (ap₂ (λ xs ys. xs ++ ys) latches_named gates_named)
-      ∙ sym (append_assoc net.inputs (latch_names net.latches) (new_names ++ gate_names net.gates))
+  names_new = grind (arith, latches_named, gates_named, append_assoc)
 
   pub names_old : signal_names net ≡ old_names ++ gate_names net.gates
   names_old = sym (append_assoc net.inputs (latch_names net.latches) (gate_names net.gates))
@@ -95,18 +76,11 @@ module _ (net : Parts) (loops : Loops) (m : ℕ → ℕ) where
   old_wide = length-append net.inputs (latch_names net.latches) ∙ ap (λ n. length net.inputs + n) (length-map net.latches (λ latch. latch.name))
 
   name_of_gate : (n : ℕ) → n < length net.gates → get_or (signal_names net) (first_gate net + n) [] ≡ (gate_at net n).name
-  name_of_gate n l =
-      ap₂ (λ xs k. get_or xs (k + n) []) names_old (sym old_wide)
-      ∙ get_or-append-add old_names (gate_names net.gates) n []
-      ∙ get_or-map (λ gate. gate.name) net.gates n no_gate [] l
+  name_of_gate n l = grind (arith, names_old, old_wide, get_or-append-add, get_or-map)
 
   -- what holds of the constant holds of all that there are
   all_constants : (P : Gate → Type 0) → P (zero_gate (mark net)) → AllByRecursion P (constants net loops)
-  all_constants P h = by (has_loop net loops.same)
-    where
-      by : (b : Bool) → AllByRecursion P (if b then zero_gate (mark net) ∷ [] else [])
-      by true = (h, tt)
-      by false = tt
+  all_constants P h = grind arith
 
   abbrev name_of_copy : Copy → List ℕ
   name_of_copy copy = copy_name (mark net) copy.number (gate_at net copy.gate).name
@@ -119,10 +93,7 @@ module _ (net : Parts) (loops : Loops) (m : ℕ → ℕ) where
 
   -- the netlist's names are short, and the new ones are long
   names_short : AllByRecursion (λ name. longest_run name ≤ level) (old_names ++ gate_names net.gates)
-  names_short =
-      let whole = longest-append (signal_names net) (clock_names net) in
-      subst (λ (xs : List (List ℕ)). AllByRecursion (λ name. longest_run name ≤ level) xs) names_old
-      (all_short (signal_names net) level (omega arith))
+  names_short = grind (arith, longest-append, names_old, all_short)
 
   new_long : AllByRecursion (λ name. level < longest_run name) new_names
   new_long =
@@ -135,20 +106,10 @@ module _ (net : Parts) (loops : Loops) (m : ℕ → ℕ) where
 
   zero_alone : IsDistinct bytes_eq zero_names
   unfolding IsDistinct
-  zero_alone = by (has_loop net loops.same)
-    where
-      by : (b : Bool) → IsDistinct bytes_eq (gate_names (if b then zero_gate (mark net) ∷ [] else []))
-      by true = (tt, tt)
-      by false = tt
+  zero_alone = grind arith
 
   zero_from_copies : Apart zero_names (copy_names (copies net loops m))
-  zero_from_copies =
-      let C = copy_names (copies net loops m) in
-      all_map (λ x. AllByRecursion (λ y. bytes_eq x y ≡ false) C) (λ gate. gate.name) (constants net loops)
-      (all_constants (λ gate. AllByRecursion (λ y. bytes_eq gate.name y ≡ false) C)
-      (all_map (λ y. bytes_eq (zero_name (mark net)) y ≡ false) name_of_copy (copies net loops m)
-      (recursion_from_All (λ copy. bytes_eq (zero_name (mark net)) (name_of_copy copy) ≡ false) (copies net loops m)
-      (λ i d l. (let copy = get_or (copies net loops m) i d in zero_is_no_copy (suc level) copy.number (gate_at net copy.gate).name)))))
+  zero_from_copies = grind (arith, all_map, all_constants, recursion_from_All, zero_is_no_copy)
 
   module _ (is : IsNetlist net) where
     -- gates of one name are one
@@ -174,11 +135,7 @@ module _ (net : Parts) (loops : Loops) (m : ℕ → ℕ) where
       few_copies : (n : ℕ) → n < length net.gates → copies_of loops.same m n ≤ 4000000
       few_copies n l =
           let r = range_with_len 0 (length net.gates) in
-          let len = length-range_with_len 0 (length net.gates) in
-          let item = get_or-le-sum_by (copies_of loops.same m) r n 0 (omega arith) in
-          let at : get_or r n 0 ≡ n = omega (arith, get_or-range_with_len 0 (length net.gates) n 0 l) in
-          let same = ap (copies_of loops.same m) at in
-          omega arith
+          grind (arith, length-range_with_len 0 (length net.gates), get_or-le-sum_by (copies_of loops.same m) r n 0, get_or-range_with_len 0 (length net.gates) n 0 l)
 
       low_number : (copy : Copy) → IsCopyHere copy → copy.number < 2 ^ 64
       low_number copy c = (let few = few_copies copy.gate c.gate in let n = c.few in omega arith)
@@ -213,36 +170,21 @@ module _ (net : Parts) (loops : Loops) (m : ℕ → ℕ) where
       -- BLIF names
       copy_fits : (copy : Copy) → IsCopyHere copy → IsBlifName (name_of_copy copy)
       copy_fits copy c =
-          let all = length-signal_names net in
           let gate = c.gate in
-          let own = subst IsBlifName (name_of_gate copy.gate gate) (is.names (first_gate net + copy.gate) [] (omega arith)) in
-          copy_name_fits (suc level) copy.number (gate_at net copy.gate).name (low_number copy c) own
+          grind (arith, length-signal_names net, name_of_gate copy.gate gate, copy_name_fits (suc level) copy.number (gate_at net copy.gate).name (low_number copy c), low_number copy c)
 
       names_fit : All IsBlifName (signal_names new)
       names_fit =
           let old = rw names_old at (recursion_from_All IsBlifName (signal_names net) is.names) in
-          rw names_new
-          (All-from_recursion IsBlifName (old_names ++ (new_names ++ gate_names net.gates))
-          (all_between IsBlifName old_names new_names (gate_names net.gates) old
-          (all_new IsBlifName (zero_name_fits (suc level)) (λ i d l. copy_fits (get_or (copies net loops m) i d) (copies_are i d l)))))
+          grind (arith, names_new, All-from_recursion IsBlifName (old_names ++ (new_names ++ gate_names net.gates)), all_between IsBlifName old_names new_names (gate_names net.gates) old, all_new IsBlifName (zero_name_fits (suc level)), zero_name_fits (suc level), copy_fits, copies_are)
 
       -- signals
       moved_within : (s : Sig) → IsSignal net s → IsSignal new (old_signal net loops m s)
-      moved_within s l =
-          let all = count_unrolled net loops m in
-          elim (cases_lt s.0 (first_gate net)) [
-            | inl low ↦ subst (IsSignal new) (sym (moved_low net (shift net loops m) s low)) (omega arith)
-            | inr high ↦ subst (IsSignal new) (sym (moved_high net (shift net loops m) s high)) (omega arith)
-          ]
+      moved_within s l = grind (arith, count_unrolled, cases_lt, moved_low, moved_high)
 
       numbered_within : (k n : ℕ) → n < length net.gates → k ≤ suc (has net loops m n) → IsSignal new (numbered net loops m k n)
       numbered_within zero n l few = let all = count_unrolled net loops m in omega arith
-      numbered_within (suc k) n l few =
-          let all = count_unrolled net loops m in
-          let gates = length-unrolled net loops m in
-          let it = stands net loops m are of_loops k n l (omega arith) in
-          let inside = it.within in
-          omega arith
+      numbered_within (suc k) n l few = grind (arith, count_unrolled net loops m, length-unrolled net loops m, stands net loops m are of_loops k n l)
 
       pin_within : (k n : ℕ) (s : Sig) → k ≤ has net loops m n → IsSignal net s → IsSignal new (pin_of net loops m k n s)
       pin_within k n s few l =
@@ -258,8 +200,7 @@ module _ (net : Parts) (loops : Loops) (m : ℕ → ℕ) where
         counted : length gate.pins ≡ gate.cover.pins
 
       constant_sound : All IsSound (constants net loops)
-      constant_sound =
-          All-from_recursion IsSound (constants net loops) (all_constants IsSound (record { pins = λ i d l. absurd (omega arith); counted = refl }))
+      constant_sound = grind arith
 
       sound_at : (q : ℕ) → q < length new.gates → IsSound (gate_at new q)
       sound_at q l =
@@ -287,12 +228,7 @@ module _ (net : Parts) (loops : Loops) (m : ℕ → ℕ) where
       outputs_distinct : (xs : List Sig) → IsDistinct sig_eq xs → IsDistinct sig_eq (map (old_signal net loops m) xs)
       unfolding IsDistinct
       outputs_distinct [] h = tt
-      outputs_distinct (x ∷ xs) h = (
-        all_map (λ y. sig_eq (old_signal net loops m x) y ≡ false) (old_signal net loops m) xs
-            (all_weaker (λ y. sig_eq x y ≡ false) (λ y. sig_eq (old_signal net loops m x) (old_signal net loops m y) ≡ false) xs
-            (λ y ne. ne_eqb (old_signal net loops m x).0 (old_signal net loops m y).0 (λ e. eqb-false x.0 y.0 ne (moved_tells net (shift net loops m) x y e))) h.0),
-        outputs_distinct xs h.1,
-      )
+      outputs_distinct (x ∷ xs) h = grind (arith, all_map, all_weaker, ne_eqb, eqb-false, moved_tells, outputs_distinct xs h.1)
 
       -- the clock
       still_undriven : (name : List ℕ) → longest_run name ≤ level → is_driven net name ≡ false → is_driven new name ≡ false
@@ -308,9 +244,7 @@ module _ (net : Parts) (loops : Loops) (m : ℕ → ℕ) where
           (list_any-map (bytes_eq name) (λ gate. gate.name) net.gates ∙ parts.1))
 
       clock_kept : (o : Option Clock) → longest_run_of (option_map_or (λ clock. clock.name ∷ []) o []) ≤ level → IfSome o (λ clock. IsClockName net clock.name) → IfSome o (λ clock. IsClockName new clock.name)
-      clock_kept None short h = tt
-      clock_kept (Some clock) short h =
-          record { blif = h.blif; named = h.named; undriven = still_undriven clock.name (omega arith) h.undriven }
+      clock_kept o short h = grind (arith, still_undriven)
 
       pub unrolled_is_netlist : length net.inputs ≤ 4000000000 → IsNetlist new
       unrolled_is_netlist inputs = record {

@@ -1,4 +1,4 @@
-use Rattle.std.proofs.Common.{◌++◌, ◌∷◌, [], ap₂, sym, ◌∙◌}
+use Rattle.std.proofs.Common.{◌++◌, ◌∷◌, [], ap₂, sym, ◌∙◌, arith}
 use Rattle.unroll.proofs.Common.{kept_latch}
 use Rattle.unroll.proofs.Kept.{taken_mapped}
 use Rattle.unroll.proofs.assembly.kept_latches.Goals as goal
@@ -6,6 +6,4 @@ use Rattle.unroll.proofs.assembly.kept_latches.Goals as goal
 pub loop-number-preserved : goal.loop-number-preserved
 loop-number-preserved c =
     let net = c.args.net.now in
-    c.in_ok-push.ensures.items
-    ∙ ap₂ (λ xs x. xs ++ x ∷ []) c.loop-number.invariant c.in_ok-kept_latch.ensures
-    ∙ sym (taken_mapped (kept_latch net c.args.by) net.latches c.loop-number.number c.latch.result.now c.latch.ensures.latch)
+    grind (arith, taken_mapped (kept_latch net c.args.by) net.latches c.loop-number.number c.latch.result.now c.latch.ensures.latch)

@@ -11,8 +11,4 @@ loop-gate-preserved c =
     let copy = copy_gate_by (net_of plan) (loops_in plan) plan.mark plan.by tables.earlier.items tables.current.items c.args.number in
     let old = c.args.gates.now.items in
     let i = c.loop-gate.gate-index in
-    let inside : i < length active = omega arith in
-    c.in_ok-push.ensures.items
-    ∙ ap₂ (λ gates gate. gates ++ gate ∷ []) c.loop-gate.invariant c.in_ok-copy_gate.ensures
-    ∙ append_assoc old (map copy (take i active)) (copy (get_or active i 0) ∷ [])
-    ∙ ap (λ gates. old ++ gates) (sym (map_more copy active i 0 inside))
+    grind (arith, append_assoc old (map copy (take i active)) (copy (get_or active i 0) ∷ []), map_more copy active i 0)

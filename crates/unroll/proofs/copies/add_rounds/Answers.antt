@@ -10,20 +10,10 @@ loop-number-init c =
     let net = net_of c.args.plan.now in
     let loops = loops_in c.args.plan.now in
     let m = sweeps_in c.args.plan.now in
-    record {
-      next = c.in_ok-active.ensures;
-      made = none_made net loops m c.args.gates.now.items c.requires.gates;
-      before = none_entered net loops m c.args.tables.now.earlier.items c.requires.earlier;
-      width = ap length c.requires.current ∙ length-replicate (length net.gates) (first_gate net);
-    }
+    grind (arith, none_made net loops m c.args.gates.now.items c.requires.gates, none_entered net loops m c.args.tables.now.earlier.items c.requires.earlier, length-replicate (length net.gates) (first_gate net))
 
 pub add_round-requires-clause-active : goal.add_round-requires-clause-active
-add_round-requires-clause-active c =
-    let net = net_of c.args.plan.now in
-    let loops = loops_in c.args.plan.now in
-    let m = sweeps_in c.args.plan.now in
-    subst (λ (ys : List ℕ). All (λ k. k < length net.gates) ys) (sym (c.deref.ensures.value ∙ c.loop-number.invariant.next))
-    (copied_within net loops m (suc c.loop-number.number))
+add_round-requires-clause-active c = grind (arith, copied_within)
 
 pub add_round-requires-clause-fits : goal.add_round-requires-clause-fits
 add_round-requires-clause-fits c =
@@ -38,12 +28,7 @@ add_round-requires-clause-fits c =
     (c.deref.ensures.value ∙ c.loop-number.invariant.next)
 
 pub with_more_copies-requires : goal.with_more_copies-requires
-with_more_copies-requires c =
-    let net = net_of c.args.plan.now in
-    let loops = loops_in c.args.plan.now in
-    let m = sweeps_in c.args.plan.now in
-    subst (λ (ys : List ℕ). All (λ k. k < length net.gates) ys) (sym (c.deref-in-loop-number.ensures.value ∙ c.loop-number.invariant.next))
-    (copied_within net loops m (suc c.loop-number.number))
+with_more_copies-requires c = grind (arith, copied_within)
 
 pub loop-number-preserved : goal.loop-number-preserved
 loop-number-preserved c =
@@ -80,9 +65,4 @@ returns-clause-last c =
     let net = net_of c.args.plan.now in
     let loops = loops_in c.args.plan.now in
     let m = sweeps_in c.args.plan.now in
-    let test = c.loop-number-test.false in
-    let end = c.loop-number.auto.number-end in
-    let top = c.most_copies-number-end.ensures.most in
-    all_entered net loops m c.loop-number.number c.loop-number.tables.earlier.items
-    (let e : c.loop-number.number ≡ most loops.same m (length net.gates) = omega arith in e)
-    c.loop-number.invariant.before
+    grind (arith, all_entered net loops m c.loop-number.number c.loop-number.tables.earlier.items)

@@ -1,4 +1,4 @@
-use Rattle.std.proofs.Common.{max, ap₂, sym, ◌∙◌}
+use Rattle.std.proofs.Common.{max, ap₂, sym, ◌∙◌, arith}
 use Rattle.unroll.proofs.Common.{get_or_from_slice_get, slice_get_within, signal_names}
 use Rattle.tildes.proofs.RunLemmas.{max_is, longest_more}
 use Rattle.unroll.proofs.names.longest_run_in_signals.Goals as goal
@@ -9,7 +9,4 @@ loop-number-preserved c =
     let i = c.loop-number.number in
     let name = c.name_of.result.now in
     let got = c.name_of.ensures.name in
-    c.max-longest.ensures
-    ∙ max_is c.loop-number.longest c.longest_run.result
-    ∙ ap₂ max c.loop-number.invariant c.longest_run.ensures
-    ∙ sym (longest_more names i name (slice_get_within names i name got) (sym (get_or_from_slice_get names i name name got)))
+    grind (arith, max_is c.loop-number.longest c.longest_run.result, longest_more names i name (slice_get_within names i name got), slice_get_within names i name got, get_or_from_slice_get names i name name got)

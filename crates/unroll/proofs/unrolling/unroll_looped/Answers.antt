@@ -14,9 +14,7 @@ use Rattle.unroll.proofs.unrolling.unroll_looped.Goals as goal
 pub unrolled_parts-requires-clause-by : goal.unrolled_parts-requires-clause-by
 unrolled_parts-requires-clause-by c =
     let l = c.args.looped.now in
-    let by = c.in_ok-by.ensures.by in
-    let size = size_is_shift l.net (loops_by l.blocks l.cut) (sweeps_of l.blocks c.args.sweeps.now) in
-    omega arith
+    grind (arith, size_is_shift l.net (loops_by l.blocks l.cut) (sweeps_of l.blocks c.args.sweeps.now))
 
 pub want_of_memory-requires : goal.want_of_memory-requires
 want_of_memory-requires c =
@@ -24,12 +22,7 @@ want_of_memory-requires c =
     let loops = loops_by l.blocks l.cut in
     let m = sweeps_of l.blocks c.args.sweeps.now in
     let is = c.shift_of.ensures.looped in
-    let valid = unrolled_is_netlist l.net loops m c.shift_of.ensures.valid (looped_loops l is) (looped_sweeps l is c.args.sweeps.now) c.in_ok-by.ensures.small c.requires.inputs in
-    let none = no_fault_of_netlist (unrolled l.net loops m) valid in
-    elim c.in-Err.ensures.fault [
-      | inl e ↦ e
-      | inr e ↦ (let h : None ≡ Some c.in-Err.fault = sym none ∙ ap first_fault (sym c.in_ok-parts.ensures) ∙ e in cc)
-    ]
+    grind (arith, unrolled_is_netlist l.net loops m c.shift_of.ensures.valid (looped_loops l is) (looped_sweeps l is c.args.sweeps.now) c.in_ok-by.ensures.small c.requires.inputs, looped_loops l is, looped_sweeps l is c.args.sweeps.now, no_fault_of_netlist (unrolled l.net loops m))
 
 -- what holds of the unrolled netlist holds of the answer
 module _ (c : goal.In-Ok) where
@@ -58,14 +51,10 @@ pub returns-in-Ok-clause-unrolled : goal.returns-in-Ok-clause-unrolled
 returns-in-Ok-clause-unrolled c = answer_is c
 
 pub returns-in-Ok-clause-loop_free : goal.returns-in-Ok-clause-loop_free
-returns-in-Ok-clause-loop_free c =
-    by_answer c IsLoopFree (unrolled_is_loop_free (net c) (loops c) (are c) (m c) (of_loops c))
+returns-in-Ok-clause-loop_free c = grind (arith, by_answer c IsLoopFree (unrolled_is_loop_free (net c) (loops c) (are c) (m c) (of_loops c)), unrolled_is_loop_free (net c) (loops c) (are c) (m c) (of_loops c), are c, of_loops c)
 
 pub returns-in-Ok-clause-interface : goal.returns-in-Ok-clause-interface
-returns-in-Ok-clause-interface c =
-    by_answer c (KeepsInterface (net c)) (unrolled_keeps_interface (net c) (loops c) (are c) (m c) (of_loops c))
+returns-in-Ok-clause-interface c = grind (arith, by_answer c (KeepsInterface (net c)) (unrolled_keeps_interface (net c) (loops c) (are c) (m c) (of_loops c)), unrolled_keeps_interface (net c) (loops c) (are c) (m c) (of_loops c), are c, of_loops c)
 
 pub returns-in-Ok-clause-tells : goal.returns-in-Ok-clause-tells
-returns-in-Ok-clause-tells c v enough =
-    by_answer c (λ other. TellsAsMuchAt (net c) other v)
-    (unrolled_tells_as_much (net c) (loops c) (are c) (m c) (of_loops c) v enough)
+returns-in-Ok-clause-tells c v enough = grind (arith, by_answer c, unrolled_tells_as_much (net c) (loops c) (are c) (m c) (of_loops c) v enough, are c, of_loops c)
