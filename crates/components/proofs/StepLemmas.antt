@@ -15,11 +15,7 @@ use Rattle.components.proofs.CloseLemmas.{closed_searching, closed_left, closed_
 
 pub cut_more : (old now shorter : List Group) (group : Group) (place : ℕ) → slice_get now (length now - 1) ≡ Some group → shorter ≡ take (length now - 1) now →
     place < group.nodes → IsCut old now place → IsCut old shorter place
-cut_more old now shorter group place is_last popped past cut = record {
-  gone = group ∷ cut.gone;
-  is = cut.is ∙ ap (λ (gs : List Group). gs ++ cut.gone) (split_last now group is_last ∙ ap (λ (gs : List Group). gs ++ group ∷ []) (sym popped)) ∙ append_assoc shorter (group ∷ []) cut.gone;
-  past = All-cons (λ g. place < g.nodes) group cut.gone past cut.past;
-}
+cut_more old now shorter group place is_last popped past cut = grind (arith, split_last now group is_last, append_assoc shorter (group ∷ []) cut.gone, All-cons)
 
 module _ (graph : List (List ℕ)) (s : State) where
   same_advances : Searching graph s → Advances graph s s
@@ -39,48 +35,26 @@ module _ (graph : List (List ℕ)) (s : State) where
   }
 
   pub merged_advances : (target place : ℕ) (new : List Group) → Following graph s target → mark_of s.marks target ≡ Open place → IsMerged s.groups new place → Advances graph s (record s { groups = new })
-  merged_advances target place new following is_open merged = record {
-    searching = merged_searching graph s target place new following is_open merged;
-    left = merged_left graph s target place new following is_open merged;
-    seen = λ a h. h;
-  }
+  merged_advances target place new following is_open merged = grind (arith, merged_searching graph s target place new following is_open merged, merged_left graph s target place new following is_open merged)
 
   pub path_marked : IsSound graph s → All (λ node. node < length s.marks) s.path
-  path_marked sound k d l =
-      subst (λ n. n < length s.marks) (get_or_default s.path k 0 d l) (marked_within s.marks (get_or s.path k 0) (Open k) (sound.places k l) (λ e. cc))
+  path_marked sound k d l = grind (arith, get_or_default s.path k 0 d l, marked_within s.marks (get_or s.path k 0) (Open k) (sound.places k l))
 
   pub last_begins : IsSound graph s → (group : Group) → slice_get s.groups (length s.groups - 1) ≡ Some group → group.nodes < length s.path
-  last_begins sound group is_last =
-      All-last (λ g. g.nodes < length s.path) (take (length s.groups - 1) s.groups) group (rw (← split_last s.groups group is_last) sound.group_nodes)
+  last_begins sound group is_last = grind (arith, All-last, split_last s.groups group is_last)
 
   pub taken_following : (waiting : List ℕ) (group : Group) (target : ℕ) → Searching graph s → slice_get s.groups (length s.groups - 1) ≡ Some group →
       (s.waiting ≡ waiting ++ target ∷ []) × (group.edges ≤ length waiting) → Following graph (record s { waiting = waiting }) target
-  taken_following waiting group target searching is_last edge =
-      taken graph s waiting (take (length s.groups - 1) s.groups) group target searching edge.0 (split_last s.groups group is_last) edge.1
+  taken_following waiting group target searching is_last edge = grind (arith, taken graph s waiting (take (length s.groups - 1) s.groups) group target searching edge.0 (split_last s.groups group is_last) edge.1, split_last s.groups group is_last)
 
   closed_is : (waiting : List ℕ) (group : Group) (t : State) → waiting ≡ s.waiting → IsClosedLast group (record s { waiting = waiting }) t →
       record { marks = t.marks; path = take group.nodes s.path; waiting = s.waiting; groups = take (length s.groups - 1) s.groups; count = s.count + 1 } ≡ t
-  closed_is waiting group t same now =
-      let path = now.path in
-      let wait = now.waiting ∙ same in
-      let groups = now.groups in
-      let count = now.count in
-      let parts : record { marks = t.marks; path = take group.nodes s.path; waiting = s.waiting; groups = take (length s.groups - 1) s.groups; count = s.count + 1 }
-      ≡ record { marks = t.marks; path = t.path; waiting = t.waiting; groups = t.groups; count = t.count } = cc in
-      parts
+  closed_is waiting group t same now = grind arith
 
   pub closed_advances : (waiting : List ℕ) (group : Group) (t : State) → Searching graph s → slice_get s.groups (length s.groups - 1) ≡ Some group →
       (length s.waiting ≤ group.edges) × (waiting ≡ s.waiting) → IsClosedLast group (record s { waiting = waiting }) t → Advances graph s t × (steps_left graph t < steps_left graph s)
   closed_advances waiting group t searching is_last none now =
-      let left = closed_left graph s group t.marks searching is_last none.0 now.marks in
-      subst (λ (u : State). Advances graph s u × (steps_left graph u < steps_left graph s)) (closed_is waiting group t none.1 now) (
-        record {
-          searching = closed_searching graph s group t.marks searching is_last none.0 now.marks;
-          left = omega arith;
-          seen = closed_seen graph s group t.marks searching is_last none.0 now.marks;
-        },
-        omega arith,
-      )
+      grind (arith, closed_left graph s group t.marks searching is_last none.0 now.marks, closed_is waiting group t none.1 now, closed_searching graph s group t.marks searching is_last none.0 now.marks, closed_seen graph s group t.marks searching is_last none.0 now.marks)
 
 pub mark_read : (marks : List Mark) (a : ℕ) (read mark : Mark) → a < length marks → read ≡ get_or marks a read → read ≡ mark → mark_of marks a ≡ mark
 mark_read marks a read mark l at is = get_or_default marks a New read l ∙ sym at ∙ is
