@@ -1,6 +1,6 @@
 -- What the lines of a written netlist say: one model.
 use Rattle.std.proofs.Common.{◌≡◌, ℕ, ◌+◌, Bool, true, false, List, [], ◌∷◌, ◌++◌, length, map, take, refl, sym, ap, ◌∙◌, append_assoc, append-nil, if◌then◌else◌, None, Some}
-use Rattle.blif_write.proofs.Common.{All, flat_map, list_any, Option, length-map, All-head, All-tail, Lit, Zero, One, Any, Edge, Rise, Fall, Init, Parts, numbered, BlifModel, GateLine, LatchLine, name_of, clock_lines, control_words, edge_word, init_word, latch_line, latch_lines, lit_byte, plane_word, lits_words, row_line, gate_lines, all_gate_lines, lines_of}
+use Rattle.blif_write.proofs.Common.{All, flat_map, list_any, Option, length-map, All-head, All-tail, Lit, Zero, Edge, Rise, Fall, Init, Parts, numbered, BlifModel, GateLine, LatchLine, name_of, clock_lines, control_words, edge_word, init_word, latch_line, latch_lines, lit_byte, plane_word, lits_words, row_line, gate_lines, all_gate_lines, lines_of}
 use Rattle.std.specs.Prelude.{codes, bytes_eq}
 use Rattle.std.proofs.lemmas.List.{map-append, take_at, get_or_at}
 use Rattle.cover_logic.specs.Covers.{Cover}
@@ -65,17 +65,7 @@ says words = statement (record { number = 0; words = words })
 
 number_aside : (k : kinds.Kind) (n : ℕ) (words : List (List ℕ)) → statement_of_kind k (line n words) ≡ statement_of_kind k (line 0 words)
 number_aside of.Row n words = refl
-number_aside of.Model n words = refl
-number_aside of.Inputs n words = refl
-number_aside of.Outputs n words = refl
-number_aside of.Clock n words = refl
-number_aside of.Names n words = refl
-number_aside of.Latch n words = refl
-number_aside of.Subckt n words = refl
-number_aside of.End n words = refl
-number_aside of.ReadOver n words = refl
-number_aside of.LeftOut n words = refl
-number_aside of.Unknown n words = refl
+number_aside k n words = refl
 
 says_all : (n : ℕ) (ws : List (List (List ℕ))) → map statement (numbered n ws) ≡ map says ws
 says_all n [] = refl
@@ -92,14 +82,17 @@ latch_said net latch = Latch (latch_of_text net latch)
 abbrev gate_said : Parts → gates.Gate → List Statement
 gate_said net gate = Names (map (name_of net) gate.pins) gate.name ∷ map (row_said gate.cover.plane) gate.cover.rows
 
-abbrev clock_said : Parts → Option clocks.Clock → List Statement
-clock_said net None = []
-clock_said net (Some clock) = if list_any (bytes_eq clock.name) net.inputs then [] else Clocks (clock.name ∷ []) ∷ []
+-- the line of a clock, where there is one
+abbrev clocks_said : List (List ℕ) → List Statement
+clocks_said [] = []
+clocks_said (name ∷ names) = Clocks (name ∷ names) ∷ []
+
+abbrev clock_said : Parts → List Statement
+clock_said net = clocks_said (clock_names net net.clock)
 
 lit_same : (lit : Lit) → lit_of (lit_byte lit) ≡ lit
 lit_same Zero = refl
-lit_same One = refl
-lit_same Any = refl
+lit_same lit = refl
 
 lits_same : (lits : List Lit) → map lit_of (map lit_byte lits) ≡ lits
 lits_same [] = refl
@@ -152,8 +145,7 @@ IsNamed (Some clock) = bytes_eq clock.name (codes "NIL") ≡ false
 
 init_same : (from name : List ℕ) (init : Init) → latch_of (from ∷ name ∷ init_word init ∷ []) ≡ record { from = from; output = name; control = None; init = init }
 init_same from name starts.Zero = refl
-init_same from name starts.One = refl
-init_same from name starts.Either = refl
+init_same from name init = refl
 
 abbrev clock_with : Edge → List ℕ → clocks.Clock
 clock_with edge name = record { edge = edge; name = name }
@@ -171,11 +163,8 @@ control_same from name edge clock init named = by edge init
 
     by : (edge : Edge) (init : Init) → latch_of (from ∷ name ∷ edge_word edge ∷ clock ∷ init_word init ∷ []) ≡ line_with from name init (Some (clock_with edge clock))
     by Rise starts.Zero = ap (line_with from name starts.Zero) (named_control Rise)
-    by Rise starts.One = ap (line_with from name starts.One) (named_control Rise)
-    by Rise starts.Either = ap (line_with from name starts.Either) (named_control Rise)
     by Fall starts.Zero = ap (line_with from name starts.Zero) (named_control Fall)
-    by Fall starts.One = ap (line_with from name starts.One) (named_control Fall)
-    by Fall starts.Either = ap (line_with from name starts.Either) (named_control Fall)
+    by edge init = ap (line_with from name init) (named_control edge)
 
 latch_same : (from name : List ℕ) (clock : Option clocks.Clock) (clocked : Bool) (init : Init) → IsNamed clock
     → latch_of (from ∷ name ∷ (control_words clock clocked ++ init_word init ∷ []))
@@ -194,11 +183,11 @@ latches_say net (latch ∷ ls) named =
     ap (λ said. said ∷ map says (map (latch_line net) ls)) (latch_says net latch named)
     ∙ ap (λ rest. latch_said net latch ∷ rest) (latches_say net ls named)
 
-clock_says : (net : Parts) (clock : Option clocks.Clock) → map says (clock_lines net clock) ≡ clock_said net clock
+clock_says : (net : Parts) (clock : Option clocks.Clock) → map says (clock_lines net clock) ≡ clocks_said (clock_names net clock)
 clock_says net None = refl
 clock_says net (Some clock) = by (list_any (bytes_eq clock.name) net.inputs)
   where
-    by : (t : Bool) → map says (if t then [] else (codes ".clock" ∷ clock.name ∷ []) ∷ []) ≡ (if t then [] else Clocks (clock.name ∷ []) ∷ [])
+    by : (t : Bool) → map says (if t then [] else (codes ".clock" ∷ clock.name ∷ []) ∷ []) ≡ clocks_said (if t then [] else clock.name ∷ [])
     by true = refl
     by false = refl
 
@@ -206,14 +195,14 @@ abbrev body_said : Parts → List Statement
 body_said net = map (latch_said net) net.latches ++ (flat_map (gate_said net) net.gates ++ End ∷ [])
 
 all_said : (net : Parts) → IsNamed net.clock → map says (lines_of net)
-    ≡ Model net.name ∷ Inputs net.inputs ∷ Outputs (map (name_of net) net.outputs) ∷ (clock_said net net.clock ++ body_said net)
+    ≡ Model net.name ∷ Inputs net.inputs ∷ Outputs (map (name_of net) net.outputs) ∷ (clock_said net ++ body_said net)
 all_said net named =
     let end : List (List (List ℕ)) = (codes ".end" ∷ []) ∷ [] in
     let gs = all_gate_lines net ++ end in
     ap (λ rest. Model net.name ∷ Inputs net.inputs ∷ Outputs (map (name_of net) net.outputs) ∷ rest)
     (map-append says (clock_lines net net.clock) (latch_lines net ++ gs)
     ∙ ap (λ said. said ++ map says (latch_lines net ++ gs)) (clock_says net net.clock)
-    ∙ ap (λ rest. clock_said net net.clock ++ rest)
+    ∙ ap (λ rest. clock_said net ++ rest)
     (map-append says (latch_lines net) gs
     ∙ ap (λ said. said ++ map says gs) (latches_say net net.latches named)
     ∙ ap (λ rest. map (latch_said net) net.latches ++ rest)
@@ -221,13 +210,9 @@ all_said net named =
 
 -- The statements lie in one model, which ends at the last.
 
-clock_members : (net : Parts) (clock : Option clocks.Clock) (rest : List Statement) → members (clock_said net clock ++ rest) ≡ clock_said net clock ++ members rest
-clock_members net None rest = refl
-clock_members net (Some clock) rest = by (list_any (bytes_eq clock.name) net.inputs)
-  where
-    by : (t : Bool) → members ((if t then [] else Clocks (clock.name ∷ []) ∷ []) ++ rest) ≡ (if t then [] else Clocks (clock.name ∷ []) ∷ []) ++ members rest
-    by true = refl
-    by false = refl
+clock_members : (names : List (List ℕ)) (rest : List Statement) → members (clocks_said names ++ rest) ≡ clocks_said names ++ members rest
+clock_members [] rest = refl
+clock_members (name ∷ names) rest = refl
 
 latch_members : (net : Parts) (ls : List latches.Latch) (rest : List Statement) → members (map (latch_said net) ls ++ rest) ≡ map (latch_said net) ls ++ members rest
 latch_members net [] rest = refl
@@ -246,13 +231,9 @@ gate_members net (gate ∷ gs) rest =
     ∙ ap (λ said. gate_said net gate ++ said) (gate_members net gs rest)
     ∙ sym (append_assoc (gate_said net gate) more (members rest))
 
-clock_models : (net : Parts) (clock : Option clocks.Clock) (rest : List Statement) → models (clock_said net clock ++ rest) ≡ models rest
-clock_models net None rest = refl
-clock_models net (Some clock) rest = by (list_any (bytes_eq clock.name) net.inputs)
-  where
-    by : (t : Bool) → models ((if t then [] else Clocks (clock.name ∷ []) ∷ []) ++ rest) ≡ models rest
-    by true = refl
-    by false = refl
+clock_models : (names : List (List ℕ)) (rest : List Statement) → models (clocks_said names ++ rest) ≡ models rest
+clock_models [] rest = refl
+clock_models (name ∷ names) rest = refl
 
 latch_models : (net : Parts) (ls : List latches.Latch) (rest : List Statement) → models (map (latch_said net) ls ++ rest) ≡ models rest
 latch_models net [] rest = refl
@@ -294,37 +275,21 @@ module _ (f : Statement → List (List ℕ)) (no_latch : (l : LatchLine) → f (
   pub body_nothing : (net : Parts) → flat_map f (map (latch_said net) net.latches ++ flat_map (gate_said net) net.gates) ≡ []
   body_nothing net = latches_nothing net net.latches _ (gates_nothing net net.gates)
 
-inputs_nothing : (net : Parts) (clock : Option clocks.Clock) (rest : List Statement) → flat_map inputs_in (clock_said net clock ++ rest) ≡ flat_map inputs_in rest
-inputs_nothing net None rest = refl
-inputs_nothing net (Some clock) rest = by (list_any (bytes_eq clock.name) net.inputs)
-  where
-    by : (t : Bool) → flat_map inputs_in ((if t then [] else Clocks (clock.name ∷ []) ∷ []) ++ rest) ≡ flat_map inputs_in rest
-    by true = refl
-    by false = refl
+inputs_nothing : (names : List (List ℕ)) (rest : List Statement) → flat_map inputs_in (clocks_said names ++ rest) ≡ flat_map inputs_in rest
+inputs_nothing [] rest = refl
+inputs_nothing (name ∷ names) rest = refl
 
-outputs_nothing : (net : Parts) (clock : Option clocks.Clock) (rest : List Statement) → flat_map outputs_in (clock_said net clock ++ rest) ≡ flat_map outputs_in rest
-outputs_nothing net None rest = refl
-outputs_nothing net (Some clock) rest = by (list_any (bytes_eq clock.name) net.inputs)
-  where
-    by : (t : Bool) → flat_map outputs_in ((if t then [] else Clocks (clock.name ∷ []) ∷ []) ++ rest) ≡ flat_map outputs_in rest
-    by true = refl
-    by false = refl
+outputs_nothing : (names : List (List ℕ)) (rest : List Statement) → flat_map outputs_in (clocks_said names ++ rest) ≡ flat_map outputs_in rest
+outputs_nothing [] rest = refl
+outputs_nothing (name ∷ names) rest = refl
 
-clocks_there : (net : Parts) (clock : Option clocks.Clock) (rest : List Statement) → flat_map clocks_in (clock_said net clock ++ rest) ≡ clock_names net clock ++ flat_map clocks_in rest
-clocks_there net None rest = refl
-clocks_there net (Some clock) rest = by (list_any (bytes_eq clock.name) net.inputs)
-  where
-    by : (t : Bool) → flat_map clocks_in ((if t then [] else Clocks (clock.name ∷ []) ∷ []) ++ rest) ≡ (if t then [] else clock.name ∷ []) ++ flat_map clocks_in rest
-    by true = refl
-    by false = refl
+clocks_there : (names : List (List ℕ)) (rest : List Statement) → flat_map clocks_in (clocks_said names ++ rest) ≡ names ++ flat_map clocks_in rest
+clocks_there [] rest = refl
+clocks_there (name ∷ names) rest = refl
 
-clock_body : (net : Parts) (clock : Option clocks.Clock) (rest : List Statement) → body_of (clock_said net clock ++ rest) ≡ body_of rest
-clock_body net None rest = refl
-clock_body net (Some clock) rest = by (list_any (bytes_eq clock.name) net.inputs)
-  where
-    by : (t : Bool) → body_of ((if t then [] else Clocks (clock.name ∷ []) ∷ []) ++ rest) ≡ body_of rest
-    by true = refl
-    by false = refl
+clock_body : (names : List (List ℕ)) (rest : List Statement) → body_of (clocks_said names ++ rest) ≡ body_of rest
+clock_body [] rest = refl
+clock_body (name ∷ names) rest = refl
 
 -- The items of the body.
 
@@ -380,19 +345,19 @@ gates_body net (gate ∷ gs) whole =
 abbrev inner : Parts → List Statement
 inner net = map (latch_said net) net.latches ++ flat_map (gate_said net) net.gates
 
-inner_members : (net : Parts) → members (clock_said net net.clock ++ body_said net) ≡ clock_said net net.clock ++ inner net
+inner_members : (net : Parts) → members (clock_said net ++ body_said net) ≡ clock_said net ++ inner net
 inner_members net =
     let end : List Statement = End ∷ [] in
-    clock_members net net.clock (body_said net)
-    ∙ ap (λ said. clock_said net net.clock ++ said)
+    clock_members (clock_names net net.clock) (body_said net)
+    ∙ ap (λ said. clock_said net ++ said)
     (latch_members net net.latches (flat_map (gate_said net) net.gates ++ end)
     ∙ ap (λ said. map (latch_said net) net.latches ++ said)
     (gate_members net net.gates end ∙ append-nil (flat_map (gate_said net) net.gates)))
 
-no_more_models : (net : Parts) → models (clock_said net net.clock ++ body_said net) ≡ []
+no_more_models : (net : Parts) → models (clock_said net ++ body_said net) ≡ []
 no_more_models net =
     let end : List Statement = End ∷ [] in
-    clock_models net net.clock (body_said net)
+    clock_models (clock_names net net.clock) (body_said net)
     ∙ latch_models net net.latches (flat_map (gate_said net) net.gates ++ end)
     ∙ gate_models net net.gates end
 
@@ -400,20 +365,20 @@ abbrev with_parts : List ℕ → List (List ℕ) → List (List ℕ) → List (L
 with_parts name inputs outputs clock body = record { name = name; inputs = inputs; outputs = outputs; clocks = clock; body = body }
 
 model_is : (net : Parts) → All IsWhole net.gates
-    → model_of net.name (Inputs net.inputs ∷ Outputs (map (name_of net) net.outputs) ∷ (clock_said net net.clock ++ inner net)) ≡ model_of_text net
+    → model_of net.name (Inputs net.inputs ∷ Outputs (map (name_of net) net.outputs) ∷ (clock_said net ++ inner net)) ≡ model_of_text net
 model_is net whole =
-    let rest = clock_said net net.clock ++ inner net in
+    let rest = clock_said net ++ inner net in
     let outs = map (name_of net) net.outputs in
     let no_inputs : flat_map inputs_in rest ≡ [] =
-    inputs_nothing net net.clock (inner net) ∙ body_nothing inputs_in (λ l. refl) (λ p o. refl) (λ r b. refl) net in
+    inputs_nothing (clock_names net net.clock) (inner net) ∙ body_nothing inputs_in (λ l. refl) (λ p o. refl) (λ r b. refl) net in
     let no_outputs : flat_map outputs_in rest ≡ [] =
-    outputs_nothing net net.clock (inner net) ∙ body_nothing outputs_in (λ l. refl) (λ p o. refl) (λ r b. refl) net in
+    outputs_nothing (clock_names net net.clock) (inner net) ∙ body_nothing outputs_in (λ l. refl) (λ p o. refl) (λ r b. refl) net in
     let the_clocks : flat_map clocks_in rest ≡ clock_names net net.clock =
-    clocks_there net net.clock (inner net)
+    clocks_there (clock_names net net.clock) (inner net)
     ∙ ap (λ more. clock_names net net.clock ++ more) (body_nothing clocks_in (λ l. refl) (λ p o. refl) (λ r b. refl) net)
     ∙ append-nil (clock_names net net.clock) in
     let the_body : body_of rest ≡ latch_items net net.latches ++ gate_items net net.gates =
-    clock_body net net.clock (inner net)
+    clock_body (clock_names net net.clock) (inner net)
     ∙ latches_body net net.latches (flat_map (gate_said net) net.gates)
     ∙ ap (λ items. latch_items net net.latches ++ items) (gates_body net net.gates whole) in
     ap (λ more. with_parts net.name (net.inputs ++ more) (outs ++ flat_map outputs_in rest) (flat_map clocks_in rest) (body_of rest)) no_inputs
@@ -426,7 +391,7 @@ model_is net whole =
 pub models_are : (net : Parts) → All IsWhole net.gates → IsNamed net.clock → models (map statement (numbered 1 (lines_of net))) ≡ model_of_text net ∷ []
 models_are net whole named =
     let outs = map (name_of net) net.outputs in
-    let rest = clock_said net net.clock ++ body_said net in
+    let rest = clock_said net ++ body_said net in
     ap models (says_all 1 (lines_of net) ∙ all_said net named)
     ∙ ap (λ more. model_of net.name (Inputs net.inputs ∷ Outputs outs ∷ more) ∷ models rest) (inner_members net)
     ∙ ap (λ model. model ∷ models rest) (model_is net whole)
