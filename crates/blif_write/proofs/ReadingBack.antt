@@ -6,7 +6,7 @@ use Rattle.cyc_base.proofs.NameLemmas.{bytes_eq-true}
 use Rattle.blif_read.specs.Models.{models}
 use Rattle.blif_read.specs.Statements.{statement}
 use Rattle.blif_read.specs.Reads.{reads, reads_lines, unless_fault, if_any}
-use Rattle.flatten.specs.Flat.{flat_within, flat_from, linked_lines}
+use Rattle.flatten.specs.Flat.{flat_within, flat_from}
 use Rattle.blif_write.specs.Written.{written}
 use Rattle.blif_write.specs.Laws.{HasCovers, WrittenReadsBack}
 use Rattle.blif_write.proofs.ReadLines.{written_lines}
@@ -36,9 +36,7 @@ flat_again : (depth limit : ℕ) (net : Parts) → IsNetlist net → length net.
     → flat_within depth limit (model_of_text net ∷ []) net.name ≡ Ok net
 flat_again depth limit net valid few =
     let model = model_of_text net in
-    ap (flat_from depth limit (model ∷ []) net.name) (model_found model)
-    ∙ ap (linked_lines model) (lines_flat depth limit net few)
-    ∙ lines_link net valid
+    ap (flat_from depth limit (model ∷ []) net.name) (model_found model) ∙ lines_flat net depth limit few ∙ lines_link net valid
 
 pub reads_back : WrittenReadsBack
 reads_back net valid covers few = record {
