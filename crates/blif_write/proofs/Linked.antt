@@ -10,14 +10,13 @@ use Rattle.std.proofs.lemmas.Bool.{or_right, or_parts, false_from_ne_true, both_
 use Rattle.cyc_base.proofs.ListLemmas.{map-map}
 use Rattle.cyc_base.proofs.NameLemmas.{bytes_eq-true}
 use Rattle.netlist.specs.Netlists.{sig_eq, IsSignal}
-use Rattle.netlist.specs.Faults.{repeat_after}
-use Rattle.netlist.proofs.Differ.{no_repeat_from_differ}
 use Rattle.netlist.proofs.NameLemmas.{length-signal_names}
 use Rattle.flatten.specs.declared.fault.FlatFault.{FlatFault}
 use Rattle.flatten.specs.declared.fault.FlatFault.TheVariants.{DeclaredTwice, DrivenTwice, Undriven, BadClock, ClockRead}
 use Rattle.flatten.specs.Instances.{is_among}
-use Rattle.flatten.specs.Linking.{twice_after, first_twice, each_once, own_clocks, latch_outputs, gate_outputs, drivers, reads, has_control, first_control, edge_eq, is_fitting, has_bad_control, link_fault, signal_list, sig_of, latch_with, gate_with, netlist_by, linked}
+use Rattle.flatten.specs.Linking.{first_twice, each_once, own_clocks, latch_outputs, gate_outputs, drivers, reads, has_control, first_control, edge_eq, is_fitting, has_bad_control, link_fault, signal_list, sig_of, latch_with, gate_with, netlist_by, linked}
 use Rattle.flatten.proofs.Names.{bytes_refl, bytes_sym}
+use Rattle.flatten.proofs.Libraries.{distinct_fresh, none_old}
 use Rattle.blif_write.proofs.NameLemmas.{driven_any}
 use Rattle.blif_write.proofs.Said.{control_if, clock_names, latch_of_text, gate_of_text, model_of_text}
 use Rattle.blif_write.proofs.Flattened.{lines_of_text}
@@ -27,18 +26,8 @@ use Rattle.std.proofs.lemmas.List.{get_or_append_left, length-append}
 
 -- Names that differ.
 
-twice_is : (earlier names : List (List ℕ)) → twice_after earlier names ≡ option_map (λ p. p.1) (repeat_after bytes_eq earlier names)
-twice_is earlier [] = refl
-twice_is earlier (name ∷ names) = by (list_any (bytes_eq name) earlier) (twice_is (earlier ++ name ∷ []) names)
-  where
-    by : (t : Bool) → twice_after (earlier ++ name ∷ []) names ≡ option_map (λ p. p.1) (repeat_after bytes_eq (earlier ++ name ∷ []) names)
-        → (if t then Some name else twice_after (earlier ++ name ∷ []) names)
-        ≡ option_map (λ p. p.1) (if t then Some (length earlier, name) else repeat_after bytes_eq (earlier ++ name ∷ []) names)
-    by true rest = refl
-    by false rest = rest
-
 once : (names : List (List ℕ)) → IsDistinct bytes_eq names → first_twice names ≡ None
-once names d = twice_is [] names ∙ ap (option_map (λ p. p.1)) (no_repeat_from_differ bytes_eq bytes_sym names d)
+once names d = distinct_fresh [] names (none_old names) d
 
 distinct_front : (xs ys : List (List ℕ)) → IsDistinct bytes_eq (xs ++ ys) → IsDistinct bytes_eq xs
 distinct_front xs ys d =

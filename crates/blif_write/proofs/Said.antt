@@ -1,5 +1,5 @@
 -- What the lines of a written netlist say: one model.
-use Rattle.std.proofs.Common.{◌≡◌, ℕ, ◌+◌, Bool, true, false, List, [], ◌∷◌, ◌++◌, length, map, take, refl, sym, ap, ◌∙◌, append_assoc, append-nil, if◌then◌else◌, None, Some}
+use Rattle.std.proofs.Common.{◌≡◌, ℕ, ◌+◌, Bool, true, false, List, [], ◌∷◌, ◌++◌, length, map, take, refl, sym, ap, ◌∙◌, append_assoc, append-nil, if◌then◌else◌, None, Some, get_or}
 use Rattle.blif_write.proofs.Common.{All, flat_map, list_any, Option, length-map, All-head, All-tail, Lit, Zero, Edge, Rise, Fall, Init, Parts, numbered, BlifModel, GateLine, LatchLine, name_of, clock_lines, control_words, edge_word, init_word, latch_line, latch_lines, lit_byte, plane_word, lits_words, row_line, gate_lines, all_gate_lines, lines_of}
 use Rattle.std.specs.Prelude.{codes, bytes_eq}
 use Rattle.std.proofs.lemmas.List.{map-append, take_at, get_or_at}
@@ -20,6 +20,8 @@ use Rattle.blif_read.specs.Kinds.{kind, is_on, pin_count}
 use Rattle.blif_read.specs.Statements.{lit_of, lits_of, latch_of, control_of, pins_of, output_of, statement, statement_of_kind}
 use Rattle.blif_read.specs.Models.{members, inputs_in, outputs_in, clocks_in, rows_of, plane_of, gate_of, body_of, model_of, models}
 use Rattle.blif_write.proofs.Faultless.{line, IsWhole, counted, row_on, row_kind}
+use Rattle.std.proofs.lemmas.List.Folds.{map_fixed}
+use Rattle.cyc_base.proofs.ListLemmas.{map-map}
 
 -- The model of a written netlist.
 
@@ -95,8 +97,7 @@ lit_same Zero = refl
 lit_same lit = refl
 
 lits_same : (lits : List Lit) → map lit_of (map lit_byte lits) ≡ lits
-lits_same [] = refl
-lits_same (lit ∷ lits) = ap (λ l. l ∷ map lit_of (map lit_byte lits)) (lit_same lit) ∙ ap (λ ls. lit ∷ ls) (lits_same lits)
+lits_same lits = map-map lit_of lit_byte lits ∙ map_fixed (λ (lit : Lit). lit_of (lit_byte lit)) lits (λ k d l. lit_same (get_or lits k d))
 
 row_lits : (plane : Bool) (lits : List Lit) → lits_of (lits_words lits ++ plane_word plane ∷ []) ≡ lits
 row_lits plane [] = refl
