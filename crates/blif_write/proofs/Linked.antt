@@ -342,35 +342,24 @@ record IsLatchOf (net : Parts) (latch : Latch) : Type 0 where
 
 latch_again : (net : Parts) → IsNetlist net → (latch : Latch) → IsLatchOf net latch
     → latch_with (sig_of (signal_names net)) (latch_of_text net latch) ≡ latch
-latch_again net valid latch is =
-    let made = λ (from : Sig) (clocked : Bool). let l : Latch = record { name = latch.name; from = from; init = latch.init; clocked = clocked } in l in
-    ap (λ from. made from (is_some (control_if net.clock latch.clocked))) (sig_same net valid latch.from is.from)
-    ∙ ap (made latch.from) (still_clocked net.clock latch.clocked is.clocked)
+latch_again net valid latch is = rw (sig_same net valid latch.from is.from, still_clocked net.clock latch.clocked is.clocked) refl
 
 gate_again : (net : Parts) → IsNetlist net → (gate : Gate) → All (IsSignal net) gate.pins
     → gate_with (sig_of (signal_names net)) (gate_of_text net gate) ≡ gate
-gate_again net valid gate is =
-    let made = λ (pins : List Sig). let g : Gate = record { name = gate.name; pins = pins; cover = gate.cover } in g in
-    ap made (sigs_same net valid gate.pins is)
+gate_again net valid gate is = rw (sigs_same net valid gate.pins is) refl
 
 linked_again : (net : Parts) → IsNetlist net → netlist_by (sig_of (signal_names net)) (model_of_text net) (lines_of_text net) ≡ net
 linked_again net valid =
     let sig = sig_of (signal_names net) in
-    let made = λ (clock : Option Clock) (latches : List Latch) (gates : List Gate) (outputs : List Sig).
-    let parts : Parts = record { name = net.name; inputs = net.inputs; clock = clock; latches = latches; gates = gates; outputs = outputs } in parts in
-    let ls = map (latch_with sig) (map (latch_of_text net) net.latches) in
-    let gs = map (gate_with sig) (map (gate_of_text net) net.gates) in
-    let outs = map sig (map (name_of net) net.outputs) in
     let clocked = all_clocked (is_some net.clock) net.latches (λ e. sym valid.clocked ∙ e) in
     let each : All (IsLatchOf net) net.latches = λ k d l. record { from = valid.sources k d l; clocked = clocked k d l } in
-    ap (λ clock. made clock ls gs outs) (control_is net valid)
-    ∙ ap (λ latches. made net.clock latches gs outs)
-    (map-map (latch_with sig) (latch_of_text net) net.latches
-    ∙ map_all (IsLatchOf net) (λ latch. latch_with sig (latch_of_text net latch)) (latch_again net valid) net.latches each)
-    ∙ ap (λ gates. made net.clock net.latches gates outs)
-    (map-map (gate_with sig) (gate_of_text net) net.gates
-    ∙ map_all (λ (gate : Gate). All (IsSignal net) gate.pins) (λ gate. gate_with sig (gate_of_text net gate)) (gate_again net valid) net.gates valid.pins)
-    ∙ ap (λ outputs. made net.clock net.latches net.gates outputs) (sigs_same net valid net.outputs valid.outputs)
+    let latches : map (latch_with sig) (map (latch_of_text net) net.latches) ≡ net.latches =
+    map-map (latch_with sig) (latch_of_text net) net.latches
+    ∙ map_all (IsLatchOf net) (λ latch. latch_with sig (latch_of_text net latch)) (latch_again net valid) net.latches each in
+    let gates : map (gate_with sig) (map (gate_of_text net) net.gates) ≡ net.gates =
+    map-map (gate_with sig) (gate_of_text net) net.gates
+    ∙ map_all (λ (gate : Gate). All (IsSignal net) gate.pins) (λ gate. gate_with sig (gate_of_text net gate)) (gate_again net valid) net.gates valid.pins in
+    rw (control_is net valid, latches, gates, sigs_same net valid net.outputs valid.outputs) refl
 
 pub lines_link : (net : Parts) → IsNetlist net → linked (model_of_text net) (lines_of_text net) ≡ Ok net
 lines_link net valid =

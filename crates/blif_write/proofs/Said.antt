@@ -362,9 +362,6 @@ no_more_models net =
     ∙ latch_models net net.latches (flat_map (gate_said net) net.gates ++ end)
     ∙ gate_models net net.gates end
 
-abbrev with_parts : List ℕ → List (List ℕ) → List (List ℕ) → List (List ℕ) → List Item → BlifModel
-with_parts name inputs outputs clock body = record { name = name; inputs = inputs; outputs = outputs; clocks = clock; body = body }
-
 model_is : (net : Parts) → All IsWhole net.gates
     → model_of net.name (Inputs net.inputs ∷ Outputs (map (name_of net) net.outputs) ∷ (clock_said net ++ inner net)) ≡ model_of_text net
 model_is net whole =
@@ -382,12 +379,7 @@ model_is net whole =
     clock_body (clock_names net net.clock) (inner net)
     ∙ latches_body net net.latches (flat_map (gate_said net) net.gates)
     ∙ ap (λ items. latch_items net net.latches ++ items) (gates_body net net.gates whole) in
-    ap (λ more. with_parts net.name (net.inputs ++ more) (outs ++ flat_map outputs_in rest) (flat_map clocks_in rest) (body_of rest)) no_inputs
-    ∙ ap (λ ins. with_parts net.name ins (outs ++ flat_map outputs_in rest) (flat_map clocks_in rest) (body_of rest)) (append-nil net.inputs)
-    ∙ ap (λ more. with_parts net.name net.inputs (outs ++ more) (flat_map clocks_in rest) (body_of rest)) no_outputs
-    ∙ ap (λ names. with_parts net.name net.inputs names (flat_map clocks_in rest) (body_of rest)) (append-nil outs)
-    ∙ ap (λ names. with_parts net.name net.inputs outs names (body_of rest)) the_clocks
-    ∙ ap (λ items. with_parts net.name net.inputs outs (clock_names net net.clock) items) the_body
+    rw (no_inputs, no_outputs, the_clocks, the_body, append-nil net.inputs, append-nil outs) refl
 
 pub models_are : (net : Parts) → All IsWhole net.gates → IsNamed net.clock → models (map statement (numbered 1 (lines_of net))) ≡ model_of_text net ∷ []
 models_are net whole named =
