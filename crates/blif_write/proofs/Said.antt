@@ -3,7 +3,6 @@ use Rattle.std.proofs.Common.{◌≡◌, ℕ, ◌+◌, Bool, true, false, List, 
 use Rattle.blif_write.proofs.Common.{All, flat_map, list_any, Option, length-map, All-head, All-tail, Lit, Zero, Edge, Rise, Fall, Init, Parts, numbered, BlifModel, GateLine, LatchLine, name_of, clock_lines, control_words, edge_word, init_word, latch_line, latch_lines, lit_byte, plane_word, lits_words, row_line, gate_lines, all_gate_lines, lines_of}
 use Rattle.std.specs.Prelude.{codes, bytes_eq}
 use Rattle.std.proofs.lemmas.List.{map-append, take_at, get_or_at}
-use Rattle.cover_logic.specs.Covers.{Cover}
 use Rattle.cover_logic.specs.declared.row.Row as rows
 use Rattle.netlist.specs.declared.parts.Clock as clocks
 use Rattle.netlist.specs.declared.parts.Init.TheVariants as starts
@@ -115,9 +114,7 @@ row_says plane row =
 
 rows_say : (plane : Bool) (rs : List rows.Row) → map says (map (row_line plane) rs) ≡ map (row_said plane) rs
 rows_say plane [] = refl
-rows_say plane (row ∷ rs) =
-    ap (λ said. said ∷ map says (map (row_line plane) rs)) (row_says plane row)
-    ∙ ap (λ rest. row_said plane row ∷ rest) (rows_say plane rs)
+rows_say plane (row ∷ rs) = rw (row_says plane row, rows_say plane rs) refl
 
 front_of : (names : List (List ℕ)) (last : List ℕ) → pins_of (names ++ last ∷ []) ≡ names
 front_of names last = ap (λ n. take n (names ++ last ∷ [])) (counted names last) ∙ take_at names (last ∷ []) (length names) refl
@@ -128,9 +125,7 @@ last_is names last = get_or_at names last [] [] (pin_count (names ++ last ∷ []
 gate_says : (net : Parts) (gate : gates.Gate) → map says (gate_lines net gate) ≡ gate_said net gate
 gate_says net gate =
     let names = map (name_of net) gate.pins in
-    ap (λ pins. Names pins (output_of (names ++ gate.name ∷ [])) ∷ map says (map (row_line gate.cover.plane) gate.cover.rows)) (front_of names gate.name)
-    ∙ ap (λ output. Names names output ∷ map says (map (row_line gate.cover.plane) gate.cover.rows)) (last_is names gate.name)
-    ∙ ap (λ rest. Names names gate.name ∷ rest) (rows_say gate.cover.plane gate.cover.rows)
+    rw (front_of names gate.name, last_is names gate.name, rows_say gate.cover.plane gate.cover.rows) refl
 
 gates_say : (net : Parts) (gs : List gates.Gate) → map says (flat_map (gate_lines net) gs) ≡ flat_map (gate_said net) gs
 gates_say net [] = refl
@@ -180,9 +175,7 @@ latch_says net latch named =
 
 latches_say : (net : Parts) (ls : List latches.Latch) → IsNamed net.clock → map says (map (latch_line net) ls) ≡ map (latch_said net) ls
 latches_say net [] named = refl
-latches_say net (latch ∷ ls) named =
-    ap (λ said. said ∷ map says (map (latch_line net) ls)) (latch_says net latch named)
-    ∙ ap (λ rest. latch_said net latch ∷ rest) (latches_say net ls named)
+latches_say net (latch ∷ ls) named = rw (latch_says net latch named, latches_say net ls named) refl
 
 clock_says : (net : Parts) (clock : Option clocks.Clock) → map says (clock_lines net clock) ≡ clocks_said (clock_names net clock)
 clock_says net None = refl
@@ -200,14 +193,14 @@ all_said : (net : Parts) → IsNamed net.clock → map says (lines_of net)
 all_said net named =
     let end : List (List (List ℕ)) = (codes ".end" ∷ []) ∷ [] in
     let gs = all_gate_lines net ++ end in
-    ap (λ rest. Model net.name ∷ Inputs net.inputs ∷ Outputs (map (name_of net) net.outputs) ∷ rest)
-    (map-append says (clock_lines net net.clock) (latch_lines net ++ gs)
-    ∙ ap (λ said. said ++ map says (latch_lines net ++ gs)) (clock_says net net.clock)
-    ∙ ap (λ rest. clock_said net ++ rest)
-    (map-append says (latch_lines net) gs
-    ∙ ap (λ said. said ++ map says gs) (latches_say net net.latches named)
-    ∙ ap (λ rest. map (latch_said net) net.latches ++ rest)
-    (map-append says (all_gate_lines net) end ∙ ap (λ said. said ++ End ∷ []) (gates_say net net.gates))))
+    rw (
+      map-append says (clock_lines net net.clock) (latch_lines net ++ gs),
+      clock_says net net.clock,
+      map-append says (latch_lines net) gs,
+      latches_say net net.latches named,
+      map-append says (all_gate_lines net) end,
+      gates_say net net.gates,
+    ) refl
 
 -- The statements lie in one model, which ends at the last.
 
@@ -248,9 +241,7 @@ gate_models : (net : Parts) (gs : List gates.Gate) (rest : List Statement) → m
 gate_models net [] rest = refl
 gate_models net (gate ∷ gs) rest =
     let more = flat_map (gate_said net) gs in
-    ap models (append_assoc (gate_said net gate) more rest)
-    ∙ row_models gate.cover.plane gate.cover.rows (more ++ rest)
-    ∙ gate_models net gs rest
+    rw (append_assoc (gate_said net gate) more rest, row_models gate.cover.plane gate.cover.rows (more ++ rest), gate_models net gs rest) refl
 
 -- What a model collects of them, where latches and gates give nothing.
 
@@ -319,18 +310,11 @@ plane_is : (plane : Bool) (rs : List rows.Row) (rest : List Statement) → Start
 plane_is plane [] rest none on = none.plane ∙ sym (on refl)
 plane_is plane (row ∷ rs) rest none on = refl
 
-abbrev cover_with : ℕ → Bool → List rows.Row → Cover
-cover_with pins plane rs = record { pins = pins; plane = plane; rows = rs }
-
 gate_same : (net : Parts) (gate : gates.Gate) (rest : List Statement) → IsWhole gate → StartsNoRow rest
     → gate_of (map (name_of net) gate.pins) gate.name (map (row_said gate.cover.plane) gate.cover.rows ++ rest) ≡ gate_of_text net gate
 gate_same net gate rest whole none =
-    let names = map (name_of net) gate.pins in
-    let made = λ (cover : Cover). let g : GateLine = record { pins = names; output = gate.name; cover = cover } in g in
-    let said = map (row_said gate.cover.plane) gate.cover.rows ++ rest in
-    ap (λ n. made (cover_with n (plane_of said) (rows_of said))) (length-map gate.pins (name_of net) ∙ whole.width)
-    ∙ ap (λ p. made (cover_with gate.cover.pins p (rows_of said))) (plane_is gate.cover.plane gate.cover.rows rest none whole.cover.plane)
-    ∙ ap (λ rs. made (cover_with gate.cover.pins gate.cover.plane rs)) (rows_are gate.cover.plane gate.cover.rows rest none)
+    let width = length-map gate.pins (name_of net) ∙ whole.width in
+    rw (width, plane_is gate.cover.plane gate.cover.rows rest none whole.cover.plane, rows_are gate.cover.plane gate.cover.rows rest none) refl
 
 gates_body : (net : Parts) (gs : List gates.Gate) → All IsWhole gs → body_of (flat_map (gate_said net) gs) ≡ gate_items net gs
 gates_body net [] whole = refl
@@ -349,11 +333,12 @@ inner net = map (latch_said net) net.latches ++ flat_map (gate_said net) net.gat
 inner_members : (net : Parts) → members (clock_said net ++ body_said net) ≡ clock_said net ++ inner net
 inner_members net =
     let end : List Statement = End ∷ [] in
-    clock_members (clock_names net net.clock) (body_said net)
-    ∙ ap (λ said. clock_said net ++ said)
-    (latch_members net net.latches (flat_map (gate_said net) net.gates ++ end)
-    ∙ ap (λ said. map (latch_said net) net.latches ++ said)
-    (gate_members net net.gates end ∙ append-nil (flat_map (gate_said net) net.gates)))
+    rw (
+      clock_members (clock_names net net.clock) (body_said net),
+      latch_members net net.latches (flat_map (gate_said net) net.gates ++ end),
+      gate_members net net.gates end,
+      append-nil (flat_map (gate_said net) net.gates),
+    ) refl
 
 no_more_models : (net : Parts) → models (clock_said net ++ body_said net) ≡ []
 no_more_models net =
