@@ -18,9 +18,9 @@ use Rattle.clause_decision.specs.declared.pairs.Pair.{Pair}
 use Rattle.clause_decision.specs.declared.scope.Scope.{Scope}
 use Rattle.clause_decision.specs.Apart.{are_apart, is_apart_at, AreNeverApart, IsPairOf, IsWireIn, IsPairIn, ArePairsIn}
 use Rattle.clause_decision.specs.Pairs.{HasRails, SaysPair, AddsLiteral, TellPairs, AreRefuted}
-use Rattle.clause_decision.proofs.ConeLemmas.{cone-kept}
+use Rattle.clause_decision.proofs.ConeLemmas.{care-under, cone-kept}
 use Rattle.clause_decision.proofs.SignalLemmas.{column_rails-length, signal-at, three}
-use Rattle.clause_decision.proofs.UnknownLemmas.{vector-read}
+use Rattle.clause_decision.proofs.FormulaLemmas.{two-within}
 
 -- what is read past the end of a list of hints
 abbrev pub no_hint : Hint
@@ -143,8 +143,7 @@ pairs-told net care marks old mid pairs asked cone first last =
     record {
       cone = kept;
       askable = record {
-        care = All-cons (λ l. l < 2 * f.variables) asked.cone.inside (asked.cone.allowed ∷ []) kept.inside_within
-            (All-cons (λ l. l < 2 * f.variables) asked.cone.allowed [] kept.allowed_within (All-nil (λ l. l < 2 * f.variables)));
+        care = two-within (2 * f.variables) asked.cone.inside asked.cone.allowed kept.inside_within kept.allowed_within;
         hints = All-weaker (λ k. k < 2 * mid.variables) (λ k. k < 2 * f.variables) (λ k less. let x = last.grows.more in omega (arith, less, x)) asked.hints.items first.within;
         pairs = last.within;
       };
@@ -171,18 +170,9 @@ module _ (net : Parts) (care : CareSet) (scope : Scope) (pairs : List Pair) (ask
       HasNoModelUnder (problem asked.cone.formula) (asked.cone.inside ∷ asked.cone.allowed ∷ l ∷ []) → says has.model l ≡ false
   refuted-at v counts has l refuted = by (says has.model l) refl
     where
-      vector : vector_in net asked.cone.rails.items has.model ≡ v
-      vector = vector-read has.model (column_rails net asked.cone.rails.items) v has.columns
-
       by : (b : Bool) → says has.model l ≡ b → says has.model l ≡ false
       by false e = e
-      by true e =
-          absurd (refuted has.model (record {
-            model = models-same asked.cone.formula has.model ∙ has.holds;
-            assumed = three (λ k. says has.model k ≡ true) asked.cone.inside asked.cone.allowed l
-                (told.cone.inside_tells has.model has.holds ∙ ap (λ w. is_in_invariant care (state_of net w)) vector ∙ counts.state)
-                (told.cone.allowed_tells has.model has.holds ∙ ap (is_allowed care) vector ∙ counts.allowed) e;
-          }))
+      by true e = absurd (refuted has.model (care-under told.cone v has counts l e))
 
   -- a wire is read as its value
   wire-read : (v : List Bool) → IsCareVector net care v → (has : ReadsFix net scope.gates asked.cone.formula asked.cone.rails.items v) → (s : Sig) → s.0 < count net →

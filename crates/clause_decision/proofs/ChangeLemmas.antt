@@ -10,7 +10,7 @@ use Rattle.ternary_clauses.specs.Sweeps.{ReadsOutside}
 use Rattle.clause_queries.specs.declared.query.Reply.{Reply}
 use Rattle.clause_queries.specs.declared.query.Reply.TheVariants as replies
 use Rattle.clause_decision.specs.Changes.{HasChange, ChangesAfter, StandAfter, TellsChange, TellsChangeAfter}
-use Rattle.clause_decision.proofs.FormulaLemmas.{ones-read}
+use Rattle.clause_decision.proofs.ConeLemmas.{care-holds, care-read}
 use Rattle.clause_decision.proofs.SignalLemmas.{column_rails-length, gate-read, three}
 use Rattle.clause_decision.proofs.LoopLemmas.{are-loops, cut-of, of-loop}
 use Rattle.clause_decision.proofs.SweepingLemmas.{fed-read, outside-of-fix}
@@ -39,11 +39,7 @@ module _ (net : Parts) (care : CareSet) (marks : List Bool) (loops : Loops) (gat
   changes-after m has =
       let is : IsModel m f = sym (models-same f m) ∙ has.is.model in
       let v : List Bool = vector_in net rails m in
-      let counts : IsCareVector net care v = record {
-        width = length-map (column_rails net rails) (λ (r : Rails). says m r.one) ∙ column_rails-length net rails cone.size;
-        state = sym (cone.inside_tells m is) ∙ has.is.assumed 0 0 (omega arith);
-        allowed = sym (cone.allowed_tells m is) ∙ has.is.assumed 1 0 (omega arith);
-      } in
+      let counts : IsCareVector net care v = care-read cone m is (has.is.assumed 0 0 (omega arith)) (has.is.assumed 1 0 (omega arith)) in
       let i : ℕ = has.place in
       let low : i < length gates = All-contains (λ j. j < length gates) places i wires.within has.among in
       let out : ReadsOutside net loops gates rails m (bits v) = outside-fed m is counts in
@@ -63,9 +59,6 @@ module _ (net : Parts) (care : CareSet) (marks : List Bool) (loops : Loops) (gat
     where
       has : ReadsFix net marks f rails v
       has = cone.complete v counts.width
-
-      vector : vector_in net rails has.model ≡ v
-      vector = sym (ones-read has.model (column_rails net rails) (vector_in net rails has.model) (cone.sound has.model has.holds)) ∙ ones-read has.model (column_rails net rails) v has.columns
 
       out : ReadsOutside net loops gates rails has.model (bits v)
       out = outside-of-fix net marks loops gates proper closed width marked f rails v cone.size counts.width has
@@ -87,10 +80,8 @@ module _ (net : Parts) (care : CareSet) (marks : List Bool) (loops : Loops) (gat
       refuted known =
           All-contains (λ i. HasNoModelUnder (problem f) (change_literals inside allowed before after i)) places in_gates.0 none placed has.model (record {
             model = models-same f has.model ∙ has.holds;
-            assumed = All-cons (λ l. says has.model l ≡ true) inside (allowed ∷ negation (rails_at before in_gates.0).known ∷ (rails_at after in_gates.0).known ∷ [])
-                (cone.inside_tells has.model has.holds ∙ ap (λ u. is_in_invariant care (state_of net u)) vector ∙ counts.state)
-                (three (λ l. says has.model l ≡ true) allowed (negation (rails_at before in_gates.0).known) (rails_at after in_gates.0).known
-                (cone.allowed_tells has.model has.holds ∙ ap (is_allowed care) vector ∙ counts.allowed)
+            assumed = All-cons (λ l. says has.model l ≡ true) inside (allowed ∷ negation (rails_at before in_gates.0).known ∷ (rails_at after in_gates.0).known ∷ []) (care-holds cone v has counts).0
+                (three (λ l. says has.model l ≡ true) allowed (negation (rails_at before in_gates.0).known) (rails_at after in_gates.0).known (care-holds cone v has counts).1
                 (says-negation has.model (rails_at before in_gates.0).known ∙ ap not (first.known ∙ ap (λ (j : ℕ). is_known (value_in (sweeps net loops (bits v) k) j)) at ∙ ap is_known unknown))
                 (second.known ∙ ap (λ (j : ℕ). is_known (value_in (sweeps net loops (bits v) (k + 1)) j)) at ∙ known));
           })

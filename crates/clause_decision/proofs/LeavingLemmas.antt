@@ -20,7 +20,8 @@ use Rattle.clause_decision.specs.NextStates.{no_latch, latch_of, load_rails, loa
 use Rattle.clause_decision.specs.declared.question.Question.{Question}
 use Rattle.clause_decision.specs.Questions.{IsQuestionOf}
 use Rattle.clause_decision.specs.Tests.{is_leaving}
-use Rattle.clause_decision.proofs.FormulaLemmas.{ones-read}
+use Rattle.clause_decision.proofs.FormulaLemmas.{ones-read, question-of}
+use Rattle.clause_decision.proofs.ConeLemmas.{care-read}
 use Rattle.clause_decision.proofs.ModelLemmas.{invariant-reads, of-there}
 use Rattle.clause_decision.proofs.SignalLemmas.{negation-within, column_rails-length, ones-within, fix-above, signal-read, three}
 
@@ -120,13 +121,11 @@ module _ (net : Parts) (care : CareSet) (marks : List Bool) (f g : Formula) (rai
       let v : List Bool = vector_in net rails m in
       let model_g : IsModel m g = under-model m under.model in
       let model_f : IsModel m f = said.grows.sound m model_g in
-      let in_invariant : is_in_invariant care (state_of net v) ≡ true = sym (cone.inside_tells m model_f) ∙ under.assumed 0 0 (omega arith) in
-      let may : is_allowed care v ≡ true = sym (cone.allowed_tells m model_f) ∙ under.assumed 1 0 (omega arith) in
-      let counts : IsCareVector net care v = record { width = length-map (column_rails net rails) (λ (r : Rails). says m r.one) ∙ column_rails-length net rails cone.size; state = in_invariant; allowed = may } in
+      let counts : IsCareVector net care v = care-read cone m model_f (under.assumed 0 0 (omega arith)) (under.assumed 1 0 (omega arith)) in
       let tells : says m literal ≡ is_in_invariant care (next_state net v) =
       said.says_it m (inputs_at model (next_state net v)) model_g (loads-read m v (cone.sound m model_f) (cone.above m model_f) counts) ∙ in-model (next_state net v) in
       let out : leaves net care v ≡ true = ap not (sym tells) ∙ sym (says-negation m literal) ∙ under.assumed 2 0 (omega arith) in
-      ap₂ (λ (a b : Bool). a && b) (ap₂ (λ (a b : Bool). a && b) in_invariant may) out
+      ap₂ (λ (a b : Bool). a && b) (ap₂ (λ (a b : Bool). a && b) counts.state counts.allowed) out
 
   complete : (v : List Bool) → length v ≡ columns net → is_leaving net care v ≡ true → HasVector (problem g) (map (λ r. r.one) (column_rails net rails)) (inside ∷ allowed ∷ negation literal ∷ []) v
   complete v wide passes =
@@ -181,13 +180,4 @@ leaving-question net care scope f g rails list inside allowed literal invariant 
     (let w = cone.inside_within in let m = said.grows.more in omega (arith, w, m))
     (let w = cone.allowed_within in let m = said.grows.more in omega (arith, w, m))
     (negation-within literal g.variables said.within) in
-    record {
-      askable = record {
-        columns = subst (λ (h : Formula). IsWithin h.variables q.columns.items) (sym formula_is) (subst (IsWithin g.variables) (sym columns_is) of_g);
-        assumed = subst (λ (h : Formula). IsWithin h.variables q.assumed.items) (sym formula_is) (subst (IsWithin g.variables) (sym assumed_is) care_of_g);
-      };
-      wide = ap length columns_is ∙ length-map (column_rails net rails) (λ (r : Rails). r.one) ∙ column_rails-length net rails cone.size;
-      asks = subst (λ (h : Formula). Asks (problem h) q.columns.items q.assumed.items (is_leaving net care)) (sym formula_is)
-          (subst (λ (cs : List ℕ). Asks (problem g) cs q.assumed.items (is_leaving net care)) (sym columns_is)
-          (subst (λ (ls : List ℕ). Asks (problem g) (map (λ r. r.one) (column_rails net rails)) ls (is_leaving net care)) (sym assumed_is) asked));
-    }
+    question-of q formula_is columns_is assumed_is of_g care_of_g (length-map (column_rails net rails) (λ (r : Rails). r.one) ∙ column_rails-length net rails cone.size) asked

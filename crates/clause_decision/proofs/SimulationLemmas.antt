@@ -1,14 +1,15 @@
 -- A loop at one vector, sweep by sweep.
-use Rattle.std.proofs.Common.{◌≡◌, ◌≢◌, inl, inr, ℕ, suc, ◌<◌, ◌+◌, ◌==◌, Bool, true, false, ◌&&◌, leb, if◌then◌else◌, List, [], length, map, replicate, get_or, Contains, refl, sym, ap, ◌∙◌, arith}
+use Rattle.std.proofs.Common.{◌≡◌, ◌≢◌, inl, inr, ℕ, suc, ◌<◌, ◌+◌, ◌==◌, Bool, true, false, ◌&&◌, leb, if◌then◌else◌, List, [], length, map, replicate, get_or, Contains, refl, sym, ap, subst, ◌∙◌, arith}
+use Rattle.std.specs.List.{All}
 use Rattle.std.proofs.lemmas.Bool.{leb-true}
-use Rattle.clause_decision.proofs.Common.{Sig, Trit, X, bits, Parts, count, gate_at, no_gate, wire, fix, fix_gates, home_of, Loops, is_cut, CutsAreFixed, cuts_of, first_gate, gate_of, sweeps, value_in, map_agree, cut_values_agree, fixed_cuts_give_fix, IsSweeping, LoopAt, IsLoopAt, gates_in, loops_in}
+use Rattle.clause_decision.proofs.Common.{Contains-get_or, Sig, Trit, X, bits, Parts, count, gate_at, no_gate, wire, fix, fix_gates, home_of, Loops, is_cut, CutsAreFixed, cuts_of, first_gate, gate_of, sweeps, value_in, map_agree, cut_values_agree, fixed_cuts_give_fix, IsSweeping, LoopAt, IsLoopAt, gates_in, loops_in}
 use Rattle.cover_logic.specs.Extensions.{ext}
 use Rattle.loops.specs.Cuts.{in_one_loop}
 use Rattle.loops.specs.Sweeps.{cuts, gate_in, in_loop_of, pin_in, sweep}
 use Rattle.loops.proofs.OrderedSweeps.{sweep_of_one_loop}
 use Rattle.loops.proofs.Reading.{choice, in_loop_from}
 use Rattle.loops.proofs.Sweeps.{still_is_fix}
-use Rattle.clause_decision.specs.Events.{cover_value}
+use Rattle.clause_decision.specs.Events.{cover_value, IsSwept}
 use Rattle.clause_decision.specs.Simulations.{seen_of}
 use Rattle.clause_decision.proofs.LoopLemmas.{are-loops, cut-of, gate-fits, of-loop, same-home}
 
@@ -116,3 +117,13 @@ module _ (l : LoopAt) (is_loop : IsLoopAt l) where
 -- before the first sweep all is unknown
 pub unknown-first : (net : Parts) (loops : Loops) (v before : List Trit) → before ≡ replicate (length net.gates) X → (n : ℕ) → value_in before n ≡ value_in (sweeps net loops v 0) n
 unknown-first net loops v before is n = ap (λ (s : List Trit). value_in s n) is
+
+-- a sweep of values that are those of the fixpoint
+pub swept_at : (l : LoopAt) (read outside seen before after : List Trit) (changed : List ℕ) → read ≡ outside → seen ≡ before → IsSwept l read seen after changed → IsSwept l outside before after changed
+swept_at l read outside seen before after changed first second h =
+    subst (λ (s : List Trit). IsSwept l s before after changed) first (subst (λ (s : List Trit). IsSwept l read s after changed) second h)
+
+-- the cut wires that have changed are gates
+pub changed-fits : (l : LoopAt) → IsLoopAt l → (outside before after : List Trit) (changed read : List ℕ) → read ≡ changed → IsSwept l outside before after changed → All (λ n. n < length l.net.gates) read
+changed-fits l is outside before after changed read same swept =
+    subst (All (λ n. n < length l.net.gates)) (sym same) (λ k d low. gate-fits l is (get_or changed k d) (swept.unseen.inside (get_or changed k d) (Contains-get_or changed k d low)))
