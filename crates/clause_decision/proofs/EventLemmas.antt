@@ -5,7 +5,6 @@ use Rattle.std.proofs.lemmas.Bool.{cases_eq, leb-true}
 use Rattle.std.proofs.lemmas.List.{drop_more, get_or-set_same, get_or-set_other, length-append, length-replicate}
 use Rattle.std.proofs.lemmas.List.Elements.{Contains-append_cases, Contains-append_right}
 use Rattle.ternary_run.proofs.SettlingLemmas.{falls}
-use Rattle.cyc_base.specs.Values.{EachBelow}
 use Rattle.cyc_base.proofs.OrderLemmas.{Below-refl, Below-trans, Below-unknown, EachBelow-from_at}
 use Rattle.cyc_base.proofs.ListLemmas.{Contains-cases, Contains-nothing}
 use Rattle.cover_logic.specs.Extensions.{ext}

@@ -1,14 +1,14 @@
 -- Formulas over columns, and literals that tell tests of their vectors.
 use Rattle.std.proofs.Common.{◌≡◌, ℕ, zero, suc, ◌*◌, ◌<◌, Bool, true, false, ◌&&◌, List, [], ◌∷◌, ◌++◌, length, map, drop, refl, sym, ap, ap₂, ◌∙◌, subst, arith}
-use Rattle.clause_decision.proofs.Common.{list_all, length-map, All-cons, All-nil, All-map, Trit, bits, Parts, CareSet, columns, state_of, is_allowed, is_in_invariant, is_care_vector, Formula, Rails, SaysColumns, says, IsModel, HasModelFrom, Grows, ReadsAll, AreWithin, All-within-more, ReadsAll-more, IsWithin, problem, Asks, models-same, SaysTest, IsOver, bit, is_one}
+use Rattle.clause_decision.proofs.Common.{list_all, length-map, All-cons, All-nil, All-map, Trit, bits, Parts, CareSet, columns, state_of, is_allowed, is_in_invariant, is_care_vector, Formula, Rails, SaysColumns, says, IsModel, HasModelFrom, Grows, Reads, ReadsAll, AreWithin, All-within-more, ReadsAll-more, IsWithin, problem, Asks, models-same, SaysTest, IsOver, bit, is_one, Question, IsQuestionOf}
 use Rattle.std.proofs.lemmas.List.{drop-map}
 use Rattle.std.proofs.lemmas.List.Sums.{AllPass-from_list_all, list_all-from_AllPass}
 use Rattle.std.specs.List.{All}
+use Rattle.std.specs.Prelude.{Contains}
+use Rattle.cyc_base.proofs.ListLemmas.{Contains-here, Contains-there}
 use Rattle.cyc_base.proofs.TruthLemmas.{and_with_true}
 use Rattle.ternary_clauses.specs.Formulas.{holds}
-use Rattle.clause_decision.specs.declared.question.Question.{Question}
 use Rattle.clause_decision.specs.Formulas.{IsCareFormula}
-use Rattle.clause_decision.specs.Questions.{IsQuestionOf}
 
 -- ---- readings of lists
 
@@ -21,6 +21,11 @@ ReadsAll-drop m (suc n) (r ∷ rs) (t ∷ ts) h = ReadsAll-drop m n rs ts h.1
 
 pub state-read : (m : List Bool) (n : ℕ) (rs : List Rails) (v : List Bool) → ReadsAll m rs (bits v) → ReadsAll m (drop n rs) (bits (drop n v))
 state-read m n rs v h = subst (ReadsAll m (drop n rs)) (drop-map bit n v) (ReadsAll-drop m n rs (bits v) h)
+
+-- rails that are read one by one
+pub reads-map : {A : Type 0} (m : List Bool) (f : A → Rails) (g : A → Bool) (xs : List A) → ((x : A) → Contains xs x → Reads m (f x) (bit (g x))) → ReadsAll m (map f xs) (bits (map g xs))
+reads-map m f g [] h = tt
+reads-map m f g (x ∷ xs) h = (h x (Contains-here x xs), reads-map m f g xs (λ y there. h y (Contains-there x xs y there)))
 
 -- the literals of the columns read the vector
 one-bit : (b : Bool) → is_one (bit b) ≡ b

@@ -1,11 +1,12 @@
 -- The literals of care models.
-use Rattle.std.proofs.Common.{◌≡◌, inl, inr, ℕ, zero, suc, ◌+◌, ◌-◌, ◌<◌, Bool, true, false, List, [], ◌∷◌, length, map, get_or, Option, Some, None, IfSome, refl, sym, ap, ap₂, ◌∙◌, subst, arith}
+use Rattle.std.proofs.Common.{◌≡◌, inl, inr, ℕ, ◌+◌, ◌-◌, ◌<◌, Bool, true, false, List, [], length, map, get_or, Option, Some, None, IfSome, refl, sym, ap, ap₂, ◌∙◌, subst, arith}
 use Rattle.std.specs.Prelude.{replicate}
 use Rattle.std.specs.List.{All}
-use Rattle.clause_decision.proofs.Common.{option_map_or, cases_lt, get_or-map, length-map, All-map, All-nil, All-get_or, Sig, Trit, Zero, One, X, bit, bits, Parts, IsNetlist, count, gate_at, no_gate, wire, fix, fix_gates, first_gate, gate_of, value_in, CareModel, CareSet, columns, holds_at, Formula, Rails, IsWanted, IsClosed, SaysNetlist, says, IsModel, Reads, ReadsAll, AreWithin, rails_at, no_rails, ReadsAll-at, SaysTest, ReadsWithin}
+use Rattle.clause_decision.proofs.Common.{option_map_or, cases_lt, get_or-map, length-map, All-map, All-nil, All-get_or, Sig, Trit, Zero, One, X, bit, bits, Parts, IsNetlist, count, gate_at, no_gate, wire, fix, fix_gates, first_gate, gate_of, value_in, CareModel, CareSet, columns, holds_at, Formula, Rails, IsWanted, IsClosed, SaysNetlist, says, IsModel, Reads, ReadsAll, AreWithin, rails_at, no_rails, ReadsAll-at, SaysTest, ReadsWithin, All-contains}
 use Rattle.std.specs.Option.{option_map}
 use Rattle.std.proofs.lemmas.List.{get_or-replicate, get_or_append_left, length-replicate}
 use Rattle.std.proofs.lemmas.Option.{same_Some}
+use Rattle.cyc_base.proofs.OrderLemmas.{bits-at}
 use Rattle.netlist.specs.Walks.{IsLoopFree}
 use Rattle.loops.proofs.Determined.{loop_free_is_determined}
 use Rattle.loops.proofs.Reading.{wire_of_gate}
@@ -15,8 +16,9 @@ use Rattle.care_sets.proofs.CareLemmas.{vectors_serve_assume, states_serve_invar
 use Rattle.ternary_clauses.specs.Encoding.{AreNeverUnknown}
 use Rattle.ternary_clauses.specs.Rails.{is_one as is_one_rail}
 use Rattle.ternary_clauses.proofs.LawLemmas.{still_is_fix_without_loops}
-use Rattle.ternary_clauses.proofs.ReadingLemmas.{ReadsAll-from, ReadsAll-length}
+use Rattle.ternary_clauses.proofs.ReadingLemmas.{ReadsAll-length}
 use Rattle.clause_decision.specs.Formulas.{accepts}
+use Rattle.clause_decision.proofs.FormulaLemmas.{reads-map}
 
 -- ---- all gates are wanted
 
@@ -82,27 +84,14 @@ module _ (net : Parts) (valid : IsNetlist net) (free : IsLoopFree net) (given : 
 pub inputs-read : (model : CareModel) (m : List Bool) (rails list : List Rails) (values : List Bool) → All (λ column. column - model.first < length rails) model.columns →
     list ≡ map (λ column. rails_at rails (column - model.first)) model.columns → ReadsAll m rails (bits values) → ReadsAll m list (bits (inputs_at model values))
 inputs-read model m rails list values within is reads =
+    let long : length rails ≡ length values = ReadsAll-length m rails (bits values) reads ∙ length-map values bit in
     subst (λ (rs : List Rails). ReadsAll m rs (bits (inputs_at model values))) (sym is)
-    (ReadsAll-from m (map (λ column. rails_at rails (column - model.first)) model.columns) (bits (inputs_at model values)) no_rails X same each)
-  where
-    same : length (map (λ column. rails_at rails (column - model.first)) model.columns) ≡ length (bits (inputs_at model values))
-    same =
-        length-map model.columns (λ column. rails_at rails (column - model.first))
-        ∙ sym (length-map (inputs_at model values) bit ∙ length-map model.columns (λ column. get_or values (column - model.first) false))
+    (reads-map m (λ column. rails_at rails (column - model.first)) (λ column. get_or values (column - model.first) false) model.columns (λ column there.
+    let place : ℕ = column - model.first in
+    let low : place < length rails = All-contains (λ c. c - model.first < length rails) model.columns column within there in
+    subst (Reads m (rails_at rails place)) (bits-at values place (omega (arith, low, long))) (ReadsAll-at m rails (bits values) place no_rails X low reads)))
 
-    each : (i : ℕ) → i < length (map (λ column. rails_at rails (column - model.first)) model.columns) →
-        Reads m (get_or (map (λ column. rails_at rails (column - model.first)) model.columns) i no_rails) (get_or (bits (inputs_at model values)) i X)
-    each i less =
-        let inside : i < length model.columns = (let l = length-map model.columns (λ column. rails_at rails (column - model.first)) in omega (arith, less, l)) in
-        let place : ℕ = get_or model.columns i 0 - model.first in
-        let low : place < length rails = within i 0 inside in
-        let long : length rails ≡ length values = ReadsAll-length m rails (bits values) reads ∙ length-map values bit in
-        subst (λ (r : Rails). Reads m r (get_or (bits (inputs_at model values)) i X)) (sym (get_or-map (λ column. rails_at rails (column - model.first)) model.columns i 0 no_rails inside))
-        (subst (λ (t : Trit). Reads m (rails_at rails place) t)
-        (get_or-map bit values place false X (omega (arith, low, long))
-        ∙ sym (get_or-map bit (inputs_at model values) i false X (let l = length-map model.columns (λ column. get_or values (column - model.first) false) in omega (arith, inside, l)) ∙ ap bit (get_or-map (λ column. get_or values (column - model.first) false) model.columns i 0 false inside)))
-        (ReadsAll-at m rails (bits values) place no_rails X low reads))
-
+-- so a literal for its inputs is one for the columns
 model-says : (old new : Formula) (model : CareModel) (rails list : List Rails) (literal : ℕ) → All (λ column. column - model.first < length rails) model.columns → list ≡ map (λ column. rails_at rails (column - model.first)) model.columns →
     SaysTest old new list (accepts model.net) literal → SaysTest old new rails (holds_at model) literal
 model-says old new model rails list literal within is said = record {
@@ -112,7 +101,7 @@ model-says old new model rails list literal within is said = record {
   complete = λ m values long holds reads. said.complete m (inputs_at model values) long holds (inputs-read model m rails list values within is reads);
 }
 
--- a model that is there, of its parts, with rails for what it reads
+-- a model that may be there, of its parts, with rails for what it reads
 module _ (o : Option CareModel) (net : Parts) (columns_read : List ℕ) (first : ℕ) (rails given : List Rails) (is : Some net ≡ option_map (λ model. model.net) o) (are : columns_read ≡ option_map_or (λ model. model.columns) o [])
     (reads : IfSome o (ReadsWithin first (length rails))) (given_is : given ≡ map (λ column. rails_at rails (column - first)) columns_read) where
   pub held-within : (k : ℕ) → All (AreWithin k) rails → All (AreWithin k) given
@@ -124,7 +113,7 @@ module _ (o : Option CareModel) (net : Parts) (columns_read : List ℕ) (first :
           subst (All (AreWithin k)) (sym (given_is ∙ ap (map (λ column. rails_at rails (column - first))) e)) (All-map (AreWithin k) (λ column. rails_at rails (column - first)) model.columns
           (λ j d less. All-get_or (AreWithin k) rails (get_or model.columns j d - first) no_rails (h.within j d less) all))
 
-  -- so a literal for its inputs is one for the columns
+  -- a literal for its inputs says whether it holds
   pub held-says : (old new : Formula) (literal : ℕ) → SaysTest old new given (accepts net) literal → SaysTest old new rails (λ v. option_map_or (λ model. holds_at model v) o true) literal
   held-says old new literal said = by o is are reads
     where

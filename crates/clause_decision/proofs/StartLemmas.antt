@@ -1,5 +1,5 @@
 -- What inits ask of a state.
-use Rattle.std.proofs.Common.{◌≡◌, inl, inr, ℕ, zero, suc, ◌+◌, ◌-◌, ◌*◌, ◌==◌, if◌then◌else◌, ◌<◌, Bool, true, false, not, ◌&&◌, List, [], ◌∷◌, ◌++◌, length, take, get_or, refl, sym, ap, ap₂, ◌∙◌, subst, arith}
+use Rattle.std.proofs.Common.{◌≡◌, ℕ, zero, suc, ◌+◌, ◌*◌, ◌<◌, Bool, true, false, not, ◌&&◌, List, [], ◌∷◌, ◌++◌, length, take, get_or, refl, sym, ap, ap₂, ◌∙◌, arith}
 use Rattle.std.specs.Prelude.{zip}
 use Rattle.clause_decision.proofs.Common.{list_all, All-nil, bit, bits, Latch, Parts, CareSet, is_in_invariant, Rails, says, negation, Reads, ReadsAll, AreWithin, is_one, says-negation, asked_starts}
 use Rattle.std.specs.List.{All}

@@ -1,13 +1,12 @@
 -- Sweeps of a loop on top of a cone, and how many are needed.
-use Rattle.std.proofs.Common.{◌≡◌, inl, inr, ℕ, zero, suc, ◌<◌, ◌≤◌, ◌+◌, ◌-◌, ◌*◌, Bool, true, false, not, ◌&&◌, ◌||◌, List, [], ◌∷◌, length, map, get_or, leb, Contains, refl, sym, ap, subst, ◌∙◌, arith, true≢false}
-use Rattle.std.specs.List.{All, list_any, range_with_len}
-use Rattle.clause_decision.proofs.Common.{cases_lt, and_parts, length-map, get_or_default, take_all, All-map, All-get_or, Contains-get_or, Sig, Trit, X, bit, bits, Parts, IsNetlist, count, gate_at, no_gate, signal, fix_gates, block_at, Loops, is_cut, CutsAreFixed, cuts_of, first_gate, gate_of, sweeps, value_in, map_agree, cut_values_agree, fixed_cuts_give_fix, gate_home, CareSet, columns, state_of, is_allowed, is_in_invariant, IsCareVector, Formula, Rails, IsWanted, gate_rails, says, negation, IsModel, HasModelFrom, Grows, Reads, ReadsAll, AreWithin, no_rails, rails_at, is_known, SaysAny, ReadsPlaces, says-negation, All-within-more, problem, HasNoModelUnder, models-same, column_rails, vector_in, ReadsFix, IsCone, first_number, AreTooFewAt, NeedAtLeast, TellsTooFew, AreCutPlaces, LoopAt, IsLoopAt, gates_in, loops_in, is_marked, AreClosed, IsCountAt, IsLeastCount, IsSwept}
+use Rattle.std.proofs.Common.{◌≡◌, inl, inr, ℕ, zero, suc, ◌<◌, ◌≤◌, ◌+◌, ◌-◌, ◌*◌, Bool, true, false, not, List, [], ◌∷◌, length, map, get_or, leb, Contains, refl, sym, ap, subst, ◌∙◌, arith, true≢false}
+use Rattle.std.specs.List.{All, list_any}
+use Rattle.clause_decision.proofs.Common.{cases_lt, length-map, get_or_default, take_all, All-map, All-get_or, Contains-get_or, Sig, Trit, X, bit, bits, Parts, IsNetlist, count, gate_at, no_gate, signal, fix_gates, block_at, Loops, CutsAreFixed, cuts_of, first_gate, gate_of, sweeps, value_in, map_agree, cut_values_agree, fixed_cuts_give_fix, gate_home, CareSet, columns, IsCareVector, Formula, Rails, IsWanted, gate_rails, says, negation, IsModel, HasModelFrom, Grows, Reads, ReadsAll, AreWithin, no_rails, rails_at, is_known, SaysAny, ReadsPlaces, says-negation, All-within-more, problem, HasNoModelUnder, models-same, column_rails, vector_in, ReadsFix, IsCone, first_number, AreTooFewAt, NeedAtLeast, TellsTooFew, AreCutPlaces, LoopAt, IsLoopAt, gates_in, loops_in, is_marked, AreClosed, IsCountAt, IsLeastCount, IsSwept, All-contains, Below-known, IsModelUnder}
 use Rattle.std.proofs.lemmas.Bool.{and_from, le-leb}
 use Rattle.std.proofs.lemmas.List.{get_or-replicate, get_or_past}
 use Rattle.std.proofs.lemmas.List.Folds.{Any-from_list_any, list_any_at}
 use Rattle.cyc_base.proofs.ListLemmas.{list_any-map}
-use Rattle.std.proofs.lemmas.List.Elements.{All-contains}
-use Rattle.cyc_base.proofs.OrderLemmas.{EachBelow-at, Below-known}
+use Rattle.cyc_base.proofs.OrderLemmas.{EachBelow-at}
 use Rattle.netlist.specs.Walks.{Feeds}
 use Rattle.loops.specs.Cuts.{AreLoopsOf}
 use Rattle.loops.specs.Sweeps.{in_loop_of}
@@ -17,7 +16,7 @@ use Rattle.refusals.specs.Acceptance.{SomeCareVector}
 use Rattle.ternary_clauses.specs.Sweeps.{ReadsOutside, SaysSweep}
 use Rattle.clause_queries.specs.declared.query.Reply.{Reply}
 use Rattle.clause_queries.specs.declared.query.Reply.TheVariants as replies
-use Rattle.clause_queries.specs.Queries.{IsModelUnder, IsReply}
+use Rattle.clause_queries.specs.Queries.{IsReply}
 use Rattle.clause_decision.specs.declared.counting.Sign.{Sign}
 use Rattle.clause_decision.specs.declared.counting.Sign.TheVariants as signs
 use Rattle.clause_decision.specs.declared.sweeping.Swept.{Swept}
@@ -26,7 +25,7 @@ use Rattle.clause_decision.specs.Scopes.{AreKnownOnCare}
 use Rattle.clause_decision.specs.Sweepings.{open_literals, AreKnownAfter, IsOpenAt, SaysOpen, TellsOpen}
 use Rattle.clause_decision.proofs.ConeLemmas.{care-read, care-under, cone-grows}
 use Rattle.clause_decision.proofs.LoopLemmas.{are-loops, cut-of, cuts-enough, gate-fits, of-loop}
-use Rattle.clause_decision.proofs.SignalLemmas.{negation-within, column_rails-length, signal-at, gate-read, three}
+use Rattle.clause_decision.proofs.SignalLemmas.{negation-within, signal-at, gate-read}
 use Rattle.clause_decision.proofs.UnknownLemmas.{unknown-value}
 
 -- ---- a literal for the cut wires that are unknown

@@ -1,8 +1,8 @@
 -- Which gates the models of a cone leave unknown.
-use Rattle.std.proofs.Common.{◌≡◌, inl, inr, ℕ, zero, suc, ◌<◌, ◌+◌, ◌*◌, Bool, true, false, not, ◌&&◌, ◌||◌, List, [], ◌∷◌, length, map, take, get_or, min, Option, Some, None, refl, sym, ap, ap₂, subst, ◌∙◌, arith, true≢false}
+use Rattle.std.proofs.Common.{◌≡◌, inl, inr, ℕ, ◌<◌, ◌+◌, ◌*◌, Bool, true, false, not, ◌&&◌, List, [], ◌∷◌, length, map, take, get_or, min, Option, Some, None, refl, sym, ap, ap₂, subst, ◌∙◌, arith, true≢false}
 use Rattle.std.specs.Prelude.{find, is_some}
 use Rattle.std.specs.List.{All, list_any}
-use Rattle.clause_decision.proofs.Common.{cases_lt, length-map, length-take-le, get_or-map, get_or-take, get_or_default, All-nil, All-cons, All-get_or, All-map, All-weaker, All-take, Trit, Zero, One, X, bits, Parts, wire, fix, fix_gates, count, gate_sig, first_gate, value_in, CareSet, columns, is_allowed, is_in_invariant, is_care_vector, state_of, Formula, Rails, IsWanted, gate_rails, says, negation, IsModel, ReadsAll, AreWithin, is_known, no_rails, SaysAny, says-negation, IsWithin, problem, HasNoModelUnder, Asks, models-same, column_rails, vector_in, ReadsAbove, ReadsFix, IsCone, is_marked, unknown_literals}
+use Rattle.clause_decision.proofs.Common.{cases_lt, length-map, length-take-le, get_or-map, get_or-take, get_or_default, All-get_or, All-map, All-weaker, Trit, Zero, One, X, bits, Parts, wire, fix, fix_gates, count, gate_sig, first_gate, value_in, CareSet, columns, is_allowed, is_in_invariant, is_care_vector, state_of, Formula, Rails, IsWanted, gate_rails, says, negation, IsModel, AreWithin, is_known, no_rails, SaysAny, says-negation, IsWithin, problem, HasNoModelUnder, Asks, models-same, column_rails, vector_in, ReadsAbove, ReadsFix, IsCone, is_marked, unknown_literals, IsModelUnder, Question, IsQuestionOf}
 use Rattle.std.proofs.lemmas.List.{length-take}
 use Rattle.std.proofs.lemmas.List.Folds.{Any-from_list_any, list_any_at}
 use Rattle.std.proofs.lemmas.Simd.{map-map}
@@ -16,11 +16,9 @@ use Rattle.refusals.proofs.RefusalLemmas.{gate_wire}
 use Rattle.refusals.proofs.ShowingLemmas.{is_x_decides}
 use Rattle.clause_decision.proofs.SignalLemmas.{negation-within, ones-within, three}
 use Rattle.clause_queries.specs.Each.{CanBe, CannotBe, TellEach}
-use Rattle.clause_queries.specs.Queries.{HasModelUnder, IsModelUnder, AreRising, IsFirst, IsFirstAt}
+use Rattle.clause_queries.specs.Queries.{HasModelUnder, AreRising, IsFirst, IsFirstAt}
 use Rattle.clause_queries.specs.declared.first.First.{First}
 use Rattle.clause_queries.specs.declared.first.First.TheVariants as firsts
-use Rattle.clause_decision.specs.declared.question.Question.{Question}
-use Rattle.clause_decision.specs.Questions.{IsQuestionOf}
 use Rattle.clause_decision.specs.Tests.{is_unknown_at, is_unknown, IsFirstUnknown, TellsFirstUnknown, TellEachUnknown}
 use Rattle.clause_decision.specs.Unknowns.{TellUnknowns}
 use Rattle.clause_decision.proofs.ConeLemmas.{care-under, cone-kept, vector-read}

@@ -1,4 +1,4 @@
-use Rattle.std.proofs.Common.{◌≡◌, ◌∙◌, ◌*◌, List, map, refl, ap}
+use Rattle.std.proofs.Common.{◌≡◌, ◌∙◌, ◌*◌, List, map, ap}
 use Rattle.clause_decision.proofs.Common.{length-map, Formula, Rails}
 use Rattle.clause_decision.proofs.FormulaLemmas.{care-asks, ones-within, question-of, two-within}
 use Rattle.clause_decision.proofs.care.care_question.Goals as goal

@@ -1,14 +1,13 @@
 use Rattle.std.proofs.Common.{rules, ◌≡◌, ◌∙◌, ◌+◌, ◌<◌, inl, inr, ℕ, Bool, List, length, get_or, replicate, refl, sym, ap, ap₂, subst, arith, length-append}
 use Rattle.std.specs.List.{Contains}
-use Rattle.std.specs.Vec.{with_items}
 use Rattle.clause_decision.proofs.Common.{cases_lt, length-map, Contains-get_or, Trit, X, bit, bits, Parts, fix, fix_gates, CutsAreFixed, value_in, IsReady, LoopAt, gates_in, loops_in, AreReaders}
 use Rattle.std.proofs.lemmas.Bool.Decides.{nat_tests}
 use Rattle.std.proofs.lemmas.List.{with_items_is}
 use Rattle.loops.proofs.Sweeps.{length-fix}
 use Rattle.clause_decision.specs.Events.{IsSwept}
 use Rattle.clause_decision.proofs.EventLemmas.{ready-first}
-use Rattle.clause_decision.proofs.LoopLemmas.{cuts-enough, gate-fits}
-use Rattle.clause_decision.proofs.SimulationLemmas.{changed-fits, changed-needs, still-fixed, swept-next, swept_at, unknown-first}
+use Rattle.clause_decision.proofs.LoopLemmas.{cuts-enough}
+use Rattle.clause_decision.proofs.SimulationLemmas.{changed-fits, changed-needs, still-fixed, swept-next, swept_at}
 use Rattle.clause_decision.proofs.simulating.count_at.Goals as goal
 use Rattle.clause_decision.proofs.simulating.count_at.Goals.{After-deref-2}
 
@@ -26,7 +25,7 @@ loop-sweeps-init c =
     let waiting : c.in_ok-waiting.waiting.items ≡ gates_in l = c.in_ok-waiting.ensures.items_if_clones_equal (search rules) ∙ c.gates-3.ensures.gates in
     record {
       ready = rw (before, after, waiting) (ready-first l (fix l.net (bits c.args.vector.now)));
-      at = λ n there cut. unknown-first l.net (loops_in l) (bits c.args.vector.now) c.in_ok-before.before.items before n;
+      at = λ n there cut. ap (λ (s : List Trit). value_in s n) before;
       more = λ a j inside low. absurd (omega (arith, low));
     }
 

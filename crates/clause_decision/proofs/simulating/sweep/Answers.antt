@@ -1,8 +1,8 @@
-use Rattle.std.proofs.Common.{◌≡◌, ◌∙◌, ◌<◌, ◌++◌, [], ◌∷◌, true, false, ℕ, List, length, get_or, set, sym, ap, subst, arith}
-use Rattle.clause_decision.proofs.Common.{get_or_default, Trit, is_cut, AreUnseen, IsSweeping, LoopAt, gates_in}
+use Rattle.std.proofs.Common.{◌≡◌, ◌∙◌, ◌<◌, ◌++◌, [], ◌∷◌, true, false, ℕ, List, length, get_or, sym, ap, subst, arith}
+use Rattle.clause_decision.proofs.Common.{get_or_default, Trit, is_cut, IsSweeping, LoopAt, gates_in}
 use Rattle.std.specs.List.{Contains}
 use Rattle.clause_decision.specs.Events.{IsDetermined, IsNewValue}
-use Rattle.clause_decision.proofs.EventLemmas.{cut-differs, cut-set, cut-unseen, gate-kept, taken-fits, taken-last, total, uncut-differs, uncut-set, uncut-unseen, waiting-inside, work_left, work_left-cut, work_left-kept, work_left-uncut}
+use Rattle.clause_decision.proofs.EventLemmas.{cut-differs, cut-set, cut-unseen, gate-kept, taken-fits, taken-last, total, uncut-differs, uncut-set, uncut-unseen, waiting-inside, work_left-cut, work_left-kept, work_left-uncut}
 use Rattle.clause_decision.proofs.simulating.sweep.Goals as goal
 use Rattle.clause_decision.proofs.simulating.sweep.Goals.{In-Some, In-Some-2, In_ok-extend_from_slice}
 
