@@ -1,9 +1,8 @@
 -- A literal that says whether two values aren't known and equal.
 use Rattle.std.proofs.Common.{◌≡◌, Bool, true, not, List, ◌++◌, length, refl, sym, ap, ◌∙◌, arith}
-use Rattle.ternary_clauses.proofs.Common.{Trit, bit, Formula, Rails, holds, IsModel, HasModelFrom, is_one, is_known, Reads, AreRailsOf, value_read}
+use Rattle.ternary_clauses.proofs.Common.{Trit, bit, Formula, Rails, holds, IsModel, HasModelFrom, is_one, is_known, Reads, AreRailsOf, value_read, TakesValue, HasNewRails}
 use Rattle.ternary_clauses.specs.Apart.{SaysApart}
 use Rattle.ternary_clauses.specs.Nodes.{agreed, apart_clauses}
-use Rattle.ternary_clauses.specs.Wires.{TakesValue, HasNewRails}
 use Rattle.ternary_clauses.proofs.GrowthLemmas.{Grows-chain, added-both, added-model, added-grows, model-here, model-after}
 use Rattle.ternary_clauses.proofs.NodeCases.{new_values, test_of, test-more, test-reads, every_four-at, alike, alike-same, alike-refl}
 use Rattle.ternary_clauses.proofs.NodeLemmas.{apart_of, apart-test, one-bit, known-bit}

@@ -1,10 +1,9 @@
 -- Column after column is added.
 use Rattle.std.proofs.Common.{◌≡◌, ℕ, ◌+◌, Bool, true, false, List, [], ◌∷◌, ◌++◌, length, take, get_or, refl, sym, ap, ◌∙◌, arith, append_assoc}
-use Rattle.ternary_clauses.proofs.Common.{length_push, All-nil, All-push, bit, bits, Formula, Rails, says, IsModel, IsFormula, HasModelFrom, Reads, ReadsAll, AreWithin, value_read, SaysColumns}
-use Rattle.std.proofs.lemmas.List.{length-take-le, map-append, take_all, take_more}
+use Rattle.ternary_clauses.proofs.Common.{length_push, All-nil, All-push, bit, bits, Formula, Rails, says, IsModel, IsFormula, HasModelFrom, Reads, ReadsAll, AreWithin, value_read, SaysColumns, take_more, TakesValue, HasNewRails}
+use Rattle.std.proofs.lemmas.List.{length-take-le, map-append, take_all}
 use Rattle.std.proofs.lemmas.Slice.Zip.{all_zipped_more}
 use Rattle.ternary_clauses.specs.Columns.{vector_read, HasVector}
-use Rattle.ternary_clauses.specs.Wires.{TakesValue, HasNewRails}
 use Rattle.ternary_clauses.proofs.ReadingLemmas.{ReadsAll-more, All-within-more}
 use Rattle.ternary_clauses.proofs.GrowthLemmas.{Grows-refl, Grows-chain, model-here}
 use Rattle.ternary_clauses.proofs.NodeLemmas.{known-bit, known-read}

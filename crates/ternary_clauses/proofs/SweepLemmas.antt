@@ -1,8 +1,8 @@
 -- The copies of a loop's gates after a sweep.
 use Rattle.std.proofs.Common.{◌≡◌, inl, inr, ℕ, zero, suc, ◌<◌, ◌+◌, ◌==◌, leb, Bool, true, false, not, if◌then◌else◌, List, [], ◌∷◌, ◌++◌, length, map, take, get_or, Contains, refl, sym, ap, subst, ◌∙◌, arith, append_assoc, true≢false}
-use Rattle.ternary_clauses.proofs.Common.{cases_lt, and_parts, and_from, length-map, length_push, get_or_append_left, All-nil, All-push, All-head, All-tail, All-get_or, All-weaker, All, AllZip, Sig, Trit, X, Gate, Parts, no_gate, gate_at, wire, is_cut, first_gate, gate_of, value_in, Formula, Rails, says, IsModel, IsFormula, HasModelFrom, Grows, Reads, ReadsAll, AreWithin, AreRailsOf, value_read, no_rails, AreCopies, IsSeen}
+use Rattle.ternary_clauses.proofs.Common.{cases_lt, and_parts, and_from, length-map, length_push, get_or_append_left, All-nil, All-push, All-head, All-tail, All-get_or, All-weaker, All, AllZip, Sig, Trit, X, Gate, Parts, no_gate, gate_at, wire, is_cut, first_gate, gate_of, value_in, Formula, Rails, says, IsModel, IsFormula, HasModelFrom, Grows, Reads, ReadsAll, AreWithin, AreRailsOf, value_read, no_rails, AreCopies, IsSeen, get_or_push, take_more, rails_at, CopiedLoop, AreCopied, TakesValue, HasNewRails}
 use Rattle.std.proofs.lemmas.Bool.{leb-true, le-leb, eq-eqb, eqb-true}
-use Rattle.std.proofs.lemmas.List.{get_or_past, get_or_push, get_or_default, take_more}
+use Rattle.std.proofs.lemmas.List.{get_or_past, get_or_default}
 use Rattle.std.proofs.lemmas.List.FromFn.{get_or-map-range_with_len}
 use Rattle.std.proofs.lemmas.List.Elements.{Contains-get_or}
 use Rattle.std.proofs.lemmas.Slice.Zip.{all_zipped_more}
@@ -19,9 +19,8 @@ use Rattle.loops.proofs.OrderedSweeps.{sweep_of_one_loop}
 use Rattle.loops.proofs.OrderLemmas.{block_rises, block_within}
 use Rattle.loops.proofs.Sweeps.{sweep_each}
 use Rattle.loops.proofs.Told.{blocks_tell_loops, blocks_have_loops, gate_home}
-use Rattle.ternary_clauses.specs.Rails.{rails_at, unknown_rails}
-use Rattle.ternary_clauses.specs.Sweeps.{ReadsPlaces, ReadsOutside, SaysSweep, HasCopies, CopiedLoop, IsCopiedLoop, IsCopyWithin, IsCopyOf, ReadsSeen, value_seen, BindsCopy, AreCopied}
-use Rattle.ternary_clauses.specs.Wires.{TakesValue, HasNewRails}
+use Rattle.ternary_clauses.specs.Rails.{unknown_rails}
+use Rattle.ternary_clauses.specs.Sweeps.{ReadsPlaces, ReadsOutside, SaysSweep, HasCopies, IsCopiedLoop, IsCopyWithin, IsCopyOf, ReadsSeen, value_seen, BindsCopy}
 use Rattle.ternary_clauses.proofs.NodeLemmas.{Reads-unique}
 use Rattle.ternary_clauses.proofs.ReadingLemmas.{Reads-more, All-within-more}
 use Rattle.ternary_clauses.proofs.GrowthLemmas.{Grows-refl, Grows-chain, model-here, model-after, rails-kept}

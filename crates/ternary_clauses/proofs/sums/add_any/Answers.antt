@@ -1,6 +1,5 @@
 use Rattle.std.proofs.Common.{◌≡◌, ◌<◌, ◌+◌, List, ℕ, ◌∷◌, [], ◌++◌, length, take, get_or, sym, subst, arith}
-use Rattle.std.proofs.lemmas.List.{take_more}
-use Rattle.ternary_clauses.proofs.Common.{SaysAny}
+use Rattle.ternary_clauses.proofs.Common.{SaysAny, take_more}
 use Rattle.ternary_clauses.proofs.SumLemmas.{IsLast, any-none, any-step, last-none, last-step}
 use Rattle.ternary_clauses.proofs.sums.add_any.Goals as goal
 

@@ -4,8 +4,7 @@ use Rattle.loops.specs.declared.structure.Cut.{Cut}
 use Rattle.loops.specs.Blocks.{block_at}
 use Rattle.loops.specs.Looped.{Looped}
 use Rattle.loops.proofs.OrderLemmas.{block_gates, block_rises, block_within}
-use Rattle.ternary_clauses.proofs.Common.{AreCopies}
-use Rattle.ternary_clauses.specs.Sweeps.{CopiedLoop, AreCopied}
+use Rattle.ternary_clauses.proofs.Common.{AreCopies, CopiedLoop, AreCopied}
 use Rattle.ternary_clauses.proofs.SweepLemmas.{copy_of, loop_copy, sweep-says}
 use Rattle.ternary_clauses.proofs.sweeps.add_sweep.Goals as goal
 use Rattle.ternary_clauses.proofs.sweeps.add_sweep.Goals.{After-deref}

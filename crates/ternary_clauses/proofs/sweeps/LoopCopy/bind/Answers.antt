@@ -1,10 +1,9 @@
 use Rattle.std.proofs.Common.{◌≡◌, ◌<◌, List, length, sym, ap, subst, ◌∙◌}
-use Rattle.ternary_clauses.proofs.Common.{All-get_or, on_ok_weaker, All, AllZip, Gate, no_gate, gate_at, Rails, AreWithin, AreRailsOf, IsSeen}
+use Rattle.ternary_clauses.proofs.Common.{All-get_or, on_ok_weaker, All, AllZip, Gate, no_gate, gate_at, Rails, AreWithin, AreRailsOf, IsSeen, rails_at, CopiedLoop}
 use Rattle.std.specs.List.{slice_index}
 use Rattle.std.specs.Prelude.{OnOk}
 use Rattle.dual_rail.specs.Local.{IsDiagramOf}
-use Rattle.ternary_clauses.specs.Rails.{rails_at}
-use Rattle.ternary_clauses.specs.Sweeps.{CopiedLoop, BindsCopy}
+use Rattle.ternary_clauses.specs.Sweeps.{BindsCopy}
 use Rattle.std.proofs.lemmas.Slice.Zip.{AllZip-long}
 use Rattle.ternary_clauses.proofs.sweeps.LoopCopy.bind.Goals as goal
 
