@@ -31,12 +31,3 @@ lift_node-requires-clause-table c = subst (IsTable c.args.local.now.store c.loop
 
 pub lift_node-requires-clause-rails : goal.lift_node-requires-clause-rails
 lift_node-requires-clause-rails c = All-within-more c.args.formula.now.variables c.loop-position.formula.variables c.args.pins.now c.loop-position.invariant.grown.grows.more c.requires.rails
-
-pub lift_node-requires-clause-formula : goal.lift_node-requires-clause-formula
-lift_node-requires-clause-formula c = c.loop-position.invariant.grown.grows.formula
-
-pub returns-clause-table : goal.returns-clause-table
-returns-clause-table c = c.loop-position.invariant.table
-
-pub returns-clause-extends : goal.returns-clause-extends
-returns-clause-extends c = c.loop-position.invariant.grown
