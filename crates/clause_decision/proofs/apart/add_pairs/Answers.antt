@@ -11,9 +11,6 @@ add_pair-requires-clause-rails c =
     let place = c.loop-pair.pair-index in
     rails-still c.args.formula.now c.loop-pair.formula c.args.rails.now c.loop-pair.invariant.adds.grows (get_or c.args.pairs.now place no_pair) (c.requires.rails place no_pair c.loop-pair-test.true)
 
-pub add_pair-requires-clause-formula : goal.add_pair-requires-clause-formula
-add_pair-requires-clause-formula c = c.loop-pair.invariant.adds.grows.formula
-
 pub loop-pair-preserved : goal.loop-pair-preserved
 loop-pair-preserved c =
     let pairs = c.args.pairs.now in

@@ -29,9 +29,6 @@ loop-sweeps-init c =
       more = λ a j inside low. absurd (omega (arith, low));
     }
 
-pub sweep-requires-clause-block : goal.sweep-requires-clause-block
-sweep-requires-clause-block c = c.cut_count-most.ensures.is
-
 pub sweep-requires-clause-readers : goal.sweep-requires-clause-readers
 sweep-requires-clause-readers c = subst (λ (rows : List (List ℕ)). AreReaders c.args.block.now (gates_in c.args.block.now) rows) (sym c.deref.ensures.value) c.in_ok-readers.ensures
 
