@@ -1,7 +1,8 @@
 -- The copies of a loop's gates after a sweep.
 use Rattle.std.proofs.Common.{◌≡◌, inl, inr, ℕ, zero, suc, ◌<◌, ◌+◌, ◌==◌, leb, Bool, true, false, not, if◌then◌else◌, List, [], ◌∷◌, ◌++◌, length, map, take, get_or, Contains, refl, sym, ap, subst, ◌∙◌, arith, append_assoc, true≢false}
 use Rattle.ternary_clauses.proofs.Common.{cases_lt, and_parts, and_from, length-map, length_push, get_or_append_left, All-nil, All-push, All-head, All-tail, All-get_or, All-weaker, All, AllZip, Sig, Trit, X, Gate, Parts, no_gate, gate_at, wire, is_cut, first_gate, gate_of, value_in, Formula, Rails, says, IsModel, IsFormula, HasModelFrom, Grows, Reads, ReadsAll, AreWithin, AreRailsOf, value_read, no_rails, AreCopies, IsSeen, get_or_push, take_more, rails_at, CopiedLoop, AreCopied, TakesValue, HasNewRails}
-use Rattle.std.proofs.lemmas.Bool.{leb-true, le-leb, eq-eqb, eqb-true}
+use Rattle.std.proofs.lemmas.Bool.Decides.{nat_tests}
+use Rattle.std.proofs.lemmas.Bool.{leb-true, le-leb, eq-eqb}
 use Rattle.std.proofs.lemmas.List.{get_or_past, get_or_default}
 use Rattle.std.proofs.lemmas.List.FromFn.{get_or-map-range_with_len}
 use Rattle.std.proofs.lemmas.List.Elements.{Contains-get_or}
@@ -165,11 +166,7 @@ copy_value m (g ∷ gates) [] n = X
 copy_value m (g ∷ gates) (r ∷ rs) n = if g == n then value_read m r else copy_value m gates rs n
 
 differ : (a b : ℕ) → a < b → (a == b) ≡ false
-differ a b less = by (a == b) refl
-  where
-    by : (x : Bool) → (a == b) ≡ x → (a == b) ≡ false
-    by false e = e
-    by true e = absurd (let same : a ≡ b = eqb-true a b e in omega (arith, less, same))
+differ a b less = grind (arith, nat_tests)
 
 rise-tail : (g : ℕ) (gates : List ℕ) → Rise (g ∷ gates) → Rise gates
 rise-tail g gates rise i j less inside = rise (suc i) (suc j) (omega (arith, less)) (omega (arith, inside))
