@@ -132,9 +132,7 @@ module _ (l : LoopAt) (outside : List Trit) where
         | inr is ↦ inr is
         | inl waits ↦ elim (Contains-push_cases rest g n waits) [
           | inl early ↦ inl early
-          | inr same ↦
-              inr (subst (λ (m : ℕ). value_in after m ≡ cover_value l outside before after m) same
-              (same-or-unknown (value_in after g) (cover_value l outside before after g) (h.below g waiting-inside) none))
+          | inr same ↦ inr (rw same at (same-or-unknown (value_in after g) (cover_value l outside before after g) (h.below g waiting-inside) none))
         ]
       ];
     }
