@@ -6,9 +6,7 @@ use Rattle.blif_text.specs.WordBuffers.{cut, last_end, Rises}
 
 pub rises_bound : {M : Type 0} (end_of : M → ℕ) (from : ℕ) (ms : List M) (len : ℕ) → Rises end_of from ms len → (from ≤ last_end end_of from ms) × (last_end end_of from ms ≤ len)
 rises_bound end_of from [] len rises = (omega arith, rises)
-rises_bound end_of from (m ∷ ms) len rises =
-    let more = rises_bound end_of (end_of m) ms len rises.1 in
-    (omega (arith, rises.0, more.0), more.1)
+rises_bound end_of from (m ∷ ms) len rises = grind (arith, rises_bound end_of (end_of m) ms len rises.1)
 
 -- up to any length that the last end is within
 pub rises_to : {M : Type 0} (end_of : M → ℕ) (from : ℕ) (ms : List M) (len other : ℕ) → Rises end_of from ms len → last_end end_of from ms ≤ other → Rises end_of from ms other
@@ -24,19 +22,12 @@ last_end_end end_of from [] m = refl
 last_end_end end_of from (x ∷ xs) m = last_end_end end_of (end_of x) xs m
 
 part_more : {X : Type 0} (from to : ℕ) (xs ys : List X) → from ≤ to → to ≤ length xs → take (to - from) (drop from (xs ++ ys)) ≡ take (to - from) (drop from xs)
-part_more from to xs ys low high =
-    let fits : from ≤ length xs = omega arith in
-    let inside : to - from ≤ length (drop from xs) = simp length-drop (omega arith) in
-    ap (take (to - from)) (drop-append-le from xs ys fits) ∙ take-append-le (to - from) (drop from xs) ys inside
+part_more from to xs ys low high = grind (arith, length-drop, drop-append-le, take-append-le)
 
 pub cut_more : {M X Y : Type 0} (end_of : M → ℕ) (made : M → List X → Y) (xs ys : List X) (from : ℕ) (ms : List M) → Rises end_of from ms (length xs)
     → cut end_of made (xs ++ ys) from ms ≡ cut end_of made xs from ms
 cut_more end_of made xs ys from [] rises = refl
-cut_more end_of made xs ys from (m ∷ ms) rises =
-    let bound = rises_bound end_of (end_of m) ms (length xs) rises.1 in
-    let high : end_of m ≤ length xs = omega (arith, bound.0, bound.1) in
-    ap (λ part. made m part ∷ cut end_of made (xs ++ ys) (end_of m) ms) (part_more from (end_of m) xs ys rises.0 high)
-    ∙ ap (λ rest. made m (take (end_of m - from) (drop from xs)) ∷ rest) (cut_more end_of made xs ys (end_of m) ms rises.1)
+cut_more end_of made xs ys from (m ∷ ms) rises = grind (arith, rises_bound, part_more, cut_more end_of made xs ys (end_of m) ms rises.1)
 
 take_all : {X : Type 0} (xs : List X) (n : ℕ) → n ≡ length xs → take n xs ≡ xs
 take_all xs n is = grind (arith, common_steps)
@@ -44,11 +35,8 @@ take_all xs n is = grind (arith, common_steps)
 pub cut_end : {M X Y : Type 0} (end_of : M → ℕ) (made : M → List X → Y) (xs : List X) (from : ℕ) (ms : List M) (m : M) → Rises end_of from ms (length xs)
     → end_of m ≡ length xs
     → cut end_of made xs from (ms ++ m ∷ []) ≡ cut end_of made xs from ms ++ made m (drop (last_end end_of from ms) xs) ∷ []
-cut_end end_of made xs from [] m rises is =
-    let size : end_of m - from ≡ length (drop from xs) = simp length-drop (omega arith) in
-    ap (λ part. made m part ∷ []) (take_all (drop from xs) (end_of m - from) size)
-cut_end end_of made xs from (x ∷ more) m rises is =
-    ap (λ rest. made x (take (end_of x - from) (drop from xs)) ∷ rest) (cut_end end_of made xs (end_of x) more m rises.1 is)
+cut_end end_of made xs from [] m rises is = grind (arith, length-drop, take_all)
+cut_end end_of made xs from (x ∷ more) m rises is = grind (arith, cut_end end_of made xs (end_of x) more m rises.1 is)
 
 pub length_cut : {M X Y : Type 0} (end_of : M → ℕ) (made : M → List X → Y) (xs : List X) (from : ℕ) (ms : List M) → length (cut end_of made xs from ms) ≡ length ms
 length_cut end_of made xs from [] = refl
@@ -80,7 +68,5 @@ cut_at end_of made xs from (m ∷ ms) (suc k) d e inside = cut_at end_of made xs
 pub part_within : {M : Type 0} (end_of : M → ℕ) (from : ℕ) (ms : List M) (len k : ℕ) (d : M) → Rises end_of from ms len → k < length ms
     → (end_before end_of from ms k ≤ end_of (get_or ms k d)) × (end_of (get_or ms k d) ≤ len)
 part_within end_of from [] len k d rises inside = absurd (omega arith)
-part_within end_of from (m ∷ ms) len zero d rises inside =
-    let bound = rises_bound end_of (end_of m) ms len rises.1 in
-    (rises.0, omega (arith, bound.0, bound.1))
+part_within end_of from (m ∷ ms) len zero d rises inside = grind (arith, rises_bound)
 part_within end_of from (m ∷ ms) len (suc k) d rises inside = part_within end_of (end_of m) ms len k d rises.1 (omega arith)

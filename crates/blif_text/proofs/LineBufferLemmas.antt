@@ -34,9 +34,7 @@ word_empty [] none = refl
 word_empty (x ∷ xs) none = absurd (omega arith)
 
 pub are_marks_more : (parts : List (List ℕ)) (marks : List Mark) (word : List ℕ) → AreMarks parts marks → AreMarks (parts ++ word ∷ []) marks
-are_marks_more parts marks word are =
-    let bound = rises_bound end_of 0 marks (length parts) are.rises in
-    record { rises = rises_to end_of 0 marks (length parts) (length (parts ++ word ∷ [])) are.rises (simp length-append (omega (arith, bound.1))) }
+are_marks_more parts marks word are = grind (arith, rises_bound, rises_to, length-append)
 
 pub done_more : (parts : List (List ℕ)) (marks : List Mark) (word : List ℕ) → AreMarks parts marks → done_of (parts ++ word ∷ []) marks ≡ done_of parts marks
 unfolding done_of
@@ -58,9 +56,7 @@ line_empty n (w ∷ ws) none = absurd (omega arith)
 
 pub words_length : (parts : List (List ℕ)) (marks : List Mark) → AreMarks parts marks → length (words_left parts marks) + last_end end_of 0 marks ≡ length parts
 unfolding words_left
-words_length parts marks are =
-    let bound = rises_bound end_of 0 marks (length parts) are.rises in
-    simp length-drop (omega (arith, bound.1))
+words_length parts marks are = grind (arith, rises_bound, length-drop)
 
 pub are_marks_end : (parts : List (List ℕ)) (marks : List Mark) (m : Mark) → AreMarks parts marks → m.end ≡ length parts → AreMarks parts (marks ++ m ∷ [])
 are_marks_end parts marks m are is = record { rises = rises_end end_of 0 marks m (length parts) are.rises is }
@@ -72,8 +68,7 @@ done_end parts marks m are is = cut_end end_of line_of parts 0 marks m are.rises
 
 pub words_end : (parts : List (List ℕ)) (marks : List Mark) (m : Mark) → m.end ≡ length parts → words_left parts (marks ++ m ∷ []) ≡ []
 unfolding words_left
-words_end parts marks m is =
-    ap (λ at. drop at parts) (last_end_end end_of 0 marks m ∙ is) ∙ drop_of_length-le parts (omega arith)
+words_end parts marks m is = grind (arith, last_end_end, drop_of_length-le)
 
 -- Lines at a place.
 
@@ -84,9 +79,7 @@ length_done parts marks = length_cut end_of line_of parts 0 marks
 pub last_mark_is : (from : ℕ) (marks : List Mark) (d : Mark) → 0 < length marks → (get_or marks (length marks - 1) d).end ≡ last_end end_of from marks
 last_mark_is from [] d some = absurd (omega arith)
 last_mark_is from (x ∷ []) d some = refl
-last_mark_is from (x ∷ y ∷ ys) d some =
-    let e : (suc (length (y ∷ ys)) - 1) ≡ suc (length (y ∷ ys) - 1) = omega arith in
-    rw e (last_mark_is x.end (y ∷ ys) d (omega arith))
+last_mark_is from (x ∷ y ∷ ys) d some = grind (arith, last_mark_is x.end (y ∷ ys) d)
 
 begins_is : (marks : List Mark) (k : ℕ) → k < length marks → end_before end_of 0 marks k ≡ mark_begins marks k
 begins_is marks zero inside = begins_first end_of 0 marks
@@ -94,8 +87,7 @@ begins_is marks (suc k) inside =
     let e : suc k - 1 ≡ k = omega arith in
     let differs : suc k ≢ 0 = omega arith in
     let none : Mark = record { number = 0; end = 0 } in
-    begins_later end_of 0 marks k none (omega arith)
-    ∙ sym (ap (λ (t : Bool). if t then 0 else end_of (mark_at marks (suc k - 1))) (ne_eqb (suc k) 0 differs) ∙ ap (λ at. end_of (mark_at marks at)) e)
+    grind (arith, begins_later end_of 0 marks k none, ne_eqb (suc k) 0 differs)
 
 pub record LineAt (parts : List (List ℕ)) (marks : List Mark) (i from : ℕ) : Type 0 where
   pub low : from ≤ (mark_at marks i).end
@@ -104,12 +96,7 @@ pub record LineAt (parts : List (List ℕ)) (marks : List Mark) (i from : ℕ) :
 
 pub line_is : (parts : List (List ℕ)) (marks : List Mark) (i : ℕ) → AreMarks parts marks → i < length marks → LineAt parts marks i (mark_begins marks i)
 unfolding done_of
-line_is parts marks i are inside =
-    let none : Mark = record { number = 0; end = 0 } in
-    let empty : Line = record { number = 0; words = [] } in
-    let within = part_within end_of 0 marks (length parts) i none are.rises inside in
-    let P : ℕ → Type 0 = λ from. LineAt parts marks i from in
-    subst P (begins_is marks i inside) (record { low = within.0; high = within.1; line = cut_at end_of line_of parts 0 marks i none empty inside })
+line_is parts marks i are inside = grind (arith, part_within end_of 0 marks (length parts) i, begins_is marks i inside, cut_at end_of line_of parts 0 marks i)
 
 -- Under names that goals show.
 
@@ -136,8 +123,7 @@ line_high parts marks i are inside = (line_is parts marks i are inside).high
 
 pub line_between : (parts : List (List ℕ)) (marks : List Mark) (i from : ℕ) → AreMarks parts marks → i < length marks → from ≡ mark_begins marks i
     → record { number = (mark_at marks i).number; words = slice_range parts from (mark_at marks i).end } ≡ line_at (done_of parts marks) i
-line_between parts marks i from are inside is =
-    ap (λ at. line_of (mark_at marks i) (slice_range parts at (mark_at marks i).end)) is ∙ sym (line_is parts marks i are inside).line
+line_between parts marks i from are inside is = grind (arith, line_is)
 
 pub done_kept : (parts : List (List ℕ)) (marks : List Mark) (n : ℕ) → AreMarks parts marks → length parts ≤ last_end end_of 0 marks
     → done_of parts marks ≡ done_of parts marks ++ line_if_filled n (words_left parts marks)

@@ -20,8 +20,7 @@ is_hash : (b : ℕ) → b ≡ 35 → (b == 35) ≡ true
 is_hash b e = ap (λ n. n == 35) e
 
 no_hash_front : (t : Bool) (b : ℕ) (rest : List ℕ) → (b == 35) ≡ t → All NoHash rest → All NoHash (if t then [] else b ∷ rest)
-no_hash_front true b rest is each = All-nil NoHash
-no_hash_front false b rest is each = All-cons NoHash b rest (λ e. let both = sym is ∙ is_hash b e in cc both) each
+no_hash_front t b rest is each = grind arith
 
 no_hash : (line : List ℕ) → All NoHash (before_hash line)
 no_hash [] = All-nil NoHash
@@ -29,23 +28,18 @@ no_hash (b ∷ rest) = no_hash_front (b == 35) b (before_hash rest) refl (no_has
 
 line_bytes : (line : List ℕ) → list_all is_allowed line ≡ true → All NoHash line → All IsLineByte line
 line_bytes [] allowed hash = All-nil IsLineByte
-line_bytes (b ∷ rest) allowed hash =
-    All-cons IsLineByte b rest (first_of_and (is_allowed b) (list_all is_allowed rest) allowed, All-head NoHash b rest hash)
-    (line_bytes rest (second_of_and (is_allowed b) (list_all is_allowed rest) allowed) (All-tail NoHash b rest hash))
+line_bytes (b ∷ rest) allowed hash = grind (arith, All-cons, first_of_and, All-head, line_bytes rest (second_of_and (is_allowed b) (list_all is_allowed rest) allowed) (All-tail NoHash b rest hash), second_of_and, All-tail)
 
 abbrev IsCleanLine : List ℕ → Type 0
 IsCleanLine line = All IsLineByte line
 
 clean_front : (t : Bool) (n : ℕ) (line : List ℕ) (rest : List (List ℕ)) → list_all is_allowed line ≡ t → (if t then bad_byte (n + 1) rest else Some n) ≡ None
     → (list_all is_allowed line ≡ true) × (bad_byte (n + 1) rest ≡ None)
-clean_front true n line rest is none = (is, none)
-clean_front false n line rest is none = absurd (cc none)
+clean_front t n line rest is none = grind arith
 
 clean_lines : (n : ℕ) (whole : List (List ℕ)) → bad_byte n (map before_hash whole) ≡ None → All IsCleanLine (map before_hash whole)
 clean_lines n [] none = All-nil IsCleanLine
-clean_lines n (line ∷ rest) none =
-    let both = clean_front (list_all is_allowed (before_hash line)) n (before_hash line) (map before_hash rest) refl none in
-    All-cons IsCleanLine (before_hash line) (map before_hash rest) (line_bytes (before_hash line) both.0 (no_hash line)) (clean_lines (n + 1) rest both.1)
+clean_lines n (line ∷ rest) none = grind (arith, clean_front, All-cons, line_bytes, no_hash, clean_lines (n + 1) rest)
 
 -- Joined lines.
 
@@ -85,10 +79,7 @@ printed_range : (b : ℕ) → is_printed b ≡ true → (33 ≤ b) × (b ≤ 126
 printed_range b is = grind (arith, nat_tests)
 
 name_byte : (b : ℕ) → IsLineByte b → is_blank b ≡ false → IsBlifByte b
-name_byte b clean other =
-    let printed : is_printed b ≡ true = sym (ap (λ t. t || is_printed b) other) ∙ clean.0 in
-    let range = printed_range b printed in
-    (range.0, range.1, clean.1)
+name_byte b clean other = grind arith
 
 abbrev IsNamePart : List ℕ → Type 0
 IsNamePart part = All IsBlifByte part
@@ -100,19 +91,16 @@ parts_front b (part ∷ parts) is each =
 
 parts_choice : (t : Bool) (b : ℕ) (parts : List (List ℕ)) → is_blank b ≡ t → IsLineByte b → All IsNamePart parts
     → All IsNamePart (if t then [] ∷ parts else in_front b parts)
-parts_choice true b parts blank clean each = All-cons IsNamePart [] parts (All-nil IsBlifByte) each
-parts_choice false b parts blank clean each = parts_front b parts (name_byte b clean blank) each
+parts_choice t b parts blank clean each = grind (arith, All-cons, All-nil, parts_front, name_byte)
 
 name_parts : (bytes : List ℕ) → All IsLineByte bytes → All IsNamePart (pieces is_blank bytes)
 name_parts [] each = All-cons IsNamePart [] [] (All-nil IsBlifByte) (All-nil IsNamePart)
-name_parts (b ∷ rest) each =
-    parts_choice (is_blank b) b (pieces is_blank rest) refl (All-head IsLineByte b rest each) (name_parts rest (All-tail IsLineByte b rest each))
+name_parts (b ∷ rest) each = grind (arith, parts_choice (is_blank b) b (pieces is_blank rest), All-head IsLineByte b rest each, name_parts rest (All-tail IsLineByte b rest each), All-tail IsLineByte b rest each)
 
 filled_names : (parts : List (List ℕ)) → All IsNamePart parts → All IsBlifName (filter is_filled parts)
 filled_names [] each = All-nil IsBlifName
 filled_names ([] ∷ parts) each = filled_names parts (All-tail IsNamePart [] parts each)
-filled_names ((b ∷ rest) ∷ parts) each =
-    All-cons IsBlifName (b ∷ rest) (filter is_filled parts) ((λ e. cc e), All-head IsNamePart (b ∷ rest) parts each) (filled_names parts (All-tail IsNamePart (b ∷ rest) parts each))
+filled_names ((b ∷ rest) ∷ parts) each = grind (arith, All-cons, All-head, filled_names parts (All-tail IsNamePart (b ∷ rest) parts each), All-tail)
 
 abbrev pub HasNames : Line → Type 0
 HasNames line = All IsBlifName line.words
@@ -128,13 +116,10 @@ logical_names joins whole each = All-filter has_words HasNames (map in_words (jo
 
 -- Where there are lines there is no bad byte.
 pub found_is : (bad : Option ℕ) (all found : List Line) → unless_bad bad all ≡ Ok found → (bad ≡ None) × (all ≡ found)
-found_is (Some n) all found is = absurd (cc is)
-found_is None all found is = (refl, cc is)
+found_is bad all found is = grind arith
 
 pub words_are_names : (text : List ℕ) (joins : Bool) (found : List Line) → lines text joins ≡ Ok found → All HasNames found
-words_are_names text joins found is =
-    let both = found_is (bad_byte 1 (physical text)) (logical joins (physical text)) found is in
-    subst (All HasNames) both.1 (logical_names joins (physical text) (clean_lines 1 (pieces is_lf (without_cr text)) both.0))
+words_are_names text joins found is = grind (arith, found_is (bad_byte 1 (physical text)) (logical joins (physical text)) found is, logical_names joins (physical text), clean_lines 1 (pieces is_lf (without_cr text)))
 
 -- How many words there are.
 
@@ -147,15 +132,11 @@ front_size b [] = refl
 front_size b (part ∷ parts) = omega arith
 
 pieces_choice_size : (t : Bool) (b : ℕ) (parts : List (List ℕ)) → total length (if t then [] ∷ parts else in_front b parts) ≤ 1 + total length parts
-pieces_choice_size true b parts = omega arith
-pieces_choice_size false b parts = let e = front_size b parts in omega arith
+pieces_choice_size t b parts = grind arith
 
 pieces_size : (cuts : ℕ → Bool) (bytes : List ℕ) → total length (pieces cuts bytes) ≤ length bytes
 pieces_size cuts [] = omega arith
-pieces_size cuts (b ∷ rest) =
-    let here = pieces_choice_size (cuts b) b (pieces cuts rest) in
-    let more = pieces_size cuts rest in
-    omega arith
+pieces_size cuts (b ∷ rest) = grind (arith, pieces_choice_size, pieces_size cuts rest)
 
 filled_count : (parts : List (List ℕ)) → length (filter is_filled parts) ≤ total length parts
 filled_count [] = omega arith
@@ -176,15 +157,11 @@ in_words_count [] = omega arith
 in_words_count (line ∷ rest) = let here = words_count line.bytes in let more = in_words_count rest in omega arith
 
 has_words_choice : (t : Bool) (line : Line) (rest : List Line) → total word_count (if t then line ∷ rest else rest) ≤ word_count line + total word_count rest
-has_words_choice true line rest = omega arith
-has_words_choice false line rest = omega arith
+has_words_choice t line rest = grind arith
 
 has_words_count : (whole : List Line) → total word_count (filter has_words whole) ≤ total word_count whole
 has_words_count [] = omega arith
-has_words_count (line ∷ rest) =
-    let here = has_words_choice (has_words line) line (filter has_words rest) in
-    let more = has_words_count rest in
-    omega arith
+has_words_count (line ∷ rest) = grind (arith, has_words_choice, has_words_count rest)
 
 without_last_size : (line : List ℕ) → ends_in_backslash line ≡ true → length (without_last line) + 1 ≡ length line
 without_last_size [] ends = absurd (cc ends)
@@ -197,22 +174,14 @@ continued_size n line (next ∷ rest) = let e = length-append line (32 ∷ next.
 
 joined_choice_size : (t : Bool) (n : ℕ) (line : List ℕ) (rest : List Joined) → (t ≡ true → ends_in_backslash line ≡ true)
     → total byte_count (if t then continued n (without_last line) rest else record { number = n; bytes = line } ∷ rest) ≤ length line + total byte_count rest
-joined_choice_size true n line rest ends =
-    let size = without_last_size line (ends refl) in
-    let here = continued_size n (without_last line) rest in
-    omega arith
-joined_choice_size false n line rest ends = omega arith
+joined_choice_size t n line rest ends = grind (arith, without_last_size, continued_size)
 
 joined_size : (joins : Bool) (n : ℕ) (whole : List (List ℕ)) → total byte_count (joined joins n whole) ≤ total length whole
 joined_size joins n [] = omega arith
-joined_size joins n (line ∷ rest) =
-    let here = joined_choice_size (joins && ends_in_backslash line) n line (joined joins (n + 1) rest) (second_of_and joins (ends_in_backslash line)) in
-    let more = joined_size joins (n + 1) rest in
-    omega arith
+joined_size joins n (line ∷ rest) = grind (arith, joined_choice_size, second_of_and, joined_size joins (n + 1) rest)
 
 hash_choice_size : (t : Bool) (b : ℕ) (rest : List ℕ) → length (if t then [] else b ∷ rest) ≤ 1 + length rest
-hash_choice_size true b rest = omega arith
-hash_choice_size false b rest = omega arith
+hash_choice_size t b rest = grind arith
 
 before_hash_size : (line : List ℕ) → length (before_hash line) ≤ length line
 before_hash_size [] = omega arith
@@ -223,25 +192,11 @@ cleaned_size [] = omega arith
 cleaned_size (line ∷ rest) = let here = before_hash_size line in let more = cleaned_size rest in omega arith
 
 cr_choice_size : (t : Bool) (b : ℕ) (rest : List ℕ) → length (if t then rest else b ∷ rest) ≤ 1 + length rest
-cr_choice_size true b rest = omega arith
-cr_choice_size false b rest = omega arith
+cr_choice_size t b rest = grind arith
 
 without_cr_size : (text : List ℕ) → length (without_cr text) ≤ length text
 without_cr_size [] = omega arith
-without_cr_size (b ∷ rest) =
-    let here = cr_choice_size ((b == 13) && begins_with 10 rest) b (without_cr rest) in
-    let more = without_cr_size rest in
-    omega arith
+without_cr_size (b ∷ rest) = grind (arith, cr_choice_size, without_cr_size rest)
 
 pub words_are_few : (text : List ℕ) (joins : Bool) (found : List Line) → lines text joins ≡ Ok found → total word_count found ≤ length text
-words_are_few text joins found is =
-    let both = found_is (bad_byte 1 (physical text)) (logical joins (physical text)) found is in
-    let whole = pieces is_lf (without_cr text) in
-    let a = has_words_count (map in_words (joined joins 1 (physical text))) in
-    let b = in_words_count (joined joins 1 (physical text)) in
-    let c = joined_size joins 1 (physical text) in
-    let d = cleaned_size whole in
-    let e = pieces_size is_lf (without_cr text) in
-    let f = without_cr_size text in
-    let P : List Line → Type 0 = λ all. total word_count all ≤ length text in
-    subst P both.1 (omega arith)
+words_are_few text joins found is = grind (arith, found_is, has_words_count, in_words_count, joined_size, cleaned_size, pieces_size, without_cr_size)

@@ -1,5 +1,5 @@
 -- Marks in two lists, one behind the other.
-use Rattle.std.proofs.Common.{◌≡◌, ℕ, ◌-◌, ◌<◌, ◌≤◌, List, [], ◌∷◌, ◌++◌, map, length, get_or, sym, ap, ◌∙◌}
+use Rattle.std.proofs.Common.{◌≡◌, ℕ, ◌-◌, ◌<◌, ◌≤◌, List, [], ◌∷◌, ◌++◌, map, length, get_or, sym, ap, ◌∙◌, arith}
 use Rattle.std.proofs.lemmas.List.{get_or_append_left, get_or-append_right, get_or-map, map-append, length-map}
 use Rattle.blif_text.specs.declared.marks.Mark.{Mark}
 use Rattle.blif_text.specs.declared.marks.ShortMark.{ShortMark}
@@ -8,17 +8,11 @@ use Rattle.blif_text.proofs.EndsLemmas.{push_short as ends_short}
 
 pub push_short : (short : List ShortMark) (long : List Mark) (x : ShortMark) (m : Mark) → mark_of x ≡ m → length long ≡ 0
     → map mark_of (short ++ x ∷ []) ++ long ≡ (map mark_of short ++ long) ++ m ∷ []
-push_short short long x m is none =
-    ap (λ marks. marks ++ long) (map-append mark_of short (x ∷ []))
-    ∙ ends_short (map mark_of short) long (mark_of x) none
-    ∙ ap (λ last. (map mark_of short ++ long) ++ last ∷ []) is
+push_short short long x m is none = grind (arith, map-append, ends_short)
 
 pub at_short : (short : List ShortMark) (long : List Mark) (i : ℕ) (x : ShortMark) (d : Mark) → i < length short → x ≡ get_or short i x
     → mark_of x ≡ get_or (map mark_of short ++ long) i d
-at_short short long i x d here is =
-    ap mark_of is
-    ∙ sym (get_or-map mark_of short i x d here)
-    ∙ sym (get_or_append_left (map mark_of short) long d i (rw (length-map short mark_of) here))
+at_short short long i x d here is = grind (arith, get_or-map, get_or_append_left, length-map)
 
 pub at_long : (short : List ShortMark) (long : List Mark) (i : ℕ) (d : Mark) → length short ≤ i
     → get_or long (i - length short) d ≡ get_or (map mark_of short ++ long) i d

@@ -25,9 +25,7 @@ pub record Stands (s : State) (i : ℕ) : Type 0 where
   pub number : s.number ≤ i + 1
 
 pub stands_start : (s : State) → s ≡ start → Stands s 0
-stands_start s is =
-    let P : State → Type 0 = λ now. Stands now 0 in
-    subst P (sym is) (record { no_blank = tt; number = omega arith })
+stands_start s is = grind arith
 
 pub left_start : (text : List ℕ) (joins : Bool) (s : State) → s ≡ start → left joins text s 0 ≡ lines text joins
 left_start text joins s is = ap (λ now. left joins text now 0) is ∙ (reads_start text joins).whole
@@ -36,40 +34,24 @@ left_start text joins s is = ap (λ now. left joins text now 0) is ∙ (reads_st
 
 next_by : (text : List ℕ) (joins : Bool) (s next : State) (i : ℕ) (t : Bool) → Stands s i → i < length text → ((get_or text i 0 == 13) && begins_with 10 (drop (i + 1) text)) ≡ t
     → (if t then Some s else step joins s (get_or text i 0)) ≡ Some next → (left joins text next (i + 1) ≡ left joins text s i) × Stands next (i + 1)
-next_by text joins s next i true at inside dropped is =
-    let e : s ≡ next = cc in
-    let P : State → Type 0 = λ now. (left joins text now (i + 1) ≡ left joins text s i) × Stands now (i + 1) in
-    let low = at.number in
-    subst P e (
-      ap (meaning joins s) (sym (rest_here text i (get_or text i 0) true inside refl dropped)),
-      record { no_blank = at.no_blank; number = omega (arith, low) },
-    )
+next_by text joins s next i true at inside dropped is = grind (arith, rest_here text i (get_or text i 0) true inside)
 next_by text joins s next i false at inside kept is =
     let b = get_or text i 0 in
     let rest = without_cr (drop (i + 1) text) in
-    let grown = number_step joins s next b is in
-    let low = at.number in (
-      ap (after joins s rest) (sym is)
-          ∙ sym (step_meaning joins s b rest at.no_blank)
-          ∙ ap (meaning joins s) (sym (rest_here text i b false inside refl kept)),
-      record { no_blank = none_step joins s next b at.no_blank is; number = omega (arith, grown, low) },
-    )
+    grind (arith, number_step joins s next b is, after joins s rest, step_meaning joins s b rest at.no_blank, rest_here text i b false inside, none_step joins s next b at.no_blank is)
 
 left_next : (text : List ℕ) (joins : Bool) (s next : State) (i : ℕ) → Stands s i → i < length text → state_behind joins text i s ≡ Some next
     → left joins text next (i + 1) ≡ left joins text s i
-left_next text joins s next i at inside is =
-    (next_by text joins s next i ((get_or text i 0 == 13) && begins_with 10 (drop (i + 1) text)) at inside refl is).0
+left_next text joins s next i at inside is = grind (arith, next_by)
 
 stands_next : (text : List ℕ) (joins : Bool) (s next : State) (i : ℕ) → Stands s i → i < length text → state_behind joins text i s ≡ Some next → Stands next (i + 1)
-stands_next text joins s next i at inside is =
-    (next_by text joins s next i ((get_or text i 0 == 13) && begins_with 10 (drop (i + 1) text)) at inside refl is).1
+stands_next text joins s next i at inside is = grind (arith, next_by text joins s next i ((get_or text i 0 == 13) && begins_with 10 (drop (i + 1) text)))
 
 -- Bytes are read.
 
 -- the state between the first byte and the others
 between : (f : State → Option State) (first : Option State) (last : State) → option_and_then f first ≡ Some last → (middle : State) × (first ≡ Some middle) × (f middle ≡ Some last)
-between f None last is = absurd (cc is)
-between f (Some middle) last is = (middle, refl, is)
+between f first last is = grind arith
 
 over : (text : List ℕ) (joins : Bool) (s next : State) (i n j : ℕ) → j ≡ i + n → j ≤ length text → Stands s i → state_over joins text i n s ≡ Some next
     → (left joins text next j ≡ left joins text s i) × Stands next j
@@ -82,9 +64,7 @@ over text joins s next i zero j is within at read =
 over text joins s next i (suc n) j is within at read =
     let split = between (state_over joins text (i + 1) n) (state_behind joins text i s) next read in
     let inside : i < length text = omega (arith, is, within) in
-    let more =
-    over text joins split.0 next (i + 1) n j (omega (arith, is)) within (stands_next text joins s split.0 i at inside split.1) split.2 in
-    (more.0 ∙ left_next text joins s split.0 i at inside split.1, more.1)
+    grind (arith, over text joins split.0 next (i + 1) n j, stands_next text joins s split.0 i, left_next text joins s split.0 i)
 
 pub left_over : (text : List ℕ) (joins : Bool) (s next : State) (i j : ℕ) → Stands s i → i ≤ j → j ≤ length text → state_over joins text i (j - i) s ≡ Some next
     → left joins text next j ≡ left joins text s i
@@ -96,31 +76,21 @@ stands_over text joins s next i j at low within read = (over text joins s next i
 -- A part is handed out.
 
 unless_front : (bad : Option ℕ) (part found more : List Line) → more ≡ part ++ found → unless_bad bad more ≡ behind_part part (unless_bad bad found)
-unless_front None part found more is = ap (λ all. Ok all) is
-unless_front (Some n) part found more is = refl
+unless_front bad part found more is = grind arith
 
 behind_front : (joins : Bool) (part : List Line) (s : State) (line : List ℕ) (rest : List (List ℕ)) → behind joins (with_part part s) line rest ≡ part ++ behind joins s line rest
-behind_front joins part s line rest =
-    append_assoc part s.done (filter has_words (under s.first s.words (map in_words (joined joins s.number ((s.run ++ line) ∷ rest)))))
+behind_front joins part s line rest = grind (arith, append_assoc, under)
 
 part_left : (text : List ℕ) (joins : Bool) (part : List Line) (s : State) (i : ℕ) → left joins text (with_part part s) i ≡ behind_part part (left joins text s i)
-part_left text joins part s i =
-    let ps = pieces is_lf (without_cr (drop i text)) in
-    let line = line_left s.comment (first_of ps) in
-    let rest = map before_hash (others_of ps) in
-    unless_front (bad_byte s.number (line ∷ rest)) part (behind joins s line rest) (behind joins (with_part part s) line rest) (behind_front joins part s line rest)
+part_left text joins part s i = grind (arith, line_left, first_of, unless_front, behind, behind_front)
 
 pub left_part : (text : List ℕ) (joins : Bool) (part : List Line) (s next : State) (i : ℕ) → s ≡ with_part part next → left joins text s i ≡ behind_part part (left joins text next i)
 left_part text joins part s next i is = ap (λ now. left joins text now i) is ∙ part_left text joins part next i
 
 pub stands_part : (part : List Line) (s next : State) (i : ℕ) → s ≡ with_part part next → Stands s i → Stands next i
-stands_part part s next i is at =
-    let P : State → Type 0 = λ now. Stands now i in
-    let before : Stands (with_part part next) i = subst P is at in
-    record { no_blank = before.no_blank; number = before.number }
+stands_part part s next i is at = grind arith
 
 -- The text ends.
 
 pub left_end : (text : List ℕ) (joins : Bool) (s : State) (i : ℕ) → Stands s i → length text ≤ i → left joins text s i ≡ Ok (finish joins s)
-left_end text joins s i at over =
-    ap (λ rest. meaning joins s (without_cr rest)) (drop_of_length-le text over) ∙ meaning_end joins s at.no_blank
+left_end text joins s i at over = grind (arith, drop_of_length-le, meaning_end)

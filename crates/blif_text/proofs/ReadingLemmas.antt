@@ -39,15 +39,11 @@ bad_here n b line rest bad = ap (λ (t : Bool). if (t && list_all is_allowed lin
 
 answer_put : (joins : Bool) (s : State) (b : ℕ) (line : List ℕ) (rest : List (List ℕ)) → is_allowed b ≡ true
     → answer joins s (b ∷ line) rest ≡ answer joins (put b s) line rest
-answer_put joins s b line rest allowed =
-    ap (λ bad. unless_bad bad (behind joins s (b ∷ line) rest)) (bad_front s.number b line rest allowed)
-    ∙ ap (λ whole. unless_bad (bad_byte s.number (line ∷ rest)) (s.done ++ filter has_words (under s.first s.words (map in_words (joined joins s.number (whole ∷ rest))))))
-    (sym (append_assoc s.run (b ∷ []) line))
+answer_put joins s b line rest allowed = grind (arith, bad_front, append_assoc)
 
 answer_bad : (joins : Bool) (s : State) (b : ℕ) (line : List ℕ) (rest : List (List ℕ)) → is_allowed b ≡ false
     → answer joins s (b ∷ line) rest ≡ Err s.number
-answer_bad joins s b line rest bad =
-    ap (λ found. unless_bad found (behind joins s (b ∷ line) rest)) (bad_here s.number b line rest bad)
+answer_bad joins s b line rest bad = grind arith
 
 -- The end of a word.
 
@@ -61,17 +57,13 @@ chosen t n line rest = if t then continued n (without_last line) rest else recor
 under_words : (n m : ℕ) (words : List (List ℕ)) (run : List ℕ) (b : ℕ) (bytes : List ℕ) (rest : List Line) → NoBlank run → is_blank b ≡ true
     → under n words (in_words (record { number = m; bytes = run ++ b ∷ bytes }) ∷ rest)
     ≡ under n (words ++ word_if_filled run) (in_words (record { number = m; bytes = bytes }) ∷ rest)
-under_words n m words run b bytes rest none blank =
-    ap (λ (all : List (List ℕ)). let l : Line = record { number = n; words = all } in l ∷ rest)
-    (ap (λ more. words ++ more) (words_behind run b bytes none blank) ∙ sym (append_assoc words (word_if_filled run) (words_of bytes)))
+under_words n m words run b bytes rest none blank = grind (arith, words_behind, append_assoc)
 
 continued_behind : (n m : ℕ) (words : List (List ℕ)) (run : List ℕ) (b : ℕ) (bytes : List ℕ) (rest : List Joined) → NoBlank run → is_blank b ≡ true
     → under n words (map in_words (continued m (run ++ b ∷ bytes) rest))
     ≡ under n (words ++ word_if_filled run) (map in_words (continued m bytes rest))
 continued_behind n m words run b bytes [] none blank = under_words n m words run b bytes [] none blank
-continued_behind n m words run b bytes (next ∷ rest) none blank =
-    ap (λ whole. under n words (in_words (record { number = m; bytes = whole }) ∷ map in_words rest)) (append_assoc run (b ∷ bytes) (32 ∷ next.bytes))
-    ∙ under_words n m words run b (bytes ++ 32 ∷ next.bytes) (map in_words rest) none blank
+continued_behind n m words run b bytes (next ∷ rest) none blank = grind (arith, append_assoc run (b ∷ bytes) (32 ∷ next.bytes), under_words n m words run b (bytes ++ 32 ∷ next.bytes) (map in_words rest) none blank)
 
 chosen_behind : (joins t : Bool) (n m : ℕ) (words : List (List ℕ)) (run : List ℕ) (b : ℕ) (line : List ℕ) (rest : List Joined) → NoBlank run → is_blank b ≡ true
     → t ≡ (joins && ends_in_backslash line)
@@ -80,17 +72,11 @@ chosen_behind : (joins t : Bool) (n m : ℕ) (words : List (List ℕ)) (run : Li
 chosen_behind joins false n m words run b line rest none blank is = under_words n m words run b line (map in_words rest) none blank
 chosen_behind true true n m words run b [] rest none blank is = cc
 chosen_behind false true n m words run b line rest none blank is = cc
-chosen_behind true true n m words run b (c ∷ line) rest none blank is =
-    ap (λ whole. under n words (map in_words (continued m whole rest))) (without_last_behind run b c line)
-    ∙ continued_behind n m words run b (without_last (c ∷ line)) rest none blank
+chosen_behind true true n m words run b (c ∷ line) rest none blank is = grind (arith, without_last_behind, continued_behind)
 
 answer_blank : (joins : Bool) (s : State) (b : ℕ) (line : List ℕ) (rest : List (List ℕ)) → NoBlank s.run → is_blank b ≡ true → is_allowed b ≡ true → (b == 92) ≡ false
     → answer joins s (b ∷ line) rest ≡ answer joins (end_word s) line rest
-answer_blank joins s b line rest none blank allowed other =
-    ap (λ bad. unless_bad bad (behind joins s (b ∷ line) rest)) (bad_front s.number b line rest allowed)
-    ∙ ap (λ found. unless_bad (bad_byte s.number (line ∷ rest)) (s.done ++ filter has_words found))
-    (ap (λ t. under s.first s.words (map in_words (chosen t s.number (s.run ++ b ∷ line) (joined joins (s.number + 1) rest)))) (joins_behind joins s.run b line other)
-    ∙ chosen_behind joins (joins && ends_in_backslash line) s.first s.number s.words s.run b line (joined joins (s.number + 1) rest) none blank refl)
+answer_blank joins s b line rest none blank allowed other = grind (arith, bad_front, joins_behind, chosen_behind)
 
 -- The end of a line.
 
@@ -107,17 +93,12 @@ joined_whole joins n line rest = chosen_whole (joins && ends_in_backslash line) 
 
 under_nothing : (joins : Bool) (n : ℕ) (line : List ℕ) (rest : List (List ℕ))
     → under n [] (map in_words (joined joins n (line ∷ rest))) ≡ map in_words (joined joins n (line ∷ rest))
-under_nothing joins n line rest =
-    let whole = joined_whole joins n line rest in
-    let P : List Joined → Type 0 = λ all. under n [] (map in_words all) ≡ map in_words all in
-    subst P (sym whole.2) refl
+under_nothing joins n line rest = grind arith
 
 join_under : (n m k : ℕ) (words : List (List ℕ)) (run bytes : List ℕ) (more : List Joined) (all : List Joined) → NoBlank run
     → all ≡ record { number = k; bytes = bytes } ∷ more
     → under n words (map in_words (continued m run all)) ≡ under n (words ++ word_if_filled run) (map in_words all)
-join_under n m k words run bytes more all none is =
-    let P : List Joined → Type 0 = λ some. under n words (map in_words (continued m run some)) ≡ under n (words ++ word_if_filled run) (map in_words some) in
-    subst P (sym is) (under_words n m words run 32 bytes (map in_words more) none refl)
+join_under n m k words run bytes more all none is = grind (arith, under_words n m words run 32 bytes (map in_words more) none)
 
 has_front : (line : Line) (rest : List Line) → filter has_words (line ∷ rest) ≡ filter has_words (line ∷ []) ++ filter has_words rest
 has_front line rest = filter-append has_words (line ∷ []) rest
@@ -129,95 +110,53 @@ behind_line joins true s line rest none =
     let whole = joined_whole joins (s.number + 1) line rest in
     ap (λ found. s.done ++ filter has_words found)
     (join_under s.first s.number (s.number + 1) s.words (without_last s.run) whole.0 whole.1 (joined joins (s.number + 1) (line ∷ rest)) (NoBlank-without_last s.run none) whole.2)
-behind_line joins false s line rest none =
-    let next : List Line = map in_words (joined joins (s.number + 1) (line ∷ rest)) in
-    let first : List (List ℕ) → Line = λ words. record { number = s.first; words = s.words ++ words } in
-    ap (λ words. s.done ++ filter has_words (first words ∷ next)) (words_alone s.run none)
-    ∙ ap (λ found. s.done ++ found) (has_front (first (word_if_filled s.run)) next)
-    ∙ sym (append_assoc s.done (filter has_words (first (word_if_filled s.run) ∷ [])) (filter has_words next))
-    ∙ ap (λ found. (s.done ++ line_if_filled s.first (s.words ++ word_if_filled s.run)) ++ filter has_words found) (sym (under_nothing joins (s.number + 1) line rest))
+behind_line joins false s line rest none = grind (arith, words_alone, has_front, append_assoc, under_nothing)
 
 line_number : (t : Bool) (s : State) → (let after : State = if t then join_line s else close_line s in after.number) ≡ s.number + 1
-line_number true s = refl
-line_number false s = refl
+line_number t s = grind arith
 
 answer_line : (joins : Bool) (s : State) (line : List ℕ) (rest : List (List ℕ)) → NoBlank s.run
     → answer joins s [] (line ∷ rest) ≡ answer joins (line_break joins s) line rest
-answer_line joins s line rest none =
-    let t = joins && ends_in_backslash s.run in
-    ap (λ run. unless_bad (bad_byte (s.number + 1) (line ∷ rest)) (s.done ++ filter has_words (under s.first s.words (map in_words (joined joins s.number (run ∷ line ∷ rest))))))
-    (append-nil s.run)
-    ∙ ap (λ found. unless_bad (bad_byte (s.number + 1) (line ∷ rest)) found) (behind_line joins t s line rest none)
-    ∙ ap (λ n. unless_bad (bad_byte n (line ∷ rest)) (behind joins (line_break joins s) line rest)) (sym (line_number t s))
+answer_line joins s line rest none = grind (arith, append-nil, behind_line, line_number)
 
 -- The end of the text.
 
 behind_end : (t : Bool) (s : State) → NoBlank s.run
     → s.done ++ filter has_words (under s.first s.words (map in_words (chosen t s.number s.run [])))
     ≡ (let last : State = if t then join_line s else close_line s in last.done ++ line_if_filled last.first last.words)
-behind_end true s none =
-    ap (λ words. s.done ++ line_if_filled s.first (s.words ++ words)) (words_alone (without_last s.run) (NoBlank-without_last s.run none))
-behind_end false s none =
-    ap (λ words. s.done ++ line_if_filled s.first (s.words ++ words)) (words_alone s.run none)
-    ∙ sym (append-nil (s.done ++ line_if_filled s.first (s.words ++ word_if_filled s.run)))
+behind_end t s none = grind (arith, words_alone, NoBlank-without_last, append-nil)
 
 answer_end : (joins : Bool) (s : State) → NoBlank s.run → answer joins s [] [] ≡ Ok (finish joins s)
-answer_end joins s none =
-    ap (λ run. unless_bad None (s.done ++ filter has_words (under s.first s.words (map in_words (joined joins s.number (run ∷ []))))))
-    (append-nil s.run)
-    ∙ ap (λ found. unless_bad None found) (behind_end (joins && ends_in_backslash s.run) s none)
+answer_end joins s none = grind (arith, append-nil, behind_end)
 
 -- From byte to byte.
 
 line_left_nothing : (comment : Bool) → line_left comment [] ≡ []
-line_left_nothing true = refl
-line_left_nothing false = refl
+line_left_nothing comment = grind arith
 
 line_goes_on : (t : Bool) (s : State) → (let after : State = if t then join_line s else close_line s in after.comment) ≡ false
-line_goes_on true s = refl
-line_goes_on false s = refl
+line_goes_on t s = grind arith
 
 at_lf : (joins : Bool) (s : State) (b : ℕ) (rest : List ℕ) → NoBlank s.run → is_lf b ≡ true
     → meaning joins s (b ∷ rest) ≡ meaning joins (line_break joins s) rest
-at_lf joins s b rest none lf =
-    let ps = pieces is_lf rest in
-    ap (λ all. answer joins s (line_left s.comment (first_of all)) (map before_hash (others_of all))) (pieces_here is_lf b rest lf)
-    ∙ ap (λ line. answer joins s line (map before_hash ps)) (line_left_nothing s.comment)
-    ∙ ap (λ all. answer joins s [] (map before_hash all)) (pieces_whole is_lf rest)
-    ∙ answer_line joins s (before_hash (first_of ps)) (map before_hash (others_of ps)) none
-    ∙ ap (λ comment. answer joins (line_break joins s) (line_left comment (first_of ps)) (map before_hash (others_of ps)))
-    (sym (line_goes_on (joins && ends_in_backslash s.run) s))
+at_lf joins s b rest none lf = grind (arith, first_of, pieces_here, line_left_nothing, pieces_whole, answer_line, line_goes_on)
 
 at_other : (joins : Bool) (s : State) (b : ℕ) (rest : List ℕ) → is_lf b ≡ false
     → meaning joins s (b ∷ rest) ≡ answer joins s (line_left s.comment (b ∷ first_of (pieces is_lf rest))) (map before_hash (others_of (pieces is_lf rest)))
-at_other joins s b rest other =
-    let ps = pieces is_lf rest in
-    ap (λ all. answer joins s (line_left s.comment (first_of all)) (map before_hash (others_of all))) (pieces_other is_lf b rest other)
-    ∙ ap (λ line. answer joins s (line_left s.comment line) (map before_hash (others_of (in_front b ps)))) (first_in_front b ps)
-    ∙ ap (λ others. answer joins s (line_left s.comment (b ∷ first_of ps)) (map before_hash others)) (others_in_front b ps)
+at_other joins s b rest other = grind arith
 
 in_comment : (joins : Bool) (s : State) (b : ℕ) (rest : List ℕ) → is_lf b ≡ false → s.comment ≡ true
     → meaning joins s (b ∷ rest) ≡ meaning joins s rest
-in_comment joins s b rest other comment =
-    let ps = pieces is_lf rest in
-    at_other joins s b rest other
-    ∙ ap (λ t. answer joins s (line_left t (b ∷ first_of ps)) (map before_hash (others_of ps))) comment
-    ∙ ap (λ t. answer joins s (line_left t (first_of ps)) (map before_hash (others_of ps))) (sym comment)
+in_comment joins s b rest other comment = grind arith
 
 at_plain : (joins : Bool) (s : State) (b : ℕ) (rest : List ℕ) (hash : Bool) → is_lf b ≡ false → s.comment ≡ false → (b == 35) ≡ hash
     → meaning joins s (b ∷ rest)
     ≡ answer joins s (if hash then [] else b ∷ before_hash (first_of (pieces is_lf rest))) (map before_hash (others_of (pieces is_lf rest)))
-at_plain joins s b rest hash other comment is =
-    let ps = pieces is_lf rest in
-    at_other joins s b rest other
-    ∙ ap (λ t. answer joins s (line_left t (b ∷ first_of ps)) (map before_hash (others_of ps))) comment
-    ∙ ap (λ (t : Bool). answer joins s (if t then [] else b ∷ before_hash (first_of ps)) (map before_hash (others_of ps))) is
+at_plain joins s b rest hash other comment is = grind arith
 
 no_comment : (joins : Bool) (s : State) (rest : List ℕ) → s.comment ≡ false
     → answer joins s (before_hash (first_of (pieces is_lf rest))) (map before_hash (others_of (pieces is_lf rest))) ≡ meaning joins s rest
-no_comment joins s rest comment =
-    let ps = pieces is_lf rest in
-    ap (λ t. answer joins s (line_left t (first_of ps)) (map before_hash (others_of ps))) (sym comment)
+no_comment joins s rest comment = grind arith
 
 no_backslash : (b : ℕ) → is_blank b ≡ true → (b == 92) ≡ false
 no_backslash b blank = grind (arith, nat_tests)
@@ -254,22 +193,12 @@ meaning_choice : (joins : Bool) (s : State) (b : ℕ) (rest : List ℕ) (lf comm
 meaning_choice joins s b rest true comment hash blank printed none t = at_lf joins s b rest none t.at_lf
 meaning_choice joins s b rest false true hash blank printed none t = in_comment joins s b rest t.at_lf t.at_comment
 meaning_choice joins s b rest false false true blank printed none t = at_plain joins s b rest true t.at_lf t.at_comment t.at_hash
-meaning_choice joins s b rest false false false true printed none t =
-    at_plain joins s b rest false t.at_lf t.at_comment t.at_hash
-    ∙ answer_blank joins s b (before_hash (first_of (pieces is_lf rest))) (map before_hash (others_of (pieces is_lf rest))) none t.at_blank
-    (allowed_blank b t.at_blank) (no_backslash b t.at_blank)
-    ∙ no_comment joins (end_word s) rest t.at_comment
-meaning_choice joins s b rest false false false false true none t =
-    at_plain joins s b rest false t.at_lf t.at_comment t.at_hash
-    ∙ answer_put joins s b (before_hash (first_of (pieces is_lf rest))) (map before_hash (others_of (pieces is_lf rest))) (allowed_other b true t.at_blank t.at_printed)
-    ∙ no_comment joins (put b s) rest t.at_comment
-meaning_choice joins s b rest false false false false false none t =
-    at_plain joins s b rest false t.at_lf t.at_comment t.at_hash
-    ∙ answer_bad joins s b (before_hash (first_of (pieces is_lf rest))) (map before_hash (others_of (pieces is_lf rest))) (allowed_other b false t.at_blank t.at_printed)
+meaning_choice joins s b rest false false false true printed none t = grind (arith, at_plain, answer_blank, first_of, allowed_blank, no_backslash, no_comment)
+meaning_choice joins s b rest false false false false true none t = grind (arith, at_plain, answer_put, first_of, allowed_other, no_comment)
+meaning_choice joins s b rest false false false false false none t = grind arith
 
 none_line : (t : Bool) (s : State) → (let after : State = if t then join_line s else close_line s in NoBlank after.run)
-none_line true s = tt
-none_line false s = tt
+none_line t s = grind arith
 
 abbrev NoBlankIn : Option State → Type 0
 NoBlankIn None = Unit {0}
@@ -277,12 +206,7 @@ NoBlankIn (Some s) = NoBlank s.run
 
 none_choice : (joins : Bool) (s : State) (b : ℕ) (lf comment hash blank printed : Bool) → NoBlank s.run → is_blank b ≡ blank
     → NoBlankIn (choice joins s b lf comment hash blank printed)
-none_choice joins s b true comment hash blank printed none is = none_line (joins && ends_in_backslash s.run) s
-none_choice joins s b false true hash blank printed none is = none
-none_choice joins s b false false true blank printed none is = none
-none_choice joins s b false false false true printed none is = tt
-none_choice joins s b false false false false true none is = NoBlank-put s.run b none is
-none_choice joins s b false false false false false none is = tt
+none_choice joins s b lf comment hash blank printed none is = grind (arith, none_line, NoBlank-put)
 
 -- The state and the rest of the text have the lines of the text.
 pub record Reads (text : List ℕ) (joins : Bool) (s : State) (rest : List ℕ) : Type 0 where
@@ -290,33 +214,19 @@ pub record Reads (text : List ℕ) (joins : Bool) (s : State) (rest : List ℕ) 
   pub no_blank : NoBlank s.run
 
 pub reads_start : (text : List ℕ) (joins : Bool) → Reads text joins start (without_cr text)
-reads_start text joins =
-    let ps = pieces is_lf (without_cr text) in
-    record {
-      whole =
-          ap (λ found. unless_bad (bad_byte 1 (before_hash (first_of ps) ∷ map before_hash (others_of ps))) (filter has_words found))
-          (under_nothing joins 1 (before_hash (first_of ps)) (map before_hash (others_of ps)))
-          ∙ ap (λ all. unless_bad (bad_byte 1 (map before_hash all)) (logical joins (map before_hash all))) (sym (pieces_whole is_lf (without_cr text)));
-      no_blank = tt;
-    }
+reads_start text joins = grind arith
 
 pub step_meaning : (joins : Bool) (s : State) (b : ℕ) (rest : List ℕ) → NoBlank s.run → meaning joins s (b ∷ rest) ≡ after joins s rest (step joins s b)
-step_meaning joins s b rest none =
-    meaning_choice joins s b rest (is_lf b) s.comment (b == 35) (is_blank b) (is_printed b) none
-    (record { at_lf = refl; at_comment = refl; at_hash = refl; at_blank = refl; at_printed = refl })
+step_meaning joins s b rest none = grind (arith, meaning_choice, at_lf)
 
 pub none_step : (joins : Bool) (s next : State) (b : ℕ) → NoBlank s.run → step joins s b ≡ Some next → NoBlank next.run
 none_step joins s next b none is = subst NoBlankIn is (none_choice joins s b (is_lf b) s.comment (b == 35) (is_blank b) (is_printed b) none refl)
 
 pub reads_step : (text : List ℕ) (joins : Bool) (s next : State) (b : ℕ) (rest : List ℕ) → Reads text joins s (b ∷ rest) → step joins s b ≡ Some next → Reads text joins next rest
-reads_step text joins s next b rest reads is = record {
-  whole = ap (after joins s rest) (sym is) ∙ sym (step_meaning joins s b rest reads.no_blank) ∙ reads.whole;
-  no_blank = none_step joins s next b reads.no_blank is;
-}
+reads_step text joins s next b rest reads is = grind (arith, step_meaning joins s b rest reads.no_blank, none_step joins s next b reads.no_blank is)
 
 pub reads_bad : (text : List ℕ) (joins : Bool) (s : State) (b : ℕ) (rest : List ℕ) → Reads text joins s (b ∷ rest) → step joins s b ≡ None → lines text joins ≡ Err s.number
-reads_bad text joins s b rest reads is =
-    sym reads.whole ∙ step_meaning joins s b rest reads.no_blank ∙ ap (after joins s rest) is
+reads_bad text joins s b rest reads is = grind arith
 
 nothing_left : (joins : Bool) (s : State) → meaning joins s [] ≡ answer joins s [] []
 nothing_left joins s = ap (λ line. answer joins s line []) (line_left_nothing s.comment)

@@ -21,30 +21,18 @@ pub record WordByte (b : ℕ) : Type 0 where
   pub printed : is_printed b ≡ true
 
 word_byte : (b : ℕ) → is_word_byte b ≡ true → WordByte b
-word_byte b is =
-    record {
-      cr = grind (arith, nat_tests, is);
-      lf = grind (arith, nat_tests, is);
-      hash = grind (arith, nat_tests, is);
-      blank = grind (arith, nat_tests, is);
-      printed = grind (arith, nat_tests, is);
-    }
+word_byte b is = grind arith
 
 put_choice : (joins : Bool) (s : State) (b : ℕ) (lf comment hash blank printed : Bool) → lf ≡ false → comment ≡ false → hash ≡ false → blank ≡ false → printed ≡ true
     → choice joins s b lf comment hash blank printed ≡ Some (put b s)
 put_choice joins s b lf comment hash blank printed e1 e2 e3 e4 e5 = rw (e1, e2, e3, e4, e5) refl
 
 put_step : (joins : Bool) (s : State) (b : ℕ) → s.comment ≡ false → is_word_byte b ≡ true → step joins s b ≡ Some (put b s)
-put_step joins s b outside is =
-    let tests = word_byte b is in
-    put_choice joins s b (is_lf b) s.comment (b == 35) (is_blank b) (is_printed b) tests.lf outside tests.hash tests.blank tests.printed
+put_step joins s b outside is = grind (arith, word_byte b is, put_choice joins s b (is_lf b) s.comment (b == 35) (is_blank b) (is_printed b))
 
 put_behind : (joins : Bool) (text : List ℕ) (i : ℕ) (s : State) → s.comment ≡ false → is_word_byte (get_or text i 0) ≡ true
     → state_behind joins text i s ≡ Some (put (get_or text i 0) s)
-put_behind joins text i s outside is =
-    let b = get_or text i 0 in
-    ap (λ (cr : Bool). if cr && begins_with 10 (drop (i + 1) text) then Some s else step joins s b) (word_byte b is).cr
-    ∙ put_step joins s b outside is
+put_behind joins text i s outside is = grind (arith, word_byte, put_step)
 
 -- Some bytes of a word.
 
@@ -53,22 +41,14 @@ put_over : (joins : Bool) (text : List ℕ) (i n : ℕ) (s : State) → s.commen
 put_over joins text i zero s outside within each = ap (λ run. Some (record s { run = run })) (sym (append-nil s.run))
 put_over joins text i (suc n) s outside within each =
     let b = get_or text i 0 in
-    let more = take n (drop (i + 1) text) in
-    let here : take (suc n) (drop i text) ≡ b ∷ more = ap (take (suc n)) (drop_here text i b (omega arith) refl) in
-    let tests = and_parts (is_word_byte b) (list_all is_word_byte more) (sym (ap (list_all is_word_byte) here) ∙ each) in
-    ap (option_and_then (state_over joins text (i + 1) n)) (put_behind joins text i s outside tests.0)
-    ∙ put_over joins text (i + 1) n (put b s) outside (omega arith) tests.1
-    ∙ ap (λ run. Some (record s { run = run })) (append_assoc s.run (b ∷ []) more)
-    ∙ ap (λ run. Some (put_all run s)) (sym here)
+    grind (arith, drop_here, and_parts, put_behind, put_over joins text (i + 1) n (put b s) outside, append_assoc)
 
 pub run_over : (joins : Bool) (text : List ℕ) (i end : ℕ) (s : State) → s.comment ≡ false → i ≤ end → end ≤ length text → list_all is_word_byte (slice_range text i end) ≡ true
     → state_over joins text i (end - i) s ≡ Some (put_all (slice_range text i end) s)
 run_over joins text i end s outside low high each = put_over joins text i (end - i) s outside (omega arith) each
 
 pub one_over : (joins : Bool) (text : List ℕ) (i : ℕ) (s next : State) → state_behind joins text i s ≡ Some next → state_over joins text i (i + 1 - i) s ≡ Some next
-one_over joins text i s next is =
-    let e : i + 1 - i ≡ suc zero = omega arith in
-    rw e (ap (option_and_then (state_over joins text (i + 1) zero)) is)
+one_over joins text i s next is = grind arith
 
 -- Where they end.
 

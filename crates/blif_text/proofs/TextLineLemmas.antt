@@ -10,7 +10,4 @@ word_inside parts start end k low high here = let count = words_between parts st
 
 pub word_between : (parts : List (List ℕ)) (start end k : ℕ) → start ≤ end → end ≤ length parts → k < length (slice_range parts start end)
     → get_or (slice_range parts start end) k [] ≡ get_or parts (start + k) []
-word_between parts start end k low high here =
-    let count = words_between parts start end low high in
-    let short : k < end - start = omega (arith, count, here) in
-    rw (get_or-take, get_or-drop)
+word_between parts start end k low high here = grind (arith, words_between, get_or-take, get_or-drop)

@@ -22,9 +22,7 @@ run_none = grind (arith, common_steps)
 -- Bytes more.
 
 pub are_ends_more : (bytes ends more : List ℕ) → AreEnds bytes ends → AreEnds (bytes ++ more) ends
-are_ends_more bytes ends more are =
-    let bound = rises_bound (λ e. e) 0 ends (length bytes) are.rises in
-    record { rises = rises_to (λ e. e) 0 ends (length bytes) (length (bytes ++ more)) are.rises (simp length-append (omega (arith, bound.1))) }
+are_ends_more bytes ends more are = grind (arith, rises_bound, rises_to, length-append)
 
 pub parts_more : (bytes ends more : List ℕ) → AreEnds bytes ends → parts_of (bytes ++ more) ends ≡ parts_of bytes ends
 unfolding parts_of
@@ -45,16 +43,13 @@ parts_end bytes ends n are is = cut_end (λ e. e) (λ e part. part) bytes 0 ends
 
 pub run_end : (bytes ends : List ℕ) (n : ℕ) → n ≡ length bytes → run_of bytes (ends ++ n ∷ []) ≡ []
 unfolding run_of
-run_end bytes ends n is =
-    ap (λ at. drop at bytes) (last_end_end (λ e. e) 0 ends n ∙ is) ∙ drop_of_length-le bytes (omega arith)
+run_end bytes ends n is = grind (arith, last_end_end, drop_of_length-le)
 
 -- A byte fewer.
 
 pub run_length : (bytes ends : List ℕ) → AreEnds bytes ends → length (run_of bytes ends) + last_end (λ e. e) 0 ends ≡ length bytes
 unfolding run_of
-run_length bytes ends are =
-    let bound = rises_bound (λ e. e) 0 ends (length bytes) are.rises in
-    simp length-drop (omega (arith, bound.1))
+run_length bytes ends are = grind (arith, rises_bound, length-drop)
 
 pub some_behind : (bytes ends : List ℕ) → AreEnds bytes ends → last_end (λ e. e) 0 ends < length bytes → 0 < length (run_of bytes ends)
 some_behind bytes ends are some = let size = run_length bytes ends are in omega (arith, size, some)
@@ -88,17 +83,7 @@ pub record Fewer (bytes fewer ends : List ℕ) : Type 0 where
   pub run : run_of fewer ends ≡ without_last (run_of bytes ends)
 
 pub fewer : (bytes ends : List ℕ) → AreEnds bytes ends → 0 < length (run_of bytes ends) → Fewer bytes (take (length bytes - 1) bytes) ends
-fewer bytes ends are some =
-    let size = run_length bytes ends are in
-    let split = split_last bytes (omega (arith, size, some)) in
-    let long : length bytes ≡ length split.0 + 1 = ap length split.2 ∙ length-append split.0 (split.1 ∷ []) in
-    let front : AreEnds split.0 ends = record { rises = rises_to (λ e. e) 0 ends (length bytes) (length split.0) are.rises (omega (arith, size, some, long)) } in
-    let P : List ℕ → Type 0 = λ now. Fewer bytes now ends in
-    subst P (sym split.3) (record {
-      are = front;
-      parts = sym (parts_more split.0 ends (split.1 ∷ []) front) ∙ ap (λ all. parts_of all ends) (sym split.2);
-      run = sym (without_last_end (run_of split.0 ends) split.1) ∙ ap without_last (sym (run_more split.0 ends (split.1 ∷ []) front) ∙ ap (λ all. run_of all ends) (sym split.2));
-    })
+fewer bytes ends are some = grind (arith, run_length, split_last, length-append, rises_to, parts_more, without_last_end, run_more)
 
 -- The part at a place.
 
@@ -116,24 +101,18 @@ begins_is ends zero inside = begins_first (λ e. e) 0 ends
 begins_is ends (suc k) inside =
     let e : suc k - 1 ≡ k = omega arith in
     let differs : suc k ≢ 0 = omega arith in
-    begins_later (λ e. e) 0 ends k 0 (omega arith)
-    ∙ sym (ap (λ (t : Bool). if t then 0 else get_or ends (suc k - 1) 0) (ne_eqb (suc k) 0 differs) ∙ ap (λ at. get_or ends at 0) e)
+    grind (arith, begins_later, ne_eqb (suc k) 0 differs)
 
 pub part_at : (bytes ends : List ℕ) (k : ℕ) → AreEnds bytes ends → k < length ends → PartAt bytes ends k (begins_at ends k) (get_or ends k 0)
 unfolding parts_of
-part_at bytes ends k are inside =
-    let within = part_within (λ e. e) 0 ends (length bytes) k 0 are.rises inside in
-    let P : ℕ → Type 0 = λ from. PartAt bytes ends k from (get_or ends k 0) in
-    subst P (begins_is ends k inside) (record { low = within.0; high = within.1; part = cut_at (λ e. e) (λ e part. part) bytes 0 ends k 0 [] inside })
+part_at bytes ends k are inside = grind (arith, part_within, begins_is ends k inside, cut_at)
 
 pub run_fits : (bytes ends : List ℕ) (from : ℕ) → AreEnds bytes ends → from ≡ last_end (λ e. e) 0 ends → from ≤ length bytes
 run_fits bytes ends from are is = omega (arith, (rises_bound (λ e. e) 0 ends (length bytes) are.rises).1, is)
 
 pub run_is : (bytes ends : List ℕ) (from : ℕ) → AreEnds bytes ends → from ≡ last_end (λ e. e) 0 ends → slice_range bytes from (length bytes) ≡ run_of bytes ends
 unfolding run_of
-run_is bytes ends from are is =
-    let size : length bytes - from ≡ length (drop from bytes) = simp length-drop refl in
-    rw size (grind (arith, common_steps, is))
+run_is bytes ends from are is = grind (arith, length-drop, common_steps)
 
 pub part_low : (bytes ends : List ℕ) (k from : ℕ) → AreEnds bytes ends → k < length ends → from ≡ begins_at ends k → from ≤ get_or ends k 0
 part_low bytes ends k from are inside is = let at = part_at bytes ends k are inside in omega (arith, at.low, is)

@@ -68,9 +68,7 @@ blank_plain = record { low = omega arith; high = omega arith; no_hash = omega ar
 
 plain_name : (w : List ℕ) → All IsBlifByte w → EachPlain w
 plain_name [] each = tt
-plain_name (b ∷ rest) each =
-    let is = All-head IsBlifByte b rest each in
-    (record { low = omega (arith, is.0); high = is.1; no_hash = is.2 }, plain_name rest (All-tail IsBlifByte b rest each))
+plain_name (b ∷ rest) each = grind (arith, All-head, plain_name rest (All-tail IsBlifByte b rest each), All-tail)
 
 no_blank_name : (w : List ℕ) → All IsBlifByte w → NoBlank w
 no_blank_name [] each = tt
@@ -84,8 +82,7 @@ plain_spaced (w ∷ v ∷ ws) each =
     (blank_plain, plain_spaced (v ∷ ws) (All-tail IsBlifName w (v ∷ ws) each))
 
 plain_end : (t : Bool) → EachPlain (if t then 32 ∷ [] else [])
-plain_end true = (blank_plain, tt)
-plain_end false = tt
+plain_end t = grind arith
 
 plain_line : (closes : List (List ℕ) → Bool) (ws : List (List ℕ)) → All IsBlifName ws → EachPlain (line_of closes ws)
 plain_line closes ws each = plain_append (spaced ws) (if closes ws then 32 ∷ [] else []) (plain_spaced ws each) (plain_end (closes ws))
@@ -94,9 +91,7 @@ plain_line closes ws each = plain_append (spaced ws) (if closes ws then 32 ∷ [
 
 cr_line : (xs rest : List ℕ) → EachPlain xs → without_cr (xs ++ 10 ∷ rest) ≡ xs ++ 10 ∷ without_cr rest
 cr_line [] rest p = refl
-cr_line (x ∷ xs) rest p =
-    ap (λ (t : Bool). if (t && begins_with 10 (xs ++ 10 ∷ rest)) then without_cr (xs ++ 10 ∷ rest) else x ∷ without_cr (xs ++ 10 ∷ rest)) (plain_cr x p.0)
-    ∙ ap (λ more. x ∷ more) (cr_line xs rest p.1)
+cr_line (x ∷ xs) rest p = grind (arith, plain_cr, cr_line xs rest p.1)
 
 pieces_line : (xs rest : List ℕ) → EachPlain xs → pieces is_lf (xs ++ 10 ∷ rest) ≡ xs ∷ pieces is_lf rest
 pieces_line [] rest p = refl
@@ -104,20 +99,15 @@ pieces_line (x ∷ xs) rest p = pieces_other is_lf x (xs ++ 10 ∷ rest) (plain_
 
 hash_line : (xs : List ℕ) → EachPlain xs → before_hash xs ≡ xs
 hash_line [] p = refl
-hash_line (x ∷ xs) p =
-    ap (λ (t : Bool). if t then [] else x ∷ before_hash xs) (plain_hash x p.0) ∙ ap (λ more. x ∷ more) (hash_line xs p.1)
+hash_line (x ∷ xs) p = grind (arith, plain_hash, hash_line xs p.1)
 
 allowed_line : (xs : List ℕ) → EachPlain xs → list_all is_allowed xs ≡ true
 allowed_line [] p = refl
-allowed_line (x ∷ xs) p =
-    ap (λ t. t && list_all is_allowed xs) (allowed_between x p.0.low p.0.high) ∙ allowed_line xs p.1
+allowed_line (x ∷ xs) p = grind (arith, allowed_between, allowed_line xs p.1)
 
 breaks_line : (xs rest : List ℕ) → EachPlain xs → count_by is_lf (xs ++ 10 ∷ rest) ≡ 1 + count_by is_lf rest
 breaks_line [] rest p = sum_by-cons (λ b. cond (is_lf b) 1 0) 10 rest
-breaks_line (x ∷ xs) rest p =
-    sum_by-cons (λ b. cond (is_lf b) 1 0) x (xs ++ 10 ∷ rest)
-    ∙ ap (λ t. cond t 1 0 + count_by is_lf (xs ++ 10 ∷ rest)) (plain_lf x p.0)
-    ∙ (let rest_is = breaks_line xs rest p.1 in let e : 0 + count_by is_lf (xs ++ 10 ∷ rest) ≡ 1 + count_by is_lf rest = omega (arith, rest_is) in e)
+breaks_line (x ∷ xs) rest p = grind (arith, sum_by-cons, plain_lf, breaks_line xs rest p.1)
 
 -- The words of a line are those that were written.
 
@@ -128,18 +118,10 @@ word_filled (b ∷ bs) some = refl
 words_spaced : (t : Bool) (ws : List (List ℕ)) → All IsBlifName ws → words_of (spaced ws ++ (if t then 32 ∷ [] else [])) ≡ ws
 words_spaced true [] each = refl
 words_spaced false [] each = refl
-words_spaced true (w ∷ []) each =
-    let is = All-head IsBlifName w [] each in
-    words_behind w 32 [] (no_blank_name w is.1) refl ∙ ap (λ front. front ++ []) (word_filled w is.0)
-words_spaced false (w ∷ []) each =
-    let is = All-head IsBlifName w [] each in
-    ap words_of (append-nil w) ∙ words_alone w (no_blank_name w is.1) ∙ word_filled w is.0
+words_spaced true (w ∷ []) each = grind (arith, All-head IsBlifName w [] each, words_behind w 32 [], no_blank_name w, word_filled w)
+words_spaced false (w ∷ []) each = grind (arith, All-head IsBlifName w [] each, append-nil w, words_alone w, no_blank_name w, word_filled w)
 words_spaced t (w ∷ v ∷ ws) each =
-    let is = All-head IsBlifName w (v ∷ ws) each in
-    ap words_of (append_assoc w (32 ∷ spaced (v ∷ ws)) (if t then 32 ∷ [] else []))
-    ∙ words_behind w 32 (spaced (v ∷ ws) ++ (if t then 32 ∷ [] else [])) (no_blank_name w is.1) refl
-    ∙ ap (λ front. front ++ words_of (spaced (v ∷ ws) ++ (if t then 32 ∷ [] else []))) (word_filled w is.0)
-    ∙ ap (λ more. w ∷ more) (words_spaced t (v ∷ ws) (All-tail IsBlifName w (v ∷ ws) each))
+    grind (arith, All-head IsBlifName w (v ∷ ws) each, append_assoc w (32 ∷ spaced (v ∷ ws)) (if t then 32 ∷ [] else []), words_behind w 32 (spaced (v ∷ ws) ++ (if t then 32 ∷ [] else [])), no_blank_name w, word_filled w, words_spaced t (v ∷ ws) (All-tail IsBlifName w (v ∷ ws) each), All-tail IsBlifName w (v ∷ ws) each)
 
 kept : (n : ℕ) (ws : List (List ℕ)) (rest : List Line) → ws ≢ [] → filter has_words (record { number = n; words = ws } ∷ rest) ≡ record { number = n; words = ws } ∷ filter has_words rest
 kept n [] rest some = absurd (some refl)
@@ -149,8 +131,7 @@ names_of : (ws : List (List ℕ)) (rest : List (List (List ℕ))) → All IsLine
 names_of ws rest each = (All-head IsLine ws rest each).names
 
 nothing_joined : (joins : Bool) (n : ℕ) → joined joins n ([] ∷ []) ≡ record { number = n; bytes = [] } ∷ []
-nothing_joined true n = refl
-nothing_joined false n = refl
+nothing_joined joins n = grind arith
 
 -- A text of such lines.
 
@@ -161,10 +142,7 @@ module _ (line_text : List (List ℕ) → List ℕ) (closes : List (List ℕ) �
   cr_text : (written : List (List (List ℕ))) → All IsLine written → without_cr (flat_map line_text written) ≡ flat_map line_text written
   cr_text [] each = refl
   cr_text (ws ∷ rest) each =
-      ap without_cr (text_front ws rest)
-      ∙ cr_line (line_of closes ws) (flat_map line_text rest) (plain_line closes ws (names_of ws rest each))
-      ∙ ap (λ more. line_of closes ws ++ 10 ∷ more) (cr_text rest (All-tail IsLine ws rest each))
-      ∙ sym (text_front ws rest)
+      grind (arith, text_front ws rest, cr_line (line_of closes ws) (flat_map line_text rest) (plain_line closes ws (names_of ws rest each)), plain_line closes ws (names_of ws rest each), names_of ws rest each, cr_text rest (All-tail IsLine ws rest each), All-tail IsLine ws rest each)
 
   -- the written lines, and an empty one behind the last LF
   abbrev cut_lines : List (List (List ℕ)) → List (List ℕ)
@@ -174,11 +152,7 @@ module _ (line_text : List (List ℕ) → List ℕ) (closes : List (List ℕ) �
   cut_text : (written : List (List (List ℕ))) → All IsLine written → map before_hash (pieces is_lf (flat_map line_text written)) ≡ cut_lines written
   cut_text [] each = refl
   cut_text (ws ∷ rest) each =
-      let plain = plain_line closes ws (names_of ws rest each) in
-      ap (λ text. map before_hash (pieces is_lf text)) (text_front ws rest)
-      ∙ ap (map before_hash) (pieces_line (line_of closes ws) (flat_map line_text rest) plain)
-      ∙ ap (λ line. line ∷ map before_hash (pieces is_lf (flat_map line_text rest))) (hash_line (line_of closes ws) plain)
-      ∙ ap (λ more. line_of closes ws ∷ more) (cut_text rest (All-tail IsLine ws rest each))
+      grind (arith, plain_line closes ws (names_of ws rest each), names_of ws rest each, text_front ws rest, pieces_line (line_of closes ws) (flat_map line_text rest), hash_line (line_of closes ws), cut_text rest (All-tail IsLine ws rest each), All-tail IsLine ws rest each)
 
   physical_text : (written : List (List (List ℕ))) → All IsLine written → physical (flat_map line_text written) ≡ cut_lines written
   physical_text written each = ap (λ text. map before_hash (pieces is_lf text)) (cr_text written each) ∙ cut_text written each
@@ -186,8 +160,7 @@ module _ (line_text : List (List ℕ) → List ℕ) (closes : List (List ℕ) �
   no_bad : (n : ℕ) (written : List (List (List ℕ))) → All IsLine written → bad_byte n (cut_lines written) ≡ None
   no_bad n [] each = refl
   no_bad n (ws ∷ rest) each =
-      ap (λ (t : Bool). if t then bad_byte (n + 1) (cut_lines rest) else Some n) (allowed_line (line_of closes ws) (plain_line closes ws (names_of ws rest each)))
-      ∙ no_bad (n + 1) rest (All-tail IsLine ws rest each)
+      grind (arith, allowed_line (line_of closes ws) (plain_line closes ws (names_of ws rest each)), plain_line closes ws (names_of ws rest each), names_of ws rest each, no_bad (n + 1) rest (All-tail IsLine ws rest each), All-tail IsLine ws rest each)
 
   abbrev alone : ℕ → List (List (List ℕ)) → List Joined
   alone n [] = record { number = n; bytes = [] } ∷ []
@@ -195,37 +168,22 @@ module _ (line_text : List (List ℕ) → List ℕ) (closes : List (List ℕ) �
 
   words_text : (n : ℕ) (written : List (List (List ℕ))) → All IsLine written → filter has_words (map in_words (alone n written)) ≡ numbered n written
   words_text n [] each = refl
-  words_text n (ws ∷ rest) each =
-      let is = All-head IsLine ws rest each in
-      let line : List (List ℕ) → Line = λ words. record { number = n; words = words } in
-      ap (λ words. filter has_words (line words ∷ map in_words (alone (n + 1) rest))) (words_spaced (closes ws) ws is.names)
-      ∙ kept n ws (map in_words (alone (n + 1) rest)) is.filled
-      ∙ ap (λ more. line ws ∷ more) (words_text (n + 1) rest (All-tail IsLine ws rest each))
+  words_text n (ws ∷ rest) each = grind (arith, All-head IsLine ws rest each, words_spaced (closes ws) ws, kept n ws (map in_words (alone (n + 1) rest)), words_text (n + 1) rest (All-tail IsLine ws rest each), All-tail IsLine ws rest each)
 
   -- where no line of names is joined to the next
   module _ (joins : Bool) (not_joined : (ws : List (List ℕ)) → All IsBlifName ws → (joins && ends_in_backslash (line_of closes ws)) ≡ false) where
     joined_text : (n : ℕ) (written : List (List (List ℕ))) → All IsLine written → joined joins n (cut_lines written) ≡ alone n written
     joined_text n [] each = nothing_joined joins n
-    joined_text n (ws ∷ rest) each =
-        let l : Joined = record { number = n; bytes = line_of closes ws } in
-        ap (λ (t : Bool). if t then continued n (without_last (line_of closes ws)) (joined joins (n + 1) (cut_lines rest)) else l ∷ joined joins (n + 1) (cut_lines rest))
-        (not_joined ws (names_of ws rest each))
-        ∙ ap (λ more. l ∷ more) (joined_text (n + 1) rest (All-tail IsLine ws rest each))
+    joined_text n (ws ∷ rest) each = grind (arith, names_of ws rest each, joined_text (n + 1) rest (All-tail IsLine ws rest each), All-tail IsLine ws rest each)
 
     pub written_lines : (written : List (List (List ℕ))) → All IsLine written → lines (flat_map line_text written) joins ≡ Ok (numbered 1 written)
-    written_lines written each =
-        ap (λ found. unless_bad (bad_byte 1 found) (filter has_words (map in_words (joined joins 1 found)))) (physical_text written each)
-        ∙ ap (λ bad. unless_bad bad (filter has_words (map in_words (joined joins 1 (cut_lines written))))) (no_bad 1 written each)
-        ∙ ap (λ all. unless_bad None (filter has_words (map in_words all))) (joined_text 1 written each)
-        ∙ ap (unless_bad None) (words_text 1 written each)
+    written_lines written each = grind (arith, physical_text, no_bad, joined_text, words_text)
 
   -- each line has one LF
   breaks_are_lines : (written : List (List (List ℕ))) → All IsLine written → count_by is_lf (flat_map line_text written) ≡ length written
   breaks_are_lines [] each = refl
   breaks_are_lines (ws ∷ rest) each =
-      ap (count_by is_lf) (text_front ws rest)
-      ∙ breaks_line (line_of closes ws) (flat_map line_text rest) (plain_line closes ws (names_of ws rest each))
-      ∙ (let more = breaks_are_lines rest (All-tail IsLine ws rest each) in let e : 1 + count_by is_lf (flat_map line_text rest) ≡ length (ws ∷ rest) = omega (arith, more) in e)
+      grind (arith, text_front ws rest, breaks_line (line_of closes ws) (flat_map line_text rest) (plain_line closes ws (names_of ws rest each)), plain_line closes ws (names_of ws rest each), names_of ws rest each, breaks_are_lines rest (All-tail IsLine ws rest each), All-tail IsLine ws rest each)
 
   pub written_end : (written : List (List (List ℕ))) → All IsLine written → end_number (flat_map line_text written) ≡ 1 + length written
   written_end written each = let e = breaks_are_lines written each in let done : count_by is_lf (flat_map line_text written) + 1 ≡ 1 + length written = omega (arith, e) in done

@@ -8,9 +8,7 @@ use Rattle.blif_text.proofs.lines.read.Goals.{then-not-is_dropped+in_ok-take, el
 
 pub returns-in_err-take : goal.returns-in_err-take
 returns-in_err-take c =
-    let p = err_from_is_err_and c.from_residual.result c.from_residual.ensures.1 in
-    rw (p.1, p.2) (at_fault c.args.bytes.now c.args.joins (state_of c.loop-i.reader) c.loop-i.i (get_or c.args.bytes.now c.loop-i.i 0)
-    c.in_err-take.field-0.0 c.loop-i.invariant (omega arith) refl (sym c.is_dropped.ensures ∙ c.if-not-is_dropped.true) c.in_err-take.ensures)
+    grind (arith, err_from_is_err_and c.from_residual.result c.from_residual.ensures.1, at_fault c.args.bytes.now c.args.joins (state_of c.loop-i.reader) c.loop-i.i (get_or c.args.bytes.now c.loop-i.i 0) c.in_err-take.field-0.0 c.loop-i.invariant)
 
 pub loop-i-preserved : goal.loop-i-preserved
 loop-i-preserved c =
