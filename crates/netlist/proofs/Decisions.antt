@@ -19,8 +19,7 @@ is_blif_byte_decides b = (λ e. grind (arith, nat_tests), λ h. grind (arith, na
 
 -- a test of each element decides what it decides of each
 pub list_all_decides : {T : Type 0} (p : T → Bool) (P : T → Type 0) → ((x : T) → Decides (p x) (P x)) → (xs : List T) → Decides (list_all p xs) (All P xs)
-list_all_decides p P each xs =
-    (λ e k d l. (each _).0 (AllPass-from_list_all p xs e k d l), λ h. list_all-from_AllPass p xs (λ k d l. (each _).1 (h k d l)))
+list_all_decides p P each xs = grind (arith, AllPass-from_list_all p xs, list_all-from_AllPass p xs)
 
 pub is_blif_name_decides : (name : List ℕ) → Decides (is_blif_name name) (IsBlifName name)
 is_blif_name_decides [] = (λ e. absurd (true≢false (sym e)), λ h. absurd (h.0 refl))
@@ -30,26 +29,16 @@ is_blif_name_decides (b ∷ bs) =
 
 -- two tests that decide the same are one
 pub decided : {P : Type 0} (a b : Bool) → (IsTrue a ↔ P) → Decides b P → a ≡ b
-decided true true h d = refl
-decided false false h d = refl
-decided true false h d = absurd (true≢false (sym (d.1 (h.0 refl))))
-decided false true h d = absurd (true≢false (sym (h.1 (d.0 refl))))
+decided a b h d = grind arith
 
 -- a test of the names of all signals goes through inputs, latches and gates
 pub list_all_signal_names : (p : List ℕ → Bool) (net : Parts) →
     list_all p (signal_names net)
     ≡ (list_all p net.inputs && (list_all (λ latch. p latch.name) net.latches && list_all (λ gate. p gate.name) net.gates))
-list_all_signal_names p net =
-    rw (
-      list_all-append p net.inputs (driven_names net),
-      list_all-append p (map (λ latch. latch.name) net.latches) (map (λ gate. gate.name) net.gates),
-      list_all-map p (λ latch. latch.name) net.latches,
-      list_all-map p (λ gate. gate.name) net.gates,
-    )
+list_all_signal_names p net = grind (arith, list_all-append p net.inputs (driven_names net), list_all-append p, list_all-map p)
 
 pub Decides-and : {P Q : Type 0} (a b : Bool) → Decides a P → Decides b Q → Decides (a && b) (P × Q)
-Decides-and a b p q =
-    (λ e. (p.0 (and_parts a b e).0, q.0 (and_parts a b e).1), λ h. rw (p.1 h.0, q.1 h.1) refl)
+Decides-and a b p q = grind arith
 
 pub reads_signals_decides : (net : Parts) →
     Decides (reads_signals net)
@@ -63,10 +52,7 @@ reads_signals_decides net =
     (list_all_decides (is_signal (count net)) (IsSignal net) (λ s. Decides-ltb s.0 (count net)) net.outputs)
 
 regroup : (a b c d : Bool) → (((a && b) && c) && d) ≡ (a && (b && (c && d)))
-regroup true true true d = refl
-regroup true true false d = refl
-regroup true false c d = refl
-regroup false b c d = refl
+regroup a b c d = grind arith
 
 pub has_blif_names_decides : (net : Parts) → Decides (has_blif_names net) (IsBlifName net.name × All IsBlifName (signal_names net))
 has_blif_names_decides net =
@@ -85,8 +71,7 @@ pub none_found : {T : Type 0} (p : T → Bool) (xs : List T) → position p xs �
 none_found p xs e k d l = by (nat_lt (position_or_len p xs) (length xs)) refl e
   where
     by : (b : Bool) → nat_lt (position_or_len p xs) (length xs) ≡ b → (if b then Some (position_or_len p xs) else None) ≡ None → p (get_or xs k d) ≡ false
-    by true q n = cc
-    by false q n = fails_before_first p xs k d (omega (arith, ltb-false _ _ q))
+    by b q n = grind (arith, fails_before_first, ltb-false)
 
 pub found_none : {T : Type 0} (p : T → Bool) (xs : List T) (d : T) → All (λ x. p x ≡ false) xs → position p xs ≡ None
 found_none p xs d h = by (nat_lt (position_or_len p xs) (length xs)) refl
@@ -112,8 +97,7 @@ fits_clock_decides : (net : Parts) (clock : Option Clock) →
     Decides
     (option_map_or (λ c. list_any (λ latch. latch.clocked) net.latches && is_clock_name net c.name) clock (not (list_any (λ latch. latch.clocked) net.latches)))
     (FitsClock net clock)
-fits_clock_decides net None = (λ e. (not-true _ e, tt), λ h. rw h.0 refl)
-fits_clock_decides net (Some c) = Decides-and _ _ (λ e. e, λ e. e) (is_clock_name_decides net c.name)
+fits_clock_decides net clock = grind (arith, not-true, Decides-and, is_clock_name_decides)
 
 pub has_fitting_clock_decides : (net : Parts) → Decides (has_fitting_clock net) (FitsClock net net.clock)
 has_fitting_clock_decides net = fits_clock_decides net net.clock

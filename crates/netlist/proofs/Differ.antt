@@ -1,13 +1,12 @@
 -- A list repeats nothing exactly where its items differ from each other.
-use Rattle.std.proofs.Common.{◌≡◌, ◌++◌, ◌||◌, Bool, true, false, if◌then◌else◌, List, [], ◌∷◌, length, None, Some, refl, ◌∙◌, true≢false}
+use Rattle.std.proofs.Common.{◌≡◌, ◌++◌, ◌||◌, Bool, true, false, if◌then◌else◌, List, [], ◌∷◌, length, None, Some, refl, ◌∙◌, true≢false, arith}
 use Rattle.std.specs.List.{list_any, AllByRecursion, IsDistinct}
 use Rattle.std.proofs.lemmas.List.{append-nil, append_assoc}
 use Rattle.netlist.specs.Faults.{repeat_after, first_repeat}
 
 module _ {T : Type 0} (eq : T → T → Bool) (flips : (x y : T) → eq x y ≡ eq y x) where
   or_false : (a b : Bool) → (a || b) ≡ false → (a ≡ false) × (b ≡ false)
-  or_false true b e = absurd (true≢false e)
-  or_false false b e = (refl, e)
+  or_false a b e = grind arith
 
   past_end : (y x : T) (e : List T) → AllByRecursion (λ z. eq y z ≡ false) e → eq y x ≡ false → AllByRecursion (λ z. eq y z ≡ false) (e ++ x ∷ [])
   past_end y x [] h k = (k, tt)
@@ -17,9 +16,7 @@ module _ {T : Type 0} (eq : T → T → Bool) (flips : (x y : T) → eq x y ≡ 
   one_more : (e : List T) (x : T) → IsDistinct eq e → list_any (eq x) e ≡ false → IsDistinct eq (e ++ x ∷ [])
   unfolding IsDistinct
   one_more [] x d n = (tt, tt)
-  one_more (y ∷ e) x d n =
-      let o = or_false (eq x y) (list_any (eq x) e) n in
-      (past_end y x e d.0 (flips y x ∙ o.0), one_more e x d.1 o.1)
+  one_more (y ∷ e) x d n = grind (arith, or_false (eq x y) (list_any (eq x) e) n, past_end y x e d.0, one_more e x d.1)
 
   at_place : (y x : T) (e xs : List T) → AllByRecursion (λ z. eq y z ≡ false) (e ++ x ∷ xs) → eq y x ≡ false
   at_place y x [] xs h = h.0
@@ -32,12 +29,7 @@ module _ {T : Type 0} (eq : T → T → Bool) (flips : (x y : T) → eq x y ≡ 
 
   differ_after : (e xs : List T) → IsDistinct eq e → repeat_after eq e xs ≡ None → IsDistinct eq (e ++ xs)
   differ_after e [] d n = rw append-nil d
-  differ_after e (x ∷ xs) d n = by (list_any (eq x) e) refl n (λ q m. differ_after (e ++ x ∷ []) xs (one_more e x d q) m)
-    where
-      by : (b : Bool) → list_any (eq x) e ≡ b → (if b then Some (length e, x) else repeat_after eq (e ++ x ∷ []) xs) ≡ None →
-          (list_any (eq x) e ≡ false → repeat_after eq (e ++ x ∷ []) xs ≡ None → IsDistinct eq ((e ++ x ∷ []) ++ xs)) → IsDistinct eq (e ++ x ∷ xs)
-      by true q n rest = cc
-      by false q n rest = rw append_assoc at (rest q n)
+  differ_after e (x ∷ xs) d n = grind (arith, differ_after (e ++ x ∷ []) xs, one_more e x d, append_assoc)
 
   no_repeat_after : (e xs : List T) → IsDistinct eq (e ++ xs) → repeat_after eq e xs ≡ None
   no_repeat_after e [] d = refl

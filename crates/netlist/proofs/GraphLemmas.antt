@@ -19,8 +19,7 @@ Contains-there : {T : Type 0} (x y : T) (xs : List T) → Contains xs y → Cont
 Contains-there {T} x y xs (k, l, e) = (suc k, omega arith, e)
 
 Contains-cases : {T : Type 0} (x y : T) (xs : List T) → Contains (x ∷ xs) y → (x ≡ y) ⊎ Contains xs y
-Contains-cases {T} x y xs (zero, l, e) = inl e
-Contains-cases {T} x y xs (suc k, l, e) = inr (k, omega arith, e)
+Contains-cases {T} x y xs h = grind arith
 
 numbers_from-yes : (first : ℕ) (s : Sig) (signals : List Sig) → nat_le first s.0 ≡ true → numbers_from first (s ∷ signals) ≡ (s.0 - first) ∷ numbers_from first signals
 numbers_from-yes first s signals e = rw e refl
@@ -72,33 +71,14 @@ module _ (net : Parts) where
   length-gate_graph = length-map net.gates (gates_read (length net.inputs + length net.latches))
 
   pub feeds_edge : (a b : ℕ) → Feeds net a b → Edge (gate_graph net) b a
-  feeds_edge a b feeds =
-      let len = length-gate_graph in
-      let source = feeds.source in
-      let reader = feeds.reader in
-      record {
-        source = omega arith;
-        target = omega arith;
-        listed = rw (gate_graph-at b feeds.reader) (numbers_from-signal (length net.inputs + length net.latches) a (gate_at net b).pins feeds.pin);
-      }
+  feeds_edge a b feeds = grind (arith, length-gate_graph, gate_graph-at b feeds.reader, numbers_from-signal (length net.inputs + length net.latches) a (gate_at net b).pins feeds.pin)
 
   pub edge_feeds : (a b : ℕ) → Edge (gate_graph net) b a → Feeds net a b
-  edge_feeds a b edge =
-      let len = length-gate_graph in
-      let source = edge.source in
-      let target = edge.target in
-      let reader : b < length net.gates = omega arith in
-      record {
-        source = omega arith;
-        reader = reader;
-        pin = signal-numbers_from (length net.inputs + length net.latches) a (gate_at net b).pins
-            (subst (λ (ns : List ℕ). Contains ns a) (gate_graph-at b reader) edge.listed);
-      }
+  edge_feeds a b edge = grind (arith, length-gate_graph, signal-numbers_from (length net.inputs + length net.latches) a (gate_at net b).pins, gate_graph-at b)
 
   pub walk_reaches : (a b : ℕ) (via : List ℕ) → Walk net a via b → Reaches (gate_graph net) b a
   walk_reaches a b [] walk = record { via = []; walk = feeds_edge a b walk }
-  walk_reaches a b (x ∷ via) walk =
-      Reaches-trans (gate_graph net) b x a (walk_reaches x b via walk.1) (record { via = []; walk = feeds_edge a x walk.0 })
+  walk_reaches a b (x ∷ via) walk = grind (arith, Reaches-trans (gate_graph net) b x a (walk_reaches x b via walk.1), walk_reaches x b via walk.1, feeds_edge a x walk.0)
 
   -- a walk goes on to one more gate
   Walk-push : (a x b : ℕ) (via : List ℕ) → Walk net a via x → Feeds net x b → Walk net a (via ++ x ∷ []) b
@@ -130,18 +110,13 @@ module _ (net : Parts) where
   acyclic_loop_free acyclic a via walk = acyclic a (walk_reaches a a via walk)
 
   pub cycle_loop : HasCycle (gate_graph net) → HasLoop net
-  cycle_loop cycle =
-      let found = reaches_walk cycle.node cycle.node cycle.walk.via cycle.walk.walk in
-      record { gate = cycle.node; via = found.via; walk = found.walk }
+  cycle_loop cycle = grind (arith, reaches_walk cycle.node cycle.node cycle.walk.via cycle.walk.walk)
 
   pub found_order : {T : Type 0} (items : T → List ℕ) (found : Option T) → IfSome found (λ order. IsTopologicalOrder (gate_graph net) (items order)) → IfSome found (λ order. IsGateOrder net (items order))
-  found_order {T} items None is = tt
-  found_order {T} items (Some order) is = order_of_gates (items order) is
+  found_order {T} items h is = grind (arith, order_of_gates)
 
   pub found_loop_free : {T : Type 0} (found : Option T) → OnSome found (IsAcyclic (gate_graph net)) → OnSome found (IsLoopFree net)
-  found_loop_free {T} None is = tt
-  found_loop_free {T} (Some order) is = acyclic_loop_free is
+  found_loop_free {T} h is = grind (arith, acyclic_loop_free)
 
   pub found_loop : {T : Type 0} (found : Option T) → IfNone found (HasCycle (gate_graph net)) → IfNone found (HasLoop net)
-  found_loop {T} None is = cycle_loop is
-  found_loop {T} (Some order) is = tt
+  found_loop {T} h is = grind (arith, cycle_loop)

@@ -1,5 +1,5 @@
 -- The first repeat of a list, part by part.
-use Rattle.std.proofs.Common.{◌≡◌, ◌++◌, ◌+◌, ◌<◌, inl, inr, ℕ, Bool, true, false, List, [], ◌∷◌, length, map, take, drop, get_or, position, slice_get, refl, sym, ap, ◌∙◌, None, Some, Option, if◌then◌else◌}
+use Rattle.std.proofs.Common.{◌≡◌, ◌++◌, ◌+◌, ◌<◌, inl, inr, ℕ, Bool, true, false, List, [], ◌∷◌, length, map, take, drop, get_or, position, slice_get, refl, sym, ap, ◌∙◌, None, Some, Option, if◌then◌else◌, arith}
 use Rattle.std.specs.Option.{option_or, option_map}
 use Rattle.std.specs.List.{list_any}
 use Rattle.std.specs.Str.{bytes_eq}
@@ -16,50 +16,23 @@ use Rattle.netlist.specs.Naming.{AddsAll, RepeatsIn, StopsAt}
 pub repeat_after-append : {T : Type 0} (eq : T → T → Bool) (old xs ys : List T) →
     repeat_after eq old (xs ++ ys) ≡ option_or (repeat_after eq old xs) (repeat_after eq (old ++ xs) ys)
 repeat_after-append eq old [] ys = ap (λ l. repeat_after eq l ys) (sym (append-nil old))
-repeat_after-append eq old (x ∷ xs) ys =
-    elim (list_any (eq x) old)
-    as (λ b. (if b then Some (length old, x) else repeat_after eq (old ++ x ∷ []) (xs ++ ys)) ≡ option_or (if b then Some (length old, x) else repeat_after eq (old ++ x ∷ []) xs) (repeat_after eq (old ++ x ∷ xs) ys)) [
-      | true ↦ refl
-      | false ↦
-          repeat_after-append eq (old ++ x ∷ []) xs ys
-          ∙ ap (λ l. option_or (repeat_after eq (old ++ x ∷ []) xs) (repeat_after eq l ys)) (append_assoc old (x ∷ []) xs)
-    ]
+repeat_after-append eq old (x ∷ xs) ys = grind (arith, repeat_after-append eq (old ++ x ∷ []) xs ys, append_assoc old (x ∷ []) xs)
 
 pub AddsAll-append : (old xs mid ys new : List (List ℕ)) → AddsAll old xs mid → AddsAll mid ys new → AddsAll old (xs ++ ys) new
-AddsAll-append old xs mid ys new h k = record {
-  last = k.last ∙ ap (λ l. l ++ ys) h.last ∙ append_assoc old xs ys;
-  fresh =
-      repeat_after-append bytes_eq old xs ys
-      ∙ ap (λ r. option_or r (repeat_after bytes_eq (old ++ xs) ys)) h.fresh
-      ∙ ap (λ l. repeat_after bytes_eq l ys) (sym h.last)
-      ∙ k.fresh;
-}
+AddsAll-append old xs mid ys new h k = grind (arith, append_assoc old xs ys, repeat_after-append bytes_eq old xs ys)
 
 -- names that are added before don't hide a repeat
 pub RepeatsIn-later : (old xs mid ys : List (List ℕ)) (fault : PartsFault) → AddsAll old xs mid → RepeatsIn mid ys fault → RepeatsIn old (xs ++ ys) fault
-RepeatsIn-later old xs mid ys fault h k =
-    ap (option_map (λ p. NameTwice (signal p.0)))
-    (repeat_after-append bytes_eq old xs ys
-    ∙ ap (λ r. option_or r (repeat_after bytes_eq (old ++ xs) ys)) h.fresh
-    ∙ ap (λ l. repeat_after bytes_eq l ys) (sym h.last))
-    ∙ k
+RepeatsIn-later old xs mid ys fault h k = grind (arith, repeat_after-append bytes_eq old xs ys)
 
 -- nor do names that would follow
 pub RepeatsIn-earlier : (old xs ys : List (List ℕ)) (fault : PartsFault) → RepeatsIn old xs fault → RepeatsIn old (xs ++ ys) fault
-RepeatsIn-earlier old xs ys fault k =
-    ap (option_map (λ p. NameTwice (signal p.0))) (repeat_after-append bytes_eq old xs ys) ∙ by (repeat_after bytes_eq old xs) k
-  where
-    by : (r : Option (ℕ × List ℕ)) → option_map (λ p. NameTwice (signal p.0)) r ≡ Some fault →
-        option_map (λ p. NameTwice (signal p.0)) (option_or r (repeat_after bytes_eq (old ++ xs) ys)) ≡ Some fault
-    by None e = cc
-    by (Some p) e = e
+RepeatsIn-earlier old xs ys fault k = grind (arith, repeat_after-append bytes_eq old xs ys)
 
 -- one more of a list's items is given its name
 pub AddsAll-more : {T : Type 0} (name : T → List ℕ) (items : List T) (i : ℕ) (d : T) (old mid new : List (List ℕ)) → i < length items →
     AddsAll old (map name (take i items)) mid → AddsAll mid (name (get_or items i d) ∷ []) new → AddsAll old (map name (take (i + 1) items)) new
-AddsAll-more name items i d old mid new l h k =
-    rw (take_more items i d l, map-append name (take i items) (get_or items i d ∷ []))
-    (AddsAll-append old (map name (take i items)) mid (name (get_or items i d) ∷ []) new h k)
+AddsAll-more name items i d old mid new l h k = grind (arith, take_more items i d l, map-append name (take i items) (get_or items i d ∷ []), AddsAll-append old (map name (take i items)) mid (name (get_or items i d) ∷ []) new h k)
 
 -- or has a name that is there already
 pub RepeatsIn-more : {T : Type 0} (name : T → List ℕ) (items : List T) (i : ℕ) (d : T) (old mid : List (List ℕ)) (fault : PartsFault) → i < length items →
@@ -78,8 +51,7 @@ map-itself (x ∷ xs) = ap (λ l. x ∷ l) (map-itself xs)
 
 pub StopsAt-more : {T : Type 0} (name : T → List ℕ) (items : List T) (i : ℕ) (d : T) (old mid : List (List ℕ)) (fault : PartsFault) → i < length items →
     AddsAll old (map name (take i items)) mid → StopsAt mid (name (get_or items i d) ∷ []) fault → StopsAt old (map name items) fault
-StopsAt-more name items i d old mid fault l h k =
-    elim k [ inl e ↦ inl e | inr r ↦ inr (RepeatsIn-more name items i d old mid fault l h r) ]
+StopsAt-more name items i d old mid fault l h k = grind (arith, RepeatsIn-more name items i d old mid fault l h)
 
 pub StopsAt-earlier : (old xs ys : List (List ℕ)) (fault : PartsFault) → StopsAt old xs fault → StopsAt old (xs ++ ys) fault
 StopsAt-earlier old xs ys fault k = elim k [ inl e ↦ inl e | inr r ↦ inr (RepeatsIn-earlier old xs ys fault r) ]
@@ -89,6 +61,4 @@ StopsAt-later old xs mid ys fault h k = elim k [ inl e ↦ inl e | inr r ↦ inr
 
 -- the place of a name has that name
 pub place_of_name : (name : List ℕ) (names : List (List ℕ)) (i : ℕ) → position (bytes_eq name) names ≡ Some i → slice_get names i ≡ Some name
-place_of_name name names i e =
-    let at = position-Some (bytes_eq name) names i [] e in
-    slice_get-get_or names i [] at.0 ∙ ap Some (sym ((bytes_eq-Decides name (get_or names i [])).0 at.1))
+place_of_name name names i e = grind (arith, position-Some (bytes_eq name) names i [] e, slice_get-get_or names i [], bytes_eq-Decides name (get_or names i []))

@@ -1,5 +1,5 @@
 -- Parts have no fault exactly where they make a netlist.
-use Rattle.std.proofs.Common.{◌≡◌, ◌==◌, ℕ, not, ap, Bool, true, false, Option, None, refl, eqb-true}
+use Rattle.std.proofs.Common.{◌≡◌, ◌==◌, ℕ, not, ap, Bool, true, false, Option, None, refl, eqb-true, arith}
 use Rattle.std.specs.Option.{option_or, option_map}
 use Rattle.std.proofs.lemmas.Bool.{leb-true, le-leb, not-false, eq-eqb}
 use Rattle.std.proofs.lemmas.Cmp.{nat_eq_equiv, nat_list_eq_equiv}
@@ -13,8 +13,7 @@ use Rattle.netlist.proofs.Decisions.{reads_signals_decides, has_blif_names_decid
 use Rattle.netlist.proofs.Differ.{differ_from_no_repeat, no_repeat_from_differ}
 
 holds : (b : Bool) (fault : PartsFault) → unless b fault ≡ None → b ≡ true
-holds true fault e = refl
-holds false fault e = cc
+holds b fault e = grind arith
 
 pub netlist_without_fault : (net : Parts) → first_fault net ≡ None → IsNetlist net
 netlist_without_fault net e =

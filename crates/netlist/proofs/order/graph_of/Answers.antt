@@ -6,11 +6,7 @@ use Rattle.netlist.proofs.order.graph_of.Goals as goal
 
 one_more : (first : ℕ) (graph : List (List ℕ)) (gates : List Gate) (i : ℕ) (gate : Gate) (reads : List ℕ) → i < length gates → graph ≡ map (gates_read first) (take i gates) →
     gate ≡ get_or gates i gate → reads ≡ gates_read first gate → graph ++ reads ∷ [] ≡ map (gates_read first) (take (i + 1) gates)
-one_more first graph gates i gate reads within so_far at is =
-    ap (λ (l : List (List ℕ)). l ++ reads ∷ []) so_far
-    ∙ ap (λ (r : List ℕ). map (gates_read first) (take i gates) ++ r ∷ []) (is ∙ ap (gates_read first) at)
-    ∙ sym (map_push (gates_read first) (take i gates) (get_or gates i gate))
-    ∙ ap (map (gates_read first)) (sym (take_more gates i gate within))
+one_more first graph gates i gate reads within so_far at is = grind (arith, map_push (gates_read first) (take i gates) (get_or gates i gate), take_more gates i gate within)
 
 pub loop-gate-init : goal.loop-gate-init
 loop-gate-init c = c.new-graph.ensures
@@ -26,13 +22,7 @@ loop-gate-preserved c =
     c.loop-gate-test.true c.loop-gate.invariant c.gate-item.is reads
 
 pub add_node-requires : goal.add_node-requires
-add_node-requires c =
-    omega (
-      arith,
-      ap length c.loop-gate.invariant,
-      length-map (take c.loop-gate.gate-index c.args.gates.now) (gates_read c.args.first),
-      length-take c.loop-gate.gate-index c.args.gates.now,
-    )
+add_node-requires c = grind (arith, length-map (take c.loop-gate.gate-index c.args.gates.now) (gates_read c.args.first), length-take c.loop-gate.gate-index c.args.gates.now)
 
 pub returns : goal.returns
 returns c = c.loop-gate.invariant ∙ ap (map (gates_read c.args.first)) (take_all c.loop-gate.gate-index c.args.gates.now (omega arith))

@@ -1,3 +1,4 @@
+use Rattle.std.proofs.Common.{arith}
 use Rattle.netlist.proofs.GraphLemmas.{found_order, found_loop_free, found_loop}
 use Rattle.netlist.proofs.netlist.Netlist.in_order.Goals as goal
 
@@ -10,5 +11,4 @@ returns-clause-loop_free c =
     found_loop_free c.args.self.now c.in_ok-topological_order.field-0 (rw c.in_ok-graph.ensures.graph at c.in_ok-topological_order.ensures.acyclic)
 
 pub returns-clause-none : goal.returns-clause-none
-returns-clause-none c =
-    found_loop c.args.self.now c.in_ok-topological_order.field-0 (rw c.in_ok-graph.ensures.graph at c.in_ok-topological_order.ensures.none)
+returns-clause-none c = grind (arith, found_loop c.args.self.now c.in_ok-topological_order.field-0)
