@@ -22,26 +22,13 @@ pub value-kept : {s t : Arena} (operation : Operation) (q : Operands) → KeepsN
 value-kept operation q k h bits = λ j. combine operation (k.function q.a bits h.a j) (k.function q.b bits h.b j) (k.function q.c bits h.c j) (k.function q.d bits h.d j)
 
 pub IsBelow-kept : {s t : Arena} {q : Operands} {v : ℕ} → KeepsNodes s t → AreNodesOf s q → IsBelow t q v → IsBelow s q v
-IsBelow-kept {q = q} k h b = record {
-  a = omega (arith, b.a, k.variable q.a h.a);
-  b = omega (arith, b.b, k.variable q.b h.b);
-  c = omega (arith, b.c, k.variable q.c h.c);
-  d = omega (arith, b.d, k.variable q.d h.d);
-}
+IsBelow-kept {q = q} k h b = grind arith
 
 pub IsAnswer-kept : {operation : Operation} {s t : Arena} {q : Operands} {n : Node} → KeepsNodes s t → AreNodesOf s q → IsAnswer operation s q n → IsAnswer operation t q n
-IsAnswer-kept {operation} {s} {t} {q} {n} k h a = record {
-  node = IsNodeOf-kept k n a.node;
-  function = λ bits. k.function n bits a.node ∙ a.function bits ∙ sym (value-kept operation q k h bits);
-  top = λ v w b. omega (arith, a.top v (omega (arith, k.vars)) (IsBelow-kept k h b), k.variable n a.node);
-}
+IsAnswer-kept {operation} {s} {t} {q} {n} k h a = grind arith
 
 IsCofactor-kept : {s t : Arena} {n m : Node} {var : ℕ} {bit : Bool} → KeepsNodes s t → IsNodeOf s n → IsCofactor s n var bit m → IsCofactor t n var bit m
-IsCofactor-kept {n = n} {m = m} k h c = record {
-  node = IsNodeOf-kept k m c.node;
-  lower = omega (arith, c.lower, k.variable m c.node);
-  function = λ bits read. k.function n bits h ∙ c.function bits read ∙ sym (k.function m bits c.node);
-}
+IsCofactor-kept {n = n} {m = m} k h c = grind arith
 
 AreCofactors-kept : {s t : Arena} {q p : Operands} {var : ℕ} {bit : Bool} → KeepsNodes s t → AreNodesOf s q → AreCofactors s q var bit p → AreCofactors t q var bit p
 AreCofactors-kept k h c = record { a = IsCofactor-kept k h.a c.a; b = IsCofactor-kept k h.b c.b; c = IsCofactor-kept k h.c c.c; d = IsCofactor-kept k h.d c.d }
@@ -67,9 +54,7 @@ module _ (operation : Operation) (s : Arena) (q : Operands) (var : ℕ) (bit : B
 
   -- the cofactors' node reads later bits alone
   pub below_answer : var < s.vars → (n : Node) → IsAnswer operation s p n → var < top_of s n
-  below_answer within n is =
-      let low : IsBelow s p (var + 1) = record { a = omega (arith, of.a.lower); b = omega (arith, of.b.lower); c = omega (arith, of.c.lower); d = omega (arith, of.d.lower) } in
-      omega (arith, is.top (var + 1) (omega (arith, within)) low)
+  below_answer within n is = grind arith
 
   module _ (lawful : IsLawful s) (within : var < s.vars) where
     abbrev first : List Bool
@@ -87,11 +72,7 @@ module _ (operation : Operation) (s : Arena) (q : Operands) (var : ℕ) (bit : B
 
     -- the cofactors' function is the operands' with its first bits fixed
     pub IsPart-cofactors : IsPart s.vars (value operation s q) (value operation s p)
-    IsPart-cofactors = record {
-      first = first;
-      short = omega (arith, length-first);
-      same = λ bits len. λ j. combine operation (cofactor_value q.a p.a of.a bits j) (cofactor_value q.b p.b of.b bits j) (cofactor_value q.c p.c of.c bits j) (cofactor_value q.d p.d of.d bits j);
-    }
+    IsPart-cofactors = grind (arith, length-first, cofactor_value q.a p.a of.a, cofactor_value q.b p.b of.b, cofactor_value q.c p.c of.c, cofactor_value q.d p.d of.d)
 
 -- ---- the made node
 
@@ -107,11 +88,7 @@ module _ (operation : Operation) (s : Arena) (answered : Answered) (are : AreAns
 
   -- Shannon's expansion
   pub made-value : (bits : List Bool) → made bits ≡ value operation s answered.asked bits
-  made-value bits = by (get_or bits answered.var false) refl
-    where
-      by : (c : Bool) → get_or bits answered.var false ≡ c → (if c then den s answered.high bits else den s answered.low bits) ≡ value operation s answered.asked bits
-      by true e = are.4.function bits ∙ sym (value-cofactors operation s answered.asked answered.var true are.1 are.2.high bits e)
-      by false e = are.3.function bits ∙ sym (value-cofactors operation s answered.asked answered.var false are.0 are.2.low bits e)
+  made-value bits = grind arith
 
   IsPart-made : IsPart s.vars (value operation s answered.asked) made
   IsPart-made = IsPart-alike (IsPart-whole s.vars (value operation s answered.asked)) (λ bits len. made-value bits)

@@ -1,5 +1,5 @@
 -- The questions that wait: each is a part of the root's function.
-use Rattle.std.proofs.Common.{◌≡◌, ℕ, true, false, Bool, not, List, [], ◌∷◌, ◌++◌, ◌⊎◌, inl, inr, Result, Ok, Err, is_ok, is_err, if◌then◌else◌, true≢false, refl, sym, ap, subst, ◌∙◌, reverse}
+use Rattle.std.proofs.Common.{◌≡◌, ℕ, true, false, Bool, not, List, [], ◌∷◌, ◌++◌, ◌⊎◌, inl, inr, Result, Ok, Err, is_ok, is_err, if◌then◌else◌, true≢false, refl, sym, ap, subst, ◌∙◌, reverse, arith}
 use Rattle.std.proofs.lemmas.List.{reverse-append}
 use Rattle.bdd_store.specs.declared.node.Node.{Node}
 use Rattle.bdd_store.specs.Arena.{Arena, complemented_if, flipped}
@@ -31,8 +31,7 @@ IsChain-kept operation s t root [] q k h = h
 IsChain-kept operation s t root (w ∷ ws) q k h = (WaitsFor-kept operation s t w q k h.0, h.1, h.2, IsChain-kept operation s t root ws h.1 k h.3)
 
 pub WaitsFor-nodes : (operation : Operation) (s : Arena) (w : Question) (q : Operands) → WaitsFor operation s w q → AreNodesOf s q
-WaitsFor-nodes operation s (Low asked var high) q h = AreNodesOf-cofactors operation s asked.operands var false q h.low
-WaitsFor-nodes operation s (High asked var low) q h = AreNodesOf-cofactors operation s asked.operands var true q h.1.high
+WaitsFor-nodes operation s w q h = grind arith
 
 pub IsChain-nodes : (operation : Operation) (s : Arena) (root : Operands) (ws : List Question) (q : Operands) → AreNodesOf s root → IsChain operation s root ws q → AreNodesOf s q
 IsChain-nodes operation s root [] q nodes h = subst (λ (r : Operands). AreNodesOf s r) (sym h) nodes
@@ -84,10 +83,7 @@ asked-turn operation s root ws turn q is t = subst (IsTurn operation s root ws) 
 
 -- the questions behind the one that is taken from the stack
 pub behind : (operation : Operation) (s : Arena) (root : Operands) (items rest : List Question) (w : Question) (turn : Turn) (n : Node) → turn ≡ Answer n → items ≡ rest ++ w ∷ [] → IsTurn operation s root (reverse items) turn → (r : Operands) × IsFormOf operation r (mark_of w) (asked_of w) × IsChain operation s root (reverse rest) r
-behind operation s root items rest w turn n is e t =
-    let answered : IsTurn operation s root (reverse items) (Answer n) = subst (IsTurn operation s root (reverse items)) is t in
-    let chain : IsChain operation s root (w ∷ reverse rest) answered.0 = subst (λ ws. IsChain operation s root ws answered.0) (ap reverse e ∙ reverse-push rest w) answered.1 in
-    (chain.1, chain.2, chain.3)
+behind operation s root items rest w turn n is e t = grind (arith, reverse-push)
 
 IsPart-root : (operation : Operation) (vars : ℕ) (r s : Arena) (root : Operands) → AreNodesOf r root → KeepsNodes r s → IsPart vars (value operation r root) (value operation s root)
 IsPart-root operation vars r s root nodes k = IsPart-alike (IsPart-whole vars (value operation r root)) (λ bits len. value-kept operation root k nodes bits)
@@ -113,17 +109,14 @@ answer-behind operation s w asked var low n is r form answer =
 
 -- what a push that did not fail left
 pub pushed : {T X E : Type 0} (r : Result X E) (xs ys zs : List T) → false ≡ is_err r → xs ≡ (if is_ok r then ys else zs) → xs ≡ ys
-pushed (Ok x) xs ys zs e h = h
-pushed (Err x) xs ys zs e h = absurd (true≢false (sym e))
+pushed r xs ys zs e h = grind arith
 
 -- ---- a question that is taken from the stack with its answer
 
 module _ (operation : Operation) (s t : Arena) (root : Operands) (items rest : List Question) (w : Question) (n : Node) (kept : KeepsNodes s t) (last : items ≡ rest ++ w ∷ []) (turn : IsTurn operation s root (reverse items) (Answer n)) where
   -- what waits for it, in the store that its answer leaves
   pub behind-kept : (r : Operands) × IsFormOf operation r (mark_of w) (asked_of w) × IsChain operation t root (reverse rest) r
-  behind-kept =
-      let b = behind operation s root items rest w (Answer n) n refl last turn in
-      (b.0, b.1, IsChain-kept operation s t root (reverse rest) b.0 kept b.2)
+  behind-kept = grind (arith, behind operation s root items rest w (Answer n) n, IsChain-kept operation s t root (reverse rest))
 
   taken-part : IsLawful s → IsEither s.vars (value operation s root) (value operation s (asked_of w))
   taken-part lawful =

@@ -11,13 +11,7 @@ use Rattle.bdd_ops.specs.Operations.{if_then_else}
 use Rattle.bdd_ops.specs.Choices.{IsNodeOfChoice, AreRight}
 
 pub IsNodeOfChoice-kept : (s t : Arena) (q : Choice) (n : Node) → KeepsNodes s t → IsNodeOfChoice s q n → IsNodeOfChoice t q n
-IsNodeOfChoice-kept s t q n k is = record {
-  a = IsNodeOf-kept k q.a is.a;
-  b = IsNodeOf-kept k q.b is.b;
-  c = IsNodeOf-kept k q.c is.c;
-  node = IsNodeOf-kept k n is.node;
-  function = λ bits. k.function n bits is.node ∙ is.function bits ∙ sym (λ j. if k.function q.a bits is.a j then k.function q.b bits is.b j else k.function q.c bits is.c j);
-}
+IsNodeOfChoice-kept s t q n k is = grind arith
 
 pub AreRight-kept : (s t : Arena) → KeepsNodes s t → t.answers ≡ s.answers → AreRight s → AreRight t
 AreRight-kept s t k same are = record { each = λ q n has. IsNodeOfChoice-kept s t q n k (are.each q n (subst (λ l. Contains l (q, n)) same has)) }

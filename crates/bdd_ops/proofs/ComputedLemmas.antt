@@ -1,5 +1,5 @@
 -- The computed table: what it holds stays right as the table grows, and as the store does.
-use Rattle.std.proofs.Common.{◌≡◌, ◌⊎◌, inl, inr, Bool, false, List, ◌++◌, map, All, Contains, sym, subst}
+use Rattle.std.proofs.Common.{◌≡◌, ◌⊎◌, inl, inr, Bool, false, List, ◌++◌, map, All, Contains, sym, subst, arith}
 use Rattle.std.proofs.lemmas.List.Elements.{All-append, All-map, All-weaker, All-contains, All-contains_itself, Contains-append_left, Contains-append_right}
 use Rattle.cyc_base.proofs.ListLemmas.{Contains-map}
 use Rattle.bdd_store.specs.declared.node.Node.{Node}
@@ -26,9 +26,7 @@ abbrev pub chosen_of : Computed → Chosen
 chosen_of c = record { a = c.operands.a; b = c.operands.b; c = c.operands.c; answer = c.answer }
 
 IsComputed-chosen : (s : Arena) (c : Computed) → c.operation ≡ Ite → c.operands.d ≡ constant false → IsComputed s c → IsComputed s (computed_of (chosen_of c))
-IsComputed-chosen s c operation last is =
-    subst (λ d. IsComputed s (record { operation = Ite; operands = record { a = c.operands.a; b = c.operands.b; c = c.operands.c; d = d }; answer = c.answer })) last
-    (subst (λ o. IsComputed s (record { operation = o; operands = c.operands; answer = c.answer })) operation is)
+IsComputed-chosen s c operation last is = grind arith
 
 pub Contains-choice : (choices : List Chosen) (others : List Computed) (chosen : Chosen) → Contains choices chosen → Contains (map computed_of choices ++ others) (computed_of chosen)
 Contains-choice choices others chosen has = Contains-append_left (map computed_of choices) others (computed_of chosen) (Contains-map computed_of choices chosen has)
@@ -54,10 +52,7 @@ AreComputed-idle s choices others chosen c choices_are others_are is_choice is =
 
 -- in each slot what was in one before, or the new entry
 All-put : {X : Type 0} (P : X → Type 0) (old new : List X) (x : X) → All (λ kept. Contains old kept ⊎ (kept ≡ x)) new → P x → All P old → All P new
-All-put P old new x kept is are = All-weaker (λ y. Contains old y ⊎ (y ≡ x)) P (λ y. elim [
-  | inl has ↦ All-contains P old y are has
-  | inr e ↦ subst P (sym e) is
-]) new kept
+All-put P old new x kept is are = grind arith
 
 pub AreComputed-choice_put : (s : Arena) (old new : List Chosen) (others : List Computed) (c : Computed) → All (λ kept. Contains old kept ⊎ (kept ≡ chosen_of c)) new → c.operation ≡ Ite → c.operands.d ≡ constant false → IsComputed s c → AreComputed s (map computed_of old ++ others) → AreComputed s (map computed_of new ++ others)
 AreComputed-choice_put s old new others c kept operation last is are = AreComputed-parts s new others (All-put (λ x. IsComputed s (computed_of x)) old new (chosen_of c) kept (IsComputed-chosen s c operation last is) (AreComputed-choices s old others are)) (AreComputed-others s old others are)
@@ -67,8 +62,7 @@ AreComputed-other_put s choices old new c kept is are = AreComputed-parts s choi
 
 -- what the table has at the form of operands answers them, under its mark
 pub IsAnswer-found : (operation : Operation) (s : Arena) (table : List Computed) (q p : Operands) (mark : Bool) (form : Operands) (n : Node) → IsFormOf operation q false p → IsFormOf operation p mark form → Contains table (record { operation = operation; operands = form; answer = n }) → AreComputed s table → IsAnswer operation s q (complemented_if mark n)
-IsAnswer-found operation s table q p mark form n simple stands has are =
-    IsAnswer-back operation s q mark form n (StandsFor-chain (simple s) (stands s)) (All-contains (IsComputed s) table (record { operation = operation; operands = form; answer = n }) are has).answer
+IsAnswer-found operation s table q p mark form n simple stands has are = grind (arith, IsAnswer-back operation s q mark form n (StandsFor-chain (simple s) (stands s)), StandsFor-chain (simple s) (stands s), All-contains (IsComputed s) table)
 
 -- and what decides their simple form
 pub IsAnswer-decided : (operation : Operation) (q p : Operands) (n : Node) → IsFormOf operation q false p → ((s : Arena) → AreNodesOf s p → IsAnswer operation s p n) → (s : Arena) → AreNodesOf s q → IsAnswer operation s q n

@@ -62,10 +62,7 @@ module _ (f : List Bool → Bool) (count : ℕ) (out : List Bool) (c : ℕ) (lon
 
   -- the bit stays 0, where a vector goes on so
   pub AreDecided-zero : Takes f count (take (c + 1) (set out c false)) true → AreDecided f count (set out c false) (c + 1)
-  AreDecided-zero possible = record {
-    possible = possible;
-    before = λ w w_long there. subst (λ (v : List Bool). AtMost v w) (sym (take_more_set out c false less)) (AtMost-extend (take c out) false 0 w (were.before w w_long there) (omega (arith, length-first)) (λ rest e. refl));
-  }
+  AreDecided-zero possible = grind (arith, take_more_set out c false less, AtMost-extend (take c out) false 0, length-first)
 
   -- a vector at which the function is true, and its next bit
   next_bit : (w : List Bool) (b : Bool) → length w ≡ count → take c w ≡ take c out → get_or w c false ≡ b → take (c + 1) w ≡ take c out ++ b ∷ []
@@ -76,29 +73,14 @@ module _ (f : List Bool → Bool) (count : ℕ) (out : List Bool) (c : ℕ) (lon
   Takes-unread unread =
       let old = were.possible in
       let zeroed = set old.vector c false in
-      let begins : take c zeroed ≡ take c out = take-set old.vector c false ∙ ap (λ k. take k old.vector) (sym length-first) ∙ old.begins in
-      let size : length (take (c + 1) (set out c false)) ≡ c + 1 = length-take-le (c + 1) (set out c false) (omega (arith, length-set out c false)) in
-      let zeroed_long : length zeroed ≡ count = length-set old.vector c false ∙ old.long in
-      record {
-        vector = zeroed;
-        long = zeroed_long;
-        begins = ap (λ k. take k zeroed) size ∙ next_bit zeroed false zeroed_long begins (get_or-set_same old.vector c false false (omega (arith, old.long))) ∙ sym (take_more_set out c false less);
-        value_there = unread old.vector false ∙ old.value_there;
-      }
+      grind (arith, take-set old.vector c false, length-first, length-take-le (c + 1) (set out c false), length-set out c false, length-set old.vector c false, next_bit zeroed false, get_or-set_same old.vector c false false, take_more_set out c false less)
 
   module _ (none : Takes f count (take (c + 1) (set out c false)) true → ⊥) where
     not_zero : (w : List Bool) → length w ≡ count → f w ≡ true → take c w ≡ take c out → get_or w c false ≡ false → ⊥
-    not_zero w w_long there begins bit =
-        let whole = take (c + 1) (set out c false) in
-        let size : length whole ≡ c + 1 = length-take-le (c + 1) (set out c false) (omega (arith, length-set out c false)) in
-        none (record { vector = w; long = w_long; begins = ap (λ k. take k w) size ∙ next_bit w false w_long begins bit ∙ sym (take_more_set out c false less); value_there = there })
+    not_zero w w_long there begins bit = grind (arith, length-take-le, length-set, next_bit, take_more_set)
 
     one_there : (w : List Bool) → length w ≡ count → f w ≡ true → take c w ≡ take c out → get_or w c false ≡ true
-    one_there w w_long there begins = by (get_or w c false) refl
-      where
-        by : (b : Bool) → get_or w c false ≡ b → b ≡ true
-        by true bit = refl
-        by false bit = absurd (not_zero w w_long there begins bit)
+    one_there w w_long there begins = grind (arith, not_zero)
 
     cut : take (c + 1) (set (set out c false) c true) ≡ take c out ++ true ∷ []
     cut = take_more_set (set out c false) c true (omega (arith, length-set out c false)) ∙ ap (λ (v : List Bool). v ++ true ∷ []) (take-set out c false)
@@ -109,15 +91,4 @@ module _ (f : List Bool → Bool) (count : ℕ) (out : List Bool) (c : ℕ) (lon
         let old = were.possible in
         let begins : take c old.vector ≡ take c out = ap (λ k. take k old.vector) (sym length-first) ∙ old.begins in
         let size : length (take (c + 1) (set (set out c false) c true)) ≡ c + 1 = length-take-le (c + 1) (set (set out c false) c true) (omega (arith, length-set (set out c false) c true, length-set out c false)) in
-        record {
-          possible = record {
-            vector = old.vector;
-            long = old.long;
-            begins = ap (λ k. take k old.vector) size ∙ next_bit old.vector true old.long begins (one_there old.vector old.long old.value_there begins) ∙ sym cut;
-            value_there = old.value_there;
-          };
-          before = λ w w_long there. subst (λ (v : List Bool). AtMost v w) (sym cut) (AtMost-extend (take c out) true 0 w (were.before w w_long there) (omega (arith, length-first))
-              (λ rest e. absurd (not_zero w w_long there
-              (ap (take c) e ∙ ap (λ k. take k (take c out ++ false ∷ rest)) (sym length-first) ∙ take-append_seam (take c out) (false ∷ rest))
-              (ap (λ v. get_or v c false) e ∙ get_or_at (take c out) false rest false c length-first))));
-        }
+        grind (arith, next_bit old.vector true old.long begins (one_there old.vector old.long old.value_there begins), one_there old.vector old.long old.value_there begins, cut, AtMost-extend (take c out) true 0, length-first, not_zero, take-append_seam (take c out), get_or_at (take c out) false)

@@ -14,13 +14,7 @@ use Rattle.bdd_ops.specs.Least.{IsLeast}
 pub cleared-more : (n : ℕ) (d : List Bool) → n < length d → set (replicate n false ++ drop n d) n false ≡ replicate (n + 1) false ++ drop (n + 1) d
 cleared-more n d h =
     let rest = drop (suc n) d in
-    let one : suc n ≡ n + 1 = omega arith in
-    ap (λ l. set (replicate n false ++ l) n false) (drop-cons d n false h)
-    ∙ ap (λ k. set (replicate n false ++ get_or d n false ∷ rest) k false) (sym (length-replicate n false))
-    ∙ set-append_seam (replicate n false) (get_or d n false) rest false
-    ∙ sym (append_assoc (replicate n false) (false ∷ []) rest)
-    ∙ ap (λ l. l ++ rest) (replicate-append-replicate n 1 false)
-    ∙ ap (λ k. replicate (n + 1) false ++ drop k d) one
+    grind (arith, drop-cons d n false h, length-replicate n false, set-append_seam (replicate n false) (get_or d n false) rest false, append_assoc (replicate n false) (false ∷ []) rest, replicate-append-replicate n 1 false)
 
 pub cleared-all : (n : ℕ) (d out : List Bool) → n ≡ length d → out ≡ replicate n false ++ drop n d → out ≡ replicate (length d) false
 cleared-all n d out e h = h ∙ ap (λ k. replicate k false ++ drop k d) e ∙ ap (λ l. replicate (length d) false ++ l) (drop_all (length d) d (omega arith)) ∙ append-nil (replicate (length d) false)
@@ -56,18 +50,8 @@ pub record IsOnWay (s : Arena) (root at : Node) (out : List Bool) : Type 0 where
 
 pub IsOnWay-start : (s : Arena) → IsLawful s → (root : Node) (out : List Bool) → IsNodeOf s root → root ≢ constant false → out ≡ replicate s.vars false → IsOnWay s root root out
 IsOnWay-start s lawful root out node alive e =
-    let within : top_of s root ≤ s.vars = lawful.within root node in
     let k = top_of s root in
-    let long : length (replicate k false) ≡ k = length-replicate k false in
-    record {
-      node = node;
-      alive = alive;
-      first = replicate k false;
-      out_is = e ∙ (let whole : k + (s.vars - length (replicate k false)) ≡ s.vars = omega arith in ap (λ n. replicate n false) (sym whole)) ∙ sym (replicate-append-replicate k (s.vars - length (replicate k false)) false);
-      place = long;
-      agree = λ rest. refl;
-      before = λ w len true_there. AtMost-zeros k w (omega arith);
-    }
+    grind (arith, length-replicate k false, replicate-append-replicate k (s.vars - length (replicate k false)) false, AtMost-zeros k)
 
 module _ (s : Arena) (lawful : IsLawful s) (root at next : Node) (out : List Bool) (way : IsOnWay s root at out) (c : Bool)
     (in_next : IsNodeOf s next) (lower : top_of s at < top_of s next) (alive : next ≢ constant false)
@@ -86,11 +70,7 @@ module _ (s : Arena) (lawful : IsLawful s) (root at next : Node) (out : List Boo
   next_within = lawful.within next in_next
 
   allowed : (w : List Bool) → den s root w ≡ true → (rest : List Bool) → w ≡ way.first ++ false ∷ rest → c ≡ false
-  allowed w true_there rest e = by c refl
-    where
-      by : (b : Bool) → c ≡ b → b ≡ false
-      by false h = refl
-      by true h = absurd (true≢false (sym true_there ∙ ap (den s root) e ∙ way.agree (false ∷ rest) ∙ other h (way.first ++ false ∷ rest) (get_or_at way.first false rest false (top_of s at) way.place)))
+  allowed w true_there rest e = grind (arith, true≢false, get_or_at)
 
   pub IsOnWay-next : (out' : List Bool) → out' ≡ way.first ++ c ∷ replicate (s.vars - (top_of s at + 1)) false → IsOnWay s root next out'
   IsOnWay-next out' e = record {
@@ -129,18 +109,10 @@ pub is_the_constant : (m zero_node : Node) (r : Bool) → r ≡ nat_eq m.number 
 is_the_constant m zero_node r is same e = (λ j. record { number = eqb-true m.number zero_node.number (sym is ∙ same) j }) ∙ e
 
 pub number_one : (n : Node) → n.number < 2 → n ≢ constant false → n ≡ constant true
-number_one n low apart = by n.number low (λ e. apart (λ j. record { number = e j }))
-  where
-    by : (k : ℕ) → k < 2 → (k ≡ 0 → ⊥) → record { number = k } ≡ constant true
-    by zero h ne = absurd (ne refl)
-    by (suc zero) h ne = refl
-    by (suc (suc k)) h ne = absurd (omega arith)
+number_one n low apart = grind arith
 
 top_of-low : (s : Arena) → IsLawful s → (at : Node) → IsNodeOf s at → at.number < 2 → top_of s at ≡ s.vars
-top_of-low s lawful at node low = elim (cases_lt (top_of s at) s.vars) [
-  | inl h ↦ absurd (omega (arith, (lawful.branching at node).1 h))
-  | inr h ↦ omega (arith, lawful.within at node)
-]
+top_of-low s lawful at node low = grind arith
 
 -- at the end the bits are the least vector
 pub IsLeast-end : (s : Arena) → IsLawful s → (root at : Node) (out : List Bool) → IsOnWay s root at out → at.number < 2 → IsLeast (den s root) out

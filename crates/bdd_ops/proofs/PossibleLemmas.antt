@@ -45,31 +45,11 @@ by_variable-set (x ∷ columns) v (suc k) c b less at within once =
 
 -- functions with one value everywhere take the same values
 pub AreValuesOf-alike : (f g : List Bool → Bool) (count : ℕ) (first : List Bool) (v : Values) → ((w : List Bool) → f w ≡ g w) → AreValuesOf f count first v → AreValuesOf g count first v
-AreValuesOf-alike f g count first v same are = record {
-  one = (λ h. over f g true same (are.one.0 h), λ t. are.one.1 (over g f true (λ w. sym (same w)) t));
-  zero = (λ h. over f g false same (are.zero.0 h), λ t. are.zero.1 (over g f false (λ w. sym (same w)) t));
-}
-  where
-    over : (f g : List Bool → Bool) (b : Bool) → ((w : List Bool) → f w ≡ g w) → Takes f count first b → Takes g count first b
-    over f g b same t = record { vector = t.vector; long = t.long; begins = t.begins; value_there = sym (same t.vector) ∙ t.value_there }
+AreValuesOf-alike f g count first v same are = grind arith
 
 -- of the complement
 AreValuesOf-not : (f : List Bool → Bool) (count : ℕ) (first : List Bool) (v : Values) → AreValuesOf f count first v → AreValuesOf (λ w. not (f w)) count first (record { one = v.zero; zero = v.one })
-AreValuesOf-not f count first v are = record {
-  one = (λ h. to true (are.zero.0 h), λ t. are.zero.1 (from true t));
-  zero = (λ h. to false (are.one.0 h), λ t. are.one.1 (from false t));
-}
-  where
-    not-not : (b c : Bool) → not b ≡ c → b ≡ not c
-    not-not true c e = ap not e
-    not-not false c e = ap not e
-
-    to : (b : Bool) → Takes f count first (not b) → Takes (λ w. not (f w)) count first b
-    to true t = record { vector = t.vector; long = t.long; begins = t.begins; value_there = ap not t.value_there }
-    to false t = record { vector = t.vector; long = t.long; begins = t.begins; value_there = ap not t.value_there }
-
-    from : (b : Bool) → Takes (λ w. not (f w)) count first b → Takes f count first (not b)
-    from b t = record { vector = t.vector; long = t.long; begins = t.begins; value_there = not-not (f t.vector) b t.value_there }
+AreValuesOf-not f count first v are = grind arith
 
 pub AreValuesOf-flipped : (m : Bool) (f : List Bool → Bool) (count : ℕ) (first : List Bool) (v : Values) → AreValuesOf f count first v → AreValuesOf (λ w. flipped m (f w)) count first (flipped_values m v)
 AreValuesOf-flipped true f count first v are = AreValuesOf-not f count first v are
@@ -77,18 +57,7 @@ AreValuesOf-flipped false f count first v are = are
 
 -- the constant true has the value 1, and no other
 AreValuesOf-true : (f : List Bool → Bool) (count : ℕ) (first : List Bool) → length first ≤ count → ((w : List Bool) → f w ≡ true) → AreValuesOf f count first (record { one = true; zero = false })
-AreValuesOf-true f count first short ever = record {
-  one = (
-    λ h. record {
-      vector = first ++ replicate (count - length first) false;
-      long = omega (arith, length-append first (replicate (count - length first) false), length-replicate (count - length first) false);
-      begins = take-append_seam first (replicate (count - length first) false);
-      value_there = ever _;
-    },
-    λ t. refl,
-  );
-  zero = (λ h. absurd (true≢false (sym h)), λ t. absurd (true≢false (sym (ever t.vector) ∙ t.value_there)));
-}
+AreValuesOf-true f count first short ever = grind (arith, length-append first (replicate (count - length first) false), length-replicate (count - length first) false, take-append_seam first (replicate (count - length first) false), true≢false)
 
 -- ---- branches
 
@@ -105,8 +74,7 @@ module _ (s : Arena) (lawful : IsLawful s) (columns : List ℕ) (are : IsLayout 
 
   -- the function is the branch's, by the bit at the column
   pub same_there : (w : List Bool) (b : Bool) → get_or w column false ≡ b → of_node n w ≡ of_node (if b then hi else lo) w
-  same_there w true at = high.function (by_variable columns w) (read w true at)
-  same_there w false at = low.function (by_variable columns w) (read w false at)
+  same_there w b at = grind (arith, read)
 
   -- the branch doesn't read the bit
   unread : (m : Node) → IsNodeOf s m → top_of s n < top_of s m → (w : List Bool) (b : Bool) → length w ≡ s.vars → of_node m (set w column b) ≡ of_node m w
@@ -127,8 +95,7 @@ module _ (s : Arena) (lawful : IsLawful s) (columns : List ℕ) (are : IsLayout 
       }
     where
       by : (b : Bool) (t : Takes (of_node (if b then hi else lo)) s.vars first v) → of_node (if b then hi else lo) (set t.vector column b) ≡ of_node (if b then hi else lo) t.vector
-      by true t = unread hi high.node high.lower t.vector true t.long
-      by false t = unread lo low.node low.lower t.vector false t.long
+      by b t = grind (arith, unread)
 
   split : (v : Bool) → Takes (of_node n) s.vars first v → Takes (of_node hi) s.vars first v ⊎ Takes (of_node lo) s.vars first v
   split v t = by (get_or t.vector column false) refl
@@ -139,9 +106,7 @@ module _ (s : Arena) (lawful : IsLawful s) (columns : List ℕ) (are : IsLayout 
 
   -- where the bit is given, the node has the values of that branch
   given_bit : (w : List Bool) (bit : Bool) → slice_get first column ≡ Some bit → take (length first) w ≡ first → get_or w column false ≡ bit
-  given_bit w bit at begins =
-      let less : column < length first = slice_get_within first column bit at in
-      sym (get_or-take (length first) w column false less) ∙ ap (λ xs. get_or xs column false) begins ∙ get_or_from_slice_get first column bit false at
+  given_bit w bit at begins = grind (arith, slice_get_within, get_or-take, get_or_from_slice_get)
 
   given_one : (bit v : Bool) → slice_get first column ≡ Some bit → Takes (of_node n) s.vars first v ↔ Takes (of_node (if bit then hi else lo)) s.vars first v
   given_one bit v at = (
@@ -150,22 +115,19 @@ module _ (s : Arena) (lawful : IsLawful s) (columns : List ℕ) (are : IsLayout 
   )
 
   either_true : (a b : Bool) → (a || b) ≡ true → (a ≡ true) ⊎ (b ≡ true)
-  either_true true b h = inl refl
-  either_true false b h = inr h
+  either_true a b h = grind arith
 
   or_left : (a b : Bool) → a ≡ true → (a || b) ≡ true
   or_left a b h = ap (λ c. c || b) h
 
   or_right : (a b : Bool) → b ≡ true → (a || b) ≡ true
-  or_right true b h = refl
-  or_right false b h = h
+  or_right a b h = grind arith
 
   pub AreValuesOf-branches : (vl vh : Values) → AreValuesOf (of_node lo) s.vars first vl → AreValuesOf (of_node hi) s.vars first vh → AreValuesOf (of_node n) s.vars first (branch_values vl vh (slice_get first column))
   AreValuesOf-branches vl vh at_lo at_hi = by (slice_get first column) refl
     where
       given : (bit : Bool) → slice_get first column ≡ Some bit → AreValuesOf (of_node (if bit then hi else lo)) s.vars first (if bit then vh else vl)
-      given true at = at_hi
-      given false at = at_lo
+      given bit at = grind arith
 
       by : (o : Option Bool) → slice_get first column ≡ o → AreValuesOf (of_node n) s.vars first (branch_values vl vh o)
       by (Some bit) at =

@@ -15,12 +15,7 @@ use Rattle.bdd_ops.proofs.PossibleLemmas.{same_there}
 
 -- a mark that is set leaves the earlier ones
 mark-keeps : (marks : List Bool) (j i : ℕ) → get_or marks i false ≡ true → get_or (set marks j true) i false ≡ true
-mark-keeps marks j i h = elim (cases_eq i j) [
-  | inl same ↦
-      let within : i < length marks = elim (cases_lt i (length marks)) [ inl less ↦ less | inr past ↦ absurd (true≢false (sym h ∙ get_or_past marks i false past)) ] in
-      ap (λ k. get_or (set marks j true) k false) same ∙ get_or-set_same marks j true false (omega (arith, within, same))
-  | inr apart ↦ get_or-set_other marks j i true false apart ∙ h
-]
+mark-keeps marks j i h = grind (arith, cases_eq, cases_lt, true≢false, get_or_past, get_or-set_same, get_or-set_other)
 
 -- a column without a mark that no marked index up to the last reads, the node doesn't read
 abbrev pub AreMarkedDownTo : Arena → List ℕ → Node → List Bool → List Bool → ℕ → Type 0
@@ -29,14 +24,10 @@ AreMarkedDownTo s columns n reached read last = (column : ℕ) → get_or read c
     → IsUnread (λ v. den s n (by_variable columns v)) column
 
 pub AreMarkedDownTo-start : (s : Arena) (columns : List ℕ) (n : Node) (reached read : List Bool) (i last : ℕ) → i ≡ index n → last ≡ index n → i < length reached → AreMarkedDownTo s columns n (set reached i true) read last
-AreMarkedDownTo-start s columns n reached read i last i_is last_is within column unmarked each v bit =
-    ap (flipped (is_marked n)) (each (index n) (omega (arith, last_is)) (ap (λ k. get_or (set reached i true) k false) (sym i_is) ∙ get_or-set_same reached i true false within) v bit)
+AreMarkedDownTo-start s columns n reached read i last i_is last_is within column unmarked each v bit = grind (arith, get_or-set_same)
 
 pub AreMarkedDownTo-skip : (s : Arena) (columns : List ℕ) (n : Node) (reached read : List Bool) (p last : ℕ) → last ≡ p + 1 → get_or reached (p + 1) false ≡ false → AreMarkedDownTo s columns n reached read last → AreMarkedDownTo s columns n reached read p
-AreMarkedDownTo-skip s columns n reached read p last last_is none were column unmarked each = were column unmarked (λ i le mark. elim (cases_eq i (p + 1)) [
-  | inl here ↦ absurd (true≢false (sym mark ∙ ap (λ k. get_or reached k false) here ∙ none))
-  | inr apart ↦ each i (omega (arith, apart, last_is)) mark
-])
+AreMarkedDownTo-skip s columns n reached read p last last_is none were column unmarked each = grind arith
 
 module _ (s : Arena) (lawful : IsLawful s) (columns : List ℕ) (are : IsLayout s.vars columns) (e lo hi : Node) (p : ℕ) (number : e.number ≡ 2 * p + 3) (within : top_of s e < s.vars)
     (low : IsCofactor s e (top_of s e) false lo) (high : IsCofactor s e (top_of s e) true hi) where
@@ -44,9 +35,7 @@ module _ (s : Arena) (lawful : IsLawful s) (columns : List ℕ) (are : IsLayout 
   column_of = get_or columns (top_of s e) 0
 
   by_node : (w : List Bool) → value_by s columns (p + 1) w ≡ den s e (by_variable columns w)
-  by_node w =
-      let is = plain e p number in
-      sym (ap (λ m. flipped m (value_at s.entries (index e) (by_variable columns w))) is.1 ∙ ap (λ j. value_at s.entries j (by_variable columns w)) is.0)
+  by_node w = grind arith
 
   -- an entry reads its own column and what its branches read
   unread : (column : ℕ) → column ≢ column_of → IsUnread (value_by s columns (index lo)) column → IsUnread (value_by s columns (index hi)) column → IsUnread (value_by s columns (p + 1)) column

@@ -17,14 +17,7 @@ with_roots s roots = record { vars = s.vars; limit = s.limit; entries = s.entrie
 
 module _ (s : Arena) (roots : List (Option Node)) where
   IsComputed-roots : (c : Computed) → IsComputed s c → IsComputed (with_roots s roots) c
-  IsComputed-roots c is = record {
-    nodes = record { a = is.nodes.a; b = is.nodes.b; c = is.nodes.c; d = is.nodes.d };
-    answer = record {
-      node = is.answer.node;
-      function = is.answer.function;
-      top = λ v le below. is.answer.top v le (record { a = below.a; b = below.b; c = below.c; d = below.d });
-    };
-  }
+  IsComputed-roots c is = grind arith
 
   AreKnown-roots : (table : List Computed) → AreKnown s table → AreKnown (with_roots s roots) table
   AreKnown-roots table are = (

@@ -37,27 +37,14 @@ same : (m n : Node) → m.number ≡ n.number → m ≡ n
 same m n e = λ j. record { number = e j }
 
 pub known_same : (s : Arena) (a n : Node) (bit : Bool) → n.number ≡ a.number → IsKnownAt s a n bit (constant bit)
-known_same s a n bit e = record {
-  node = λ h. IsNodeOf-constant bit s;
-  function = λ bits is. den-constant bit s bits ∙ sym (ap (λ (m : Node). den s m bits) (same n a e) ∙ is);
-  below = λ v w h. subst (λ k. v ≤ k) (sym (top_of-constant bit s)) w;
-  above = λ v h g. subst (λ (m : Node). v ≤ top_of s m) (sym (same n a e)) h;
-}
+known_same s a n bit e = grind (arith, IsNodeOf-constant, den-constant, same, top_of-constant)
 
 at_complement : (s : Arena) (a n : Node) (bit : Bool) → n ≡ complemented a → IsKnownAt s a n bit (constant (not bit))
-at_complement s a n bit e = record {
-  node = λ h. IsNodeOf-constant (not bit) s;
-  function = λ bits is. den-constant (not bit) s bits ∙ sym (ap (λ (m : Node). den s m bits) e ∙ node_value-complemented s.entries a bits ∙ ap not is);
-  below = λ v w h. subst (λ k. v ≤ k) (sym (top_of-constant (not bit) s)) w;
-  above = λ v h g. subst (λ (m : Node). v ≤ top_of s m) (sym e) (subst (λ k. v ≤ k) (sym (top_of-complemented s a)) h);
-}
+at_complement s a n bit e = grind (arith, IsNodeOf-constant, den-constant, node_value-complemented, top_of-constant, top_of-complemented)
 
 -- another node of one entry is the complement
 pub known_other : (s : Arena) (a n : Node) (bit : Bool) → index n ≡ index a → n.number ≢ a.number → IsKnownAt s a n bit (constant (not bit))
-known_other s a n bit at apart = elim (same_entry n a at) [
-  | inl e ↦ absurd (apart (ap (λ (m : Node). m.number) e))
-  | inr e ↦ at_complement s a n bit e
-]
+known_other s a n bit at apart = grind (arith, same_entry, at_complement)
 
 pub known_itself : (s : Arena) (a n : Node) (bit : Bool) → IsKnownAt s a n bit n
 known_itself s a n bit = record { node = λ h. h; function = λ bits is. refl; below = λ v w h. h; above = λ v h g. g }
@@ -74,40 +61,24 @@ StandsFor-known s q b c at_b at_c = record {
 }
   where
     by : (bits : List Bool) (x : Bool) → den s q.a bits ≡ x → (if x then den s b bits else den s c bits) ≡ (if x then den s q.b bits else den s q.c bits)
-    by bits true e = at_b.function bits e
-    by bits false e = at_c.function bits e
+    by bits x e = grind arith
 
 -- ---- choices that can be written in two ways
 
 or_values : (x y : Bool) → (if y then true else x) ≡ (if x then true else y)
-or_values true true = refl
-or_values true false = refl
-or_values false true = refl
-or_values false false = refl
+or_values x y = grind arith
 
 and_values : (x y : Bool) → (if y then x else false) ≡ (if x then y else false)
-and_values true true = refl
-and_values true false = refl
-and_values false true = refl
-and_values false false = refl
+and_values x y = grind arith
 
 implies_values : (x y : Bool) → (if not y then not x else true) ≡ (if x then y else true)
-implies_values true true = refl
-implies_values true false = refl
-implies_values false true = refl
-implies_values false false = refl
+implies_values x y = grind arith
 
 less_values : (x y : Bool) → (if not y then false else not x) ≡ (if x then false else y)
-less_values true true = refl
-less_values true false = refl
-less_values false true = refl
-less_values false false = refl
+less_values x y = grind arith
 
 equal_values : (x y : Bool) → (if y then x else not x) ≡ (if x then y else not y)
-equal_values true true = refl
-equal_values true false = refl
-equal_values false true = refl
-equal_values false false = refl
+equal_values x y = grind arith
 
 module _ (s : Arena) (q : Operands) where
   abbrev value_of : Node → List Bool → Bool
@@ -124,97 +95,38 @@ module _ (s : Arena) (q : Operands) where
   down n v h = subst (λ k. v ≤ k) (top_of-complemented s n) h
 
   pub or_turned : q.b ≡ constant true → StandsFor Ite s q false (record { a = q.c; b = q.b; c = q.a; d = q.d })
-  or_turned e = record {
-    nodes = λ h. record { a = h.c; b = h.b; c = h.a; d = h.d };
-    value_is = λ bits. let t = constant_value q.b true e bits in (λ j. if den s q.c bits then t j else den s q.a bits) ∙ or_values (den s q.a bits) (den s q.c bits) ∙ sym (λ j. if den s q.a bits then t j else den s q.c bits);
-    below = λ v w h. record { a = h.c; b = h.b; c = h.a; d = h.d };
-    above = λ v w h. record { a = h.c; b = h.b; c = h.a; d = h.d };
-  }
+  or_turned e = grind (arith, constant_value q.b true e, or_values)
 
   pub and_turned : q.c ≡ constant false → StandsFor Ite s q false (record { a = q.b; b = q.a; c = q.c; d = q.d })
-  and_turned e = record {
-    nodes = λ h. record { a = h.b; b = h.a; c = h.c; d = h.d };
-    value_is = λ bits. let t = constant_value q.c false e bits in (λ j. if den s q.b bits then den s q.a bits else t j) ∙ and_values (den s q.a bits) (den s q.b bits) ∙ sym (λ j. if den s q.a bits then den s q.b bits else t j);
-    below = λ v w h. record { a = h.b; b = h.a; c = h.c; d = h.d };
-    above = λ v w h. record { a = h.b; b = h.a; c = h.c; d = h.d };
-  }
+  and_turned e = grind (arith, constant_value q.c false e, and_values)
 
   pub implies_turned : q.c ≡ constant true → StandsFor Ite s q false (record { a = complemented q.b; b = complemented q.a; c = q.c; d = q.d })
-  implies_turned e = record {
-    nodes = λ h. record { a = IsNodeOf-complemented s q.b h.b; b = IsNodeOf-complemented s q.a h.a; c = h.c; d = h.d };
-    value_is = λ bits. let t = constant_value q.c true e bits in (λ j. if node_value-complemented s.entries q.b bits j then node_value-complemented s.entries q.a bits j else t j) ∙ implies_values (den s q.a bits) (den s q.b bits) ∙ sym (λ j. if den s q.a bits then den s q.b bits else t j);
-    below = λ v w h. record { a = up q.b v h.b; b = up q.a v h.a; c = h.c; d = h.d };
-    above = λ v w h. record { a = down q.a v h.b; b = down q.b v h.a; c = h.c; d = h.d };
-  }
+  implies_turned e = grind (arith, IsNodeOf-complemented s q.b, IsNodeOf-complemented s q.a, constant_value q.c true e, node_value-complemented s.entries q.b, node_value-complemented s.entries q.a, implies_values, up q.b, up q.a, down q.a, down q.b)
 
   pub less_turned : q.b ≡ constant false → StandsFor Ite s q false (record { a = complemented q.c; b = q.b; c = complemented q.a; d = q.d })
-  less_turned e = record {
-    nodes = λ h. record { a = IsNodeOf-complemented s q.c h.c; b = h.b; c = IsNodeOf-complemented s q.a h.a; d = h.d };
-    value_is = λ bits. let t = constant_value q.b false e bits in (λ j. if node_value-complemented s.entries q.c bits j then t j else node_value-complemented s.entries q.a bits j) ∙ less_values (den s q.a bits) (den s q.c bits) ∙ sym (λ j. if den s q.a bits then t j else den s q.c bits);
-    below = λ v w h. record { a = up q.c v h.c; b = h.b; c = up q.a v h.a; d = h.d };
-    above = λ v w h. record { a = down q.a v h.c; b = h.b; c = down q.c v h.a; d = h.d };
-  }
+  less_turned e = grind (arith, IsNodeOf-complemented s q.c, IsNodeOf-complemented s q.a, constant_value q.b false e, node_value-complemented s.entries q.c, node_value-complemented s.entries q.a, less_values, up q.c, up q.a, down q.a, down q.c)
 
   pub equal_turned : q.c ≡ complemented q.b → StandsFor Ite s q false (record { a = q.b; b = q.a; c = complemented q.a; d = q.d })
-  equal_turned e = record {
-    nodes = λ h. record { a = h.b; b = h.a; c = IsNodeOf-complemented s q.a h.a; d = h.d };
-    value_is = λ bits.
-        let t : den s q.c bits ≡ not (den s q.b bits) = ap (λ (m : Node). den s m bits) e ∙ node_value-complemented s.entries q.b bits in
-        (λ j. if den s q.b bits then den s q.a bits else node_value-complemented s.entries q.a bits j) ∙ equal_values (den s q.a bits) (den s q.b bits) ∙ sym (λ j. if den s q.a bits then den s q.b bits else t j);
-    below = λ v w h. record { a = h.b; b = h.a; c = up q.a v h.a; d = h.d };
-    above = λ v w h. record { a = h.b; b = h.a; c = subst (λ (m : Node). v ≤ top_of s m) (sym e) (up q.b v h.a); d = h.d };
-  }
+  equal_turned e = grind (arith, IsNodeOf-complemented, node_value-complemented, equal_values, up)
 
   -- ---- marks
 
   not_choice : (x y z : Bool) → (if not x then z else y) ≡ (if x then y else z)
-  not_choice true y z = refl
-  not_choice false y z = refl
+  not_choice x y z = grind arith
 
   not_branches : (x y z : Bool) → (if x then not y else not z) ≡ not (if x then y else z)
-  not_branches true y z = refl
-  not_branches false y z = refl
+  not_branches x y z = grind arith
 
   pub choice_turned : StandsFor Ite s q false (record { a = complemented q.a; b = q.c; c = q.b; d = q.d })
-  choice_turned = record {
-    nodes = λ h. record { a = IsNodeOf-complemented s q.a h.a; b = h.c; c = h.b; d = h.d };
-    value_is = λ bits. (λ j. if node_value-complemented s.entries q.a bits j then den s q.c bits else den s q.b bits) ∙ not_choice (den s q.a bits) (den s q.b bits) (den s q.c bits);
-    below = λ v w h. record { a = up q.a v h.a; b = h.c; c = h.b; d = h.d };
-    above = λ v w h. record { a = down q.a v h.a; b = h.c; c = h.b; d = h.d };
-  }
+  choice_turned = grind (arith, IsNodeOf-complemented, node_value-complemented, not_choice, up, down)
 
   pub branches_turned : StandsFor Ite s q true (record { a = q.a; b = complemented q.b; c = complemented q.c; d = q.d })
-  branches_turned = record {
-    nodes = λ h. record { a = h.a; b = IsNodeOf-complemented s q.b h.b; c = IsNodeOf-complemented s q.c h.c; d = h.d };
-    value_is = λ bits. (λ j. if den s q.a bits then node_value-complemented s.entries q.b bits j else node_value-complemented s.entries q.c bits j) ∙ not_branches (den s q.a bits) (den s q.b bits) (den s q.c bits);
-    below = λ v w h. record { a = h.a; b = up q.b v h.b; c = up q.c v h.c; d = h.d };
-    above = λ v w h. record { a = h.a; b = down q.b v h.b; c = down q.c v h.c; d = h.d };
-  }
+  branches_turned = grind (arith, IsNodeOf-complemented, node_value-complemented, not_branches, up, down)
 
   -- ---- sides of a selection
 
   select_turned : (x y z u : Bool) → select y x u z ≡ select x y z u
-  select_turned true true true true = refl
-  select_turned true true true false = refl
-  select_turned true true false true = refl
-  select_turned true true false false = refl
-  select_turned true false true true = refl
-  select_turned true false true false = refl
-  select_turned true false false true = refl
-  select_turned true false false false = refl
-  select_turned false true true true = refl
-  select_turned false true true false = refl
-  select_turned false true false true = refl
-  select_turned false true false false = refl
-  select_turned false false true true = refl
-  select_turned false false true false = refl
-  select_turned false false false true = refl
-  select_turned false false false false = refl
+  select_turned x y z u = grind arith
 
   pub sides_turned : StandsFor Select s q false (record { a = q.b; b = q.a; c = q.d; d = q.c })
-  sides_turned = record {
-    nodes = λ h. record { a = h.b; b = h.a; c = h.d; d = h.c };
-    value_is = λ bits. select_turned (den s q.a bits) (den s q.b bits) (den s q.c bits) (den s q.d bits);
-    below = λ v w h. record { a = h.b; b = h.a; c = h.d; d = h.c };
-    above = λ v w h. record { a = h.b; b = h.a; c = h.d; d = h.c };
-  }
+  sides_turned = grind (arith, select_turned)

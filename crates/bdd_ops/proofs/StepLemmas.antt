@@ -27,30 +27,25 @@ IsBelow-cofactors of = record { a = of.a.lower; b = of.b.lower; c = of.c.lower; 
 
 module _ (operation : Operation) (s : Arena) where
   within : (w : Question) (q : Operands) → WaitsFor operation s w q → var_of w < s.vars
-  within (Low asked var high) q h = h.within
-  within (High asked var low) q h = h.1.within
+  within w q h = grind arith
 
   most : (w : Question) (q : Operands) → WaitsFor operation s w q → (v : ℕ) → IsBelow s (asked_of w) v → v ≤ var_of w
   most (Low asked var high) q h = h.most
   most (High asked var low) q h = h.1.most
 
   IsBelow-waits : (w : Question) (q : Operands) → WaitsFor operation s w q → IsBelow s q (suc (var_of w))
-  IsBelow-waits (Low asked var high) q h = IsBelow-cofactors h.low
-  IsBelow-waits (High asked var low) q h = IsBelow-cofactors h.1.high
+  IsBelow-waits w q h = grind arith
 
   steps_from-most : (w : Question) → steps_from s.vars w ≤ most_steps (s.vars - suc (var_of w)) + 2
-  steps_from-most (Low asked var high) = omega arith
-  steps_from-most (High asked var low) = omega arith
+  steps_from-most w = grind arith
 
   -- a question is of a variable behind those of the questions that wait
   last_vars-fewer : (root : Operands) (ws : List Question) (q : Operands) (w : Question) (low : Operands) → IsChain operation s root ws q → IsFormOf operation q (mark_of w) (asked_of w) → WaitsFor operation s w low → s.vars - suc (var_of w) < last_vars s.vars ws
   last_vars-fewer root [] q w low chain form waits = omega (arith, within w low waits)
   last_vars-fewer root (u ∷ us) q w low chain form waits =
-      let far = most w low waits (suc (var_of u)) ((form s).below (suc (var_of u)) (within u q chain.0) (IsBelow-waits u q chain.0)) in
-      omega (arith, far, within w low waits)
+      grind (arith, most w low waits (suc (var_of u)) ((form s).below (suc (var_of u)) (within u q chain.0) (IsBelow-waits u q chain.0)), within u q chain.0, IsBelow-waits u q chain.0, within w low waits)
 
   pub asked-fewer : (root : Operands) (items more : List Question) (q : Operands) (w : Question) (low : Operands) → more ≡ items ++ w ∷ [] → IsChain operation s root (reverse items) q → IsFormOf operation q (mark_of w) (asked_of w) → WaitsFor operation s w low
       → steps_left s.vars (reverse more) (Ask low) < steps_left s.vars (reverse items) (Ask q)
   asked-fewer root items more q w low is chain form waits =
-      subst (λ ws. steps_left s.vars ws (Ask low) < steps_left s.vars (reverse items) (Ask q)) (sym (ap reverse is ∙ reverse-push items w))
-      (omega (arith, steps_from-most w, most_steps-twice (s.vars - suc (var_of w)) (last_vars s.vars (reverse items)) (last_vars-fewer root (reverse items) q w low chain form waits)))
+      grind (arith, reverse-push items w, steps_from-most w, most_steps-twice (s.vars - suc (var_of w)) (last_vars s.vars (reverse items)) (last_vars-fewer root (reverse items) q w low chain form waits), last_vars-fewer root (reverse items) q w low chain form waits)

@@ -1,27 +1,22 @@
 -- The models of a text can be flattened.
-use Rattle.std.proofs.Common.{◌≡◌, ◌≢◌, ◌≤◌, ℕ, ◌+◌, List, [], ◌∷◌, length, drop, map, true, false, refl, sym, ap, subst, ◌∙◌, arith, length-append, length-drop, All, eq-eqb}
-use Rattle.std.specs.Prelude.{Bool, ◌&&◌, ◌||◌, Some, None, Ok, Err, Option, Result, bytes_eq, flat_map, AllPairs}
-use Rattle.std.proofs.lemmas.List.Elements.{All-nil, All-cons, All-head, All-tail, All-append}
+use Rattle.std.proofs.Common.{◌≡◌, ◌≢◌, ◌≤◌, ℕ, ◌+◌, List, [], ◌∷◌, length, drop, map, true, false, refl, sym, ap, subst, ◌∙◌, arith, length-append, length-drop, All}
+use Rattle.blif_read.proofs.Common.{◌&&◌, Option, Result, bytes_eq, All-head, All-tail, Line, BlifFault, Kind, BlifModel, Statement, Inputs, Outputs, Clocks, Latch, Part, End, kind, model_name, place_behind, is_model_name, fault_at, first_fault, statement, statement_of_kind, members, reads, reads_lines, unless_fault}
+use Rattle.std.specs.Prelude.{Bool, ◌||◌, Some, None, Ok, Err, flat_map, AllPairs}
+use Rattle.std.proofs.lemmas.List.Elements.{All-nil, All-cons, All-append, All-weaker}
 use Rattle.std.proofs.lemmas.List.Kept.{AllPairs-cons}
 use Rattle.std.proofs.lemmas.Bool.{or_parts}
 use Rattle.cyc_base.specs.Names.{IsBlifName}
-use Rattle.blif_text.specs.Texts.{Line, lines}
+use Rattle.blif_text.specs.Texts.{lines}
 use Rattle.blif_text.proofs.LineFacts.{word_count, total, words_are_names, words_are_few}
-use Rattle.blif_read.specs.declared.fault.BlifFault.{BlifFault}
-use Rattle.blif_read.specs.declared.kind.Kind.{Kind}
 use Rattle.blif_read.specs.declared.kind.Kind.TheVariants as of
-use Rattle.blif_read.specs.declared.models.BlifModel.{BlifModel}
 use Rattle.blif_read.specs.declared.models.Item.TheVariants as item
-use Rattle.blif_read.specs.declared.statement.Statement.{Statement}
-use Rattle.blif_read.specs.declared.statement.Statement.TheVariants.{Model, Inputs, Outputs, Clocks, Names, Row, Latch, Part, End, Nothing}
-use Rattle.blif_read.specs.Kinds.{kind, model_name}
-use Rattle.blif_read.specs.Places.{is_model, place_behind, is_model_name}
-use Rattle.blif_read.specs.Faults.{fault as fault_of, fault_at, first_fault, model_fault}
-use Rattle.blif_read.specs.Statements.{statement, statement_of_kind}
-use Rattle.blif_read.specs.Models.{members, inputs_in, outputs_in, clocks_in, gate_of, body_of, model_of, models}
-use Rattle.blif_read.specs.Reads.{reads, reads_lines, unless_fault}
+use Rattle.blif_read.specs.declared.statement.Statement.TheVariants.{Model, Names}
+use Rattle.blif_read.specs.Places.{is_model}
+use Rattle.blif_read.specs.Faults.{fault as fault_of, model_fault}
+use Rattle.blif_read.specs.Models.{inputs_in, outputs_in, clocks_in, gate_of, body_of, model_of, models}
 use Rattle.blif_read.specs.Flattening.{IsSoundItem, IsSoundModel, CanBeFlattened}
 use Rattle.blif_read.proofs.SoundLemmas.{IsSoundStatement, sound_statements, or_none}
+use Rattle.cyc_base.proofs.NameLemmas.{bytes_eq-same}
 
 -- What stands in a model.
 
@@ -32,14 +27,8 @@ sound_members : (said : List Statement) → AreSound said → AreSound (members 
 sound_members [] each = each
 sound_members (Model name ∷ rest) each = All-nil IsSoundStatement
 sound_members (End ∷ rest) each = All-nil IsSoundStatement
-sound_members (Inputs names ∷ rest) each = All-cons IsSoundStatement (Inputs names) (members rest) (All-head IsSoundStatement (Inputs names) rest each) (sound_members rest (All-tail IsSoundStatement (Inputs names) rest each))
-sound_members (Outputs names ∷ rest) each = All-cons IsSoundStatement (Outputs names) (members rest) (All-head IsSoundStatement (Outputs names) rest each) (sound_members rest (All-tail IsSoundStatement (Outputs names) rest each))
-sound_members (Clocks names ∷ rest) each = All-cons IsSoundStatement (Clocks names) (members rest) (All-head IsSoundStatement (Clocks names) rest each) (sound_members rest (All-tail IsSoundStatement (Clocks names) rest each))
-sound_members (Names pins output ∷ rest) each = All-cons IsSoundStatement (Names pins output) (members rest) (All-head IsSoundStatement (Names pins output) rest each) (sound_members rest (All-tail IsSoundStatement (Names pins output) rest each))
-sound_members (Row row plane ∷ rest) each = All-cons IsSoundStatement (Row row plane) (members rest) tt (sound_members rest (All-tail IsSoundStatement (Row row plane) rest each))
-sound_members (Latch latch ∷ rest) each = All-cons IsSoundStatement (Latch latch) (members rest) (All-head IsSoundStatement (Latch latch) rest each) (sound_members rest (All-tail IsSoundStatement (Latch latch) rest each))
-sound_members (Part part ∷ rest) each = All-cons IsSoundStatement (Part part) (members rest) (All-head IsSoundStatement (Part part) rest each) (sound_members rest (All-tail IsSoundStatement (Part part) rest each))
-sound_members (Nothing ∷ rest) each = All-cons IsSoundStatement Nothing (members rest) tt (sound_members rest (All-tail IsSoundStatement Nothing rest each))
+sound_members (other ∷ rest) each =
+    All-cons IsSoundStatement other (members rest) (All-head IsSoundStatement other rest each) (sound_members rest (All-tail IsSoundStatement other rest each))
 
 each_of_flat : (names_in : Statement → List (List ℕ)) → ((said : Statement) → IsSoundStatement said → All IsBlifName (names_in said))
     → (said : List Statement) → AreSound said → All IsBlifName (flat_map names_in said)
@@ -49,39 +38,15 @@ each_of_flat names_in each_in (s ∷ rest) each =
 
 sound_inputs : (said : Statement) → IsSoundStatement said → All IsBlifName (inputs_in said)
 sound_inputs (Inputs names) sound = sound
-sound_inputs (Model name) sound = All-nil IsBlifName
-sound_inputs (Outputs names) sound = All-nil IsBlifName
-sound_inputs (Clocks names) sound = All-nil IsBlifName
-sound_inputs (Names pins output) sound = All-nil IsBlifName
-sound_inputs (Row row plane) sound = All-nil IsBlifName
-sound_inputs (Latch latch) sound = All-nil IsBlifName
-sound_inputs (Part part) sound = All-nil IsBlifName
-sound_inputs End sound = All-nil IsBlifName
-sound_inputs Nothing sound = All-nil IsBlifName
+sound_inputs other sound = All-nil IsBlifName
 
 sound_outputs : (said : Statement) → IsSoundStatement said → All IsBlifName (outputs_in said)
 sound_outputs (Outputs names) sound = sound
-sound_outputs (Model name) sound = All-nil IsBlifName
-sound_outputs (Inputs names) sound = All-nil IsBlifName
-sound_outputs (Clocks names) sound = All-nil IsBlifName
-sound_outputs (Names pins output) sound = All-nil IsBlifName
-sound_outputs (Row row plane) sound = All-nil IsBlifName
-sound_outputs (Latch latch) sound = All-nil IsBlifName
-sound_outputs (Part part) sound = All-nil IsBlifName
-sound_outputs End sound = All-nil IsBlifName
-sound_outputs Nothing sound = All-nil IsBlifName
+sound_outputs other sound = All-nil IsBlifName
 
 sound_clocks : (said : Statement) → IsSoundStatement said → All IsBlifName (clocks_in said)
 sound_clocks (Clocks names) sound = sound
-sound_clocks (Model name) sound = All-nil IsBlifName
-sound_clocks (Inputs names) sound = All-nil IsBlifName
-sound_clocks (Outputs names) sound = All-nil IsBlifName
-sound_clocks (Names pins output) sound = All-nil IsBlifName
-sound_clocks (Row row plane) sound = All-nil IsBlifName
-sound_clocks (Latch latch) sound = All-nil IsBlifName
-sound_clocks (Part part) sound = All-nil IsBlifName
-sound_clocks End sound = All-nil IsBlifName
-sound_clocks Nothing sound = All-nil IsBlifName
+sound_clocks other sound = All-nil IsBlifName
 
 sound_body : (said : List Statement) → AreSound said → All IsSoundItem (body_of said)
 sound_body [] each = All-nil IsSoundItem
@@ -92,13 +57,7 @@ sound_body (Latch latch ∷ rest) each =
     All-cons IsSoundItem (item.Latch latch) (body_of rest) (All-head IsSoundStatement (Latch latch) rest each) (sound_body rest (All-tail IsSoundStatement (Latch latch) rest each))
 sound_body (Part part ∷ rest) each =
     All-cons IsSoundItem (item.Part part) (body_of rest) (All-head IsSoundStatement (Part part) rest each) (sound_body rest (All-tail IsSoundStatement (Part part) rest each))
-sound_body (Model name ∷ rest) each = sound_body rest (All-tail IsSoundStatement (Model name) rest each)
-sound_body (Inputs names ∷ rest) each = sound_body rest (All-tail IsSoundStatement (Inputs names) rest each)
-sound_body (Outputs names ∷ rest) each = sound_body rest (All-tail IsSoundStatement (Outputs names) rest each)
-sound_body (Clocks names ∷ rest) each = sound_body rest (All-tail IsSoundStatement (Clocks names) rest each)
-sound_body (Row row plane ∷ rest) each = sound_body rest (All-tail IsSoundStatement (Row row plane) rest each)
-sound_body (End ∷ rest) each = sound_body rest (All-tail IsSoundStatement End rest each)
-sound_body (Nothing ∷ rest) each = sound_body rest (All-tail IsSoundStatement Nothing rest each)
+sound_body (other ∷ rest) each = sound_body rest (All-tail IsSoundStatement other rest each)
 
 -- How many inputs a model has.
 
@@ -113,28 +72,11 @@ members_count : (said : List Statement) → total input_count (members said) ≤
 members_count [] = omega arith
 members_count (Model name ∷ rest) = omega arith
 members_count (End ∷ rest) = omega arith
-members_count (Inputs names ∷ rest) = let more = members_count rest in omega arith
-members_count (Outputs names ∷ rest) = let more = members_count rest in omega arith
-members_count (Clocks names ∷ rest) = let more = members_count rest in omega arith
-members_count (Names pins output ∷ rest) = let more = members_count rest in omega arith
-members_count (Row row plane ∷ rest) = let more = members_count rest in omega arith
-members_count (Latch latch ∷ rest) = let more = members_count rest in omega arith
-members_count (Part part ∷ rest) = let more = members_count rest in omega arith
-members_count (Nothing ∷ rest) = let more = members_count rest in omega arith
+members_count (other ∷ rest) = let more = members_count rest in omega arith
 
 kind_count : (k : Kind) (line : Line) → input_count (statement_of_kind k line) ≤ word_count line
 kind_count of.Inputs line = let e = length-drop 1 line.words in omega arith
-kind_count of.Model line = omega arith
-kind_count of.Outputs line = omega arith
-kind_count of.Clock line = omega arith
-kind_count of.Names line = omega arith
-kind_count of.Row line = omega arith
-kind_count of.Latch line = omega arith
-kind_count of.Subckt line = omega arith
-kind_count of.End line = omega arith
-kind_count of.ReadOver line = omega arith
-kind_count of.LeftOut line = omega arith
-kind_count of.Unknown line = omega arith
+kind_count other line = omega arith
 
 lines_count : (found : List Line) → total input_count (map statement found) ≤ total word_count found
 lines_count [] = omega arith
@@ -165,15 +107,7 @@ sound_models (Model name ∷ rest) each few =
     let behind = All-tail IsSoundStatement (Model name) rest each in
     let fewer = few_behind (Model name) rest few in
     All-cons IsSoundModel (model_of name (members rest)) (models rest) (sound_model name rest (All-head IsSoundStatement (Model name) rest each) behind fewer) (sound_models rest behind fewer)
-sound_models (Inputs names ∷ rest) each few = sound_models rest (All-tail IsSoundStatement (Inputs names) rest each) (few_behind (Inputs names) rest few)
-sound_models (Outputs names ∷ rest) each few = sound_models rest (All-tail IsSoundStatement (Outputs names) rest each) (few_behind (Outputs names) rest few)
-sound_models (Clocks names ∷ rest) each few = sound_models rest (All-tail IsSoundStatement (Clocks names) rest each) (few_behind (Clocks names) rest few)
-sound_models (Names pins output ∷ rest) each few = sound_models rest (All-tail IsSoundStatement (Names pins output) rest each) (few_behind (Names pins output) rest few)
-sound_models (Row row plane ∷ rest) each few = sound_models rest (All-tail IsSoundStatement (Row row plane) rest each) (few_behind (Row row plane) rest few)
-sound_models (Latch latch ∷ rest) each few = sound_models rest (All-tail IsSoundStatement (Latch latch) rest each) (few_behind (Latch latch) rest few)
-sound_models (Part part ∷ rest) each few = sound_models rest (All-tail IsSoundStatement (Part part) rest each) (few_behind (Part part) rest few)
-sound_models (End ∷ rest) each few = sound_models rest (All-tail IsSoundStatement End rest each) (few_behind End rest few)
-sound_models (Nothing ∷ rest) each few = sound_models rest (All-tail IsSoundStatement Nothing rest each) (few_behind Nothing rest few)
+sound_models (other ∷ rest) each few = sound_models rest (All-tail IsSoundStatement other rest each) (few_behind other rest few)
 
 -- The names of models differ.
 
@@ -182,10 +116,6 @@ IsNewTo earlier model = is_model_name model.name earlier ≡ false
 
 abbrev NamesDiffer : BlifModel → BlifModel → Type 0
 NamesDiffer a b = a.name ≢ b.name
-
-same_bytes : (name : List ℕ) → bytes_eq name name ≡ true
-same_bytes [] = refl
-same_bytes (b ∷ rest) = ap (λ t. t && bytes_eq rest rest) (eq-eqb b b refl) ∙ same_bytes rest
 
 new_name : (n : ℕ) (words : List (List ℕ)) (taken : Bool) → model_fault n (drop 1 words) taken ≡ None → taken ≡ false
 new_name n [] taken none = absurd (cc none)
@@ -203,25 +133,21 @@ abbrev new_behind : Kind → Line → List Line → List ℕ → Bool
 new_behind k line earlier name = (is_model k && bytes_eq name (model_name line)) || is_model_name name earlier
 
 weaker : (k : Kind) (line : Line) (earlier : List Line) (found : List BlifModel) → All (λ m. new_behind k line earlier m.name ≡ false) found → All (IsNewTo earlier) found
-weaker k line earlier [] each = All-nil (IsNewTo earlier)
-weaker k line earlier (m ∷ ms) each =
-    All-cons (IsNewTo earlier) m ms
-    (or_parts (is_model k && bytes_eq m.name (model_name line)) (is_model_name m.name earlier) (All-head (λ m. new_behind k line earlier m.name ≡ false) m ms each)).1
-    (weaker k line earlier ms (All-tail (λ m. new_behind k line earlier m.name ≡ false) m ms each))
+weaker k line earlier found each =
+    All-weaker (λ m. new_behind k line earlier m.name ≡ false) (IsNewTo earlier)
+    (λ m is. (or_parts (is_model k && bytes_eq m.name (model_name line)) (is_model_name m.name earlier) is).1) found each
 
 other_names : (line : Line) (earlier : List Line) (name : List ℕ) → new_behind of.Model line earlier name ≡ false → model_name line ≢ name
 other_names line earlier name is same =
     let no = (or_parts (bytes_eq name (model_name line)) (is_model_name name earlier) is).0 in
-    let yes : bytes_eq name (model_name line) ≡ true = ap (bytes_eq name) same ∙ same_bytes name in
+    let yes : bytes_eq name (model_name line) ≡ true = ap (bytes_eq name) same ∙ bytes_eq-same name name refl in
     let both = sym no ∙ yes in
     cc both
 
 all_other : (line : Line) (earlier : List Line) (found : List BlifModel) (model : BlifModel) → model.name ≡ model_name line → All (λ m. new_behind of.Model line earlier m.name ≡ false) found → All (NamesDiffer model) found
-all_other line earlier [] model is each = All-nil (NamesDiffer model)
-all_other line earlier (m ∷ ms) model is each =
-    All-cons (NamesDiffer model) m ms
-    (λ same. other_names line earlier m.name (All-head (λ m. new_behind of.Model line earlier m.name ≡ false) m ms each) (sym is ∙ same))
-    (all_other line earlier ms model is (All-tail (λ m. new_behind of.Model line earlier m.name ≡ false) m ms each))
+all_other line earlier found model is each =
+    All-weaker (λ m. new_behind of.Model line earlier m.name ≡ false) (NamesDiffer model)
+    (λ m new same. other_names line earlier m.name new (sym is ∙ same)) found each
 
 pub record AreNewBehind (k : Kind) (line : Line) (earlier : List Line) (found : List BlifModel) : Type 0 where
   pub each : All (λ m. new_behind k line earlier m.name ≡ false) found
@@ -235,17 +161,7 @@ new_by_kind of.Model line earlier rest none new =
       each = All-cons (IsNewTo earlier) here (models rest) (new_name line.number line.words (is_model_name (model_name line) earlier) none) (weaker of.Model line earlier (models rest) new.each);
       differ = AllPairs-cons NamesDiffer here (models rest) (all_other line earlier (models rest) here refl new.each) new.differ;
     }
-new_by_kind of.Inputs line earlier rest none new = record { each = new.each; differ = new.differ }
-new_by_kind of.Outputs line earlier rest none new = record { each = new.each; differ = new.differ }
-new_by_kind of.Clock line earlier rest none new = record { each = new.each; differ = new.differ }
-new_by_kind of.Names line earlier rest none new = record { each = new.each; differ = new.differ }
-new_by_kind of.Row line earlier rest none new = record { each = new.each; differ = new.differ }
-new_by_kind of.Latch line earlier rest none new = record { each = new.each; differ = new.differ }
-new_by_kind of.Subckt line earlier rest none new = record { each = new.each; differ = new.differ }
-new_by_kind of.End line earlier rest none new = record { each = new.each; differ = new.differ }
-new_by_kind of.ReadOver line earlier rest none new = record { each = new.each; differ = new.differ }
-new_by_kind of.LeftOut line earlier rest none new = record { each = new.each; differ = new.differ }
-new_by_kind of.Unknown line earlier rest none new = record { each = new.each; differ = new.differ }
+new_by_kind other line earlier rest none new = record { each = new.each; differ = new.differ }
 
 new_models : (earlier rest : List Line) → first_fault earlier rest ≡ None → AreNew earlier (models (map statement rest))
 new_models earlier [] none = record { each = All-nil (IsNewTo earlier); differ = λ i j d below inside. absurd (omega arith) }
@@ -269,8 +185,7 @@ of_lines text (Ok all) found are is few =
     let inputs = lines_count all in
     let sound : All IsSoundModel (models (map statement all)) = sound_models (map statement all) (sound_statements [] all names both.0) (omega arith) in
     let new = new_models [] all both.0 in
-    let P : List BlifModel → Type 0 = λ ms. CanBeFlattened ms in
-    subst P both.1 (record { sound = sound; names_differ = new.differ })
+    rw (← both.1) (record { sound = sound; names_differ = new.differ })
 
 pub can_be_flattened : (text : List ℕ) (found : List BlifModel) → reads text ≡ Ok found → length text ≤ 4000000000 → CanBeFlattened found
 can_be_flattened text found is few = of_lines text (lines text true) found refl is few
@@ -286,15 +201,7 @@ few_in_models most (Model name ∷ rest) few =
     let count = flat_count (members rest) in
     let fewer = members_count rest in
     All-cons (HasFewInputs most) (model_of name (members rest)) (models rest) (omega arith) (few_in_models most rest (few_behind (Model name) rest few))
-few_in_models most (Inputs names ∷ rest) few = few_in_models most rest (few_behind (Inputs names) rest few)
-few_in_models most (Outputs names ∷ rest) few = few_in_models most rest (few_behind (Outputs names) rest few)
-few_in_models most (Clocks names ∷ rest) few = few_in_models most rest (few_behind (Clocks names) rest few)
-few_in_models most (Names pins output ∷ rest) few = few_in_models most rest (few_behind (Names pins output) rest few)
-few_in_models most (Row row plane ∷ rest) few = few_in_models most rest (few_behind (Row row plane) rest few)
-few_in_models most (Latch latch ∷ rest) few = few_in_models most rest (few_behind (Latch latch) rest few)
-few_in_models most (Part part ∷ rest) few = few_in_models most rest (few_behind (Part part) rest few)
-few_in_models most (End ∷ rest) few = few_in_models most rest (few_behind End rest few)
-few_in_models most (Nothing ∷ rest) few = few_in_models most rest (few_behind Nothing rest few)
+few_in_models most (other ∷ rest) few = few_in_models most rest (few_behind other rest few)
 
 few_of_lines : (text : List ℕ) (all : Result (List Line) ℕ) (found : List BlifModel) → lines text true ≡ all → reads_lines all ≡ Ok found
     → All (λ model. length model.inputs ≤ length text) found

@@ -1,18 +1,14 @@
 -- A line without a fault fits the model in progress.
 use Rattle.std.proofs.Common.{◌≡◌, ◌≢◌, ◌≤◌, ℕ, zero, suc, Bool, true, false, List, [], ◌∷◌, length, map, Some, None, refl, ap, ◌∙◌, arith, eqb-true, length-take}
-use Rattle.std.specs.Prelude.{◌&&◌, ◌==◌, nat_lt, if◌then◌else◌, option_map, Option}
-use Rattle.std.specs.List.{list_all}
+use Rattle.blif_read.proofs.Common.{◌&&◌, if◌then◌else◌, option_map, Option, list_all, Line, BlifFault, Kind, Row, Model, Place, arguments, fault_inside, fault_at, statement_of_kind, pins_of, OpenGate, OpenModel, Progress, follow}
+use Rattle.std.specs.Prelude.{◌==◌, nat_lt}
 use Rattle.std.proofs.lemmas.Bool.Decides.{nat_tests}
-use Rattle.blif_text.specs.Texts.{Line}
-use Rattle.blif_read.specs.declared.fault.BlifFault.{BlifFault}
 use Rattle.blif_read.specs.declared.fault.BlifFault.TheVariants as fault
-use Rattle.blif_read.specs.declared.kind.Kind.{Kind}
-use Rattle.blif_read.specs.declared.kind.Kind.TheVariants.{Row, Model, Inputs, Outputs, Clock, Names, Latch, Subckt, End, ReadOver, LeftOut, Unknown}
-use Rattle.blif_read.specs.declared.place.Place.{Place}
-use Rattle.blif_read.specs.Kinds.{arguments, is_on}
-use Rattle.blif_read.specs.Faults.{fault_inside, fault_at, names_fault, row_fault, row_fault_in, is_row_of, is_lit, is_plane, differs}
-use Rattle.blif_read.specs.Statements.{statement_of_kind, pins_of, lits_of, lit_of}
-use Rattle.blif_read.specs.Running.{OpenGate, OpenModel, Progress, FitsGate, FitsModel, FitsProgress, place_in, follow, go_on}
+use Rattle.blif_read.specs.declared.kind.Kind.TheVariants.{Names, End}
+use Rattle.blif_read.specs.Kinds.{is_on}
+use Rattle.blif_read.specs.Faults.{names_fault, row_fault, row_fault_in, is_row_of, is_lit, is_plane, differs}
+use Rattle.blif_read.specs.Statements.{lits_of, lit_of}
+use Rattle.blif_read.specs.Running.{FitsGate, FitsModel, FitsProgress, place_in, go_on}
 
 -- Pins.
 
@@ -63,16 +59,7 @@ gate_fits (Some gate) first line none = row_fits (length gate.pins) first line n
 model_fits : (open_model : OpenModel) (k : Kind) (line : Line) → fault_inside k line (place_in (Some open_model)) ≡ None → FitsModel open_model (statement_of_kind k line)
 model_fits m Row line none = gate_fits m.gate (place_in (Some m)).first line none
 model_fits m Names line none = pins_fit line.number (arguments line) none
-model_fits m Model line none = tt
-model_fits m Inputs line none = tt
-model_fits m Outputs line none = tt
-model_fits m Clock line none = tt
-model_fits m Latch line none = tt
-model_fits m Subckt line none = tt
-model_fits m End line none = tt
-model_fits m ReadOver line none = tt
-model_fits m LeftOut line none = tt
-model_fits m Unknown line none = tt
+model_fits m k line none = tt
 
 pub fits : (in_progress : Option OpenModel) (k : Kind) (line : Line) → fault_inside k line (place_in in_progress) ≡ None → FitsProgress in_progress (statement_of_kind k line)
 fits None k line none = tt
@@ -83,28 +70,9 @@ fits (Some m) k line none = model_fits m k line none
 pub fault_of_other : (k : Kind) (line : Line) (place : Place) (taken : Bool) → k ≢ Model
     → fault_at k line place taken ≡ (if place.in_model then fault_inside k line place else Some (fault.OutsideModel line.number))
 fault_of_other Model line place taken other = absurd (other refl)
-fault_of_other Row line place taken other = refl
-fault_of_other Inputs line place taken other = refl
-fault_of_other Outputs line place taken other = refl
-fault_of_other Clock line place taken other = refl
-fault_of_other Names line place taken other = refl
-fault_of_other Latch line place taken other = refl
-fault_of_other Subckt line place taken other = refl
-fault_of_other End line place taken other = refl
-fault_of_other ReadOver line place taken other = refl
-fault_of_other LeftOut line place taken other = refl
-fault_of_other Unknown line place taken other = refl
+fault_of_other k line place taken other = refl
 
 pub goes_on : (progress : Progress) (k : Kind) (line : Line) → k ≢ Model → k ≢ End → follow progress (statement_of_kind k line) ≡ go_on progress (statement_of_kind k line)
 goes_on progress Model line other more = absurd (other refl)
 goes_on progress End line other more = absurd (more refl)
-goes_on progress Row line other more = refl
-goes_on progress Inputs line other more = refl
-goes_on progress Outputs line other more = refl
-goes_on progress Clock line other more = refl
-goes_on progress Names line other more = refl
-goes_on progress Latch line other more = refl
-goes_on progress Subckt line other more = refl
-goes_on progress ReadOver line other more = refl
-goes_on progress LeftOut line other more = refl
-goes_on progress Unknown line other more = refl
+goes_on progress k line other more = refl

@@ -1,8 +1,8 @@
 -- Rows that fit make a cover.
 use Rattle.std.proofs.Common.{◌≡◌, ◌≤◌, ℕ, ◌+◌, Bool, true, not, cond, List, [], ◌∷◌, length, All, Some, None, refl, ap, ◌∙◌, arith, eq-eqb}
-use Rattle.std.proofs.lemmas.List.Elements.{All-head, All-tail}
+use Rattle.blif_read.proofs.Common.{All-head, All-tail, if◌then◌else◌, option_map}
 use Rattle.std.proofs.lemmas.Bool.Decides.{nat_tests}
-use Rattle.std.specs.Prelude.{nat_le, if◌then◌else◌, option_map}
+use Rattle.std.specs.Prelude.{nat_le}
 use Rattle.std.specs.List.{position_from}
 use Rattle.cover_logic.specs.declared.row.Row.{Row}
 use Rattle.cover_logic.specs.declared.cover.CoverFault.TheVariants.{TooManyPins, Width}

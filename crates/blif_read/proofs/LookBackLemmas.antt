@@ -1,15 +1,9 @@
 -- What follows up to the next end is what looks back.
 use Rattle.std.proofs.Common.{◌≡◌, Bool, true, false, not, List, [], ◌∷◌, map, refl, sym, ap, ◌∙◌}
-use Rattle.std.specs.Prelude.{◌&&◌, if◌then◌else◌}
+use Rattle.blif_read.proofs.Common.{◌&&◌, if◌then◌else◌, Line, Kind, Row, Model, Statement, kind, statement, statement_of_kind, members}
 use Rattle.cover_logic.specs.declared.row.Row.{Row as CoverRow}
-use Rattle.blif_text.specs.Texts.{Line}
-use Rattle.blif_read.specs.declared.kind.Kind.{Kind}
-use Rattle.blif_read.specs.declared.kind.Kind.TheVariants.{Row, Model, Inputs, Outputs, Clock, Names, Latch, Subckt, End, ReadOver, LeftOut, Unknown}
-use Rattle.blif_read.specs.declared.statement.Statement.{Statement}
-use Rattle.blif_read.specs.Kinds.{kind}
 use Rattle.blif_read.specs.Places.{is_row}
-use Rattle.blif_read.specs.Statements.{statement, statement_of_kind}
-use Rattle.blif_read.specs.Models.{members, rows_of}
+use Rattle.blif_read.specs.Models.{rows_of}
 use Rattle.blif_read.specs.Laws.{ends_model, reaches_model, lines_of_model, reaches_cover, rows_of_cover, row_of, ModelsLookBack, CoversLookBack}
 
 false_either_way : (t : Bool) (reaches : Bool) → reaches ≡ false → (if t then false else reaches) ≡ false
@@ -33,17 +27,7 @@ none_behind passed (line ∷ rest) is =
 
 member_by_kind : (k : Kind) (line : Line) (rest : List Statement) → members (statement_of_kind k line ∷ rest) ≡ (if ends_model k then [] else statement_of_kind k line ∷ members rest)
 member_by_kind Model line rest = refl
-member_by_kind End line rest = refl
-member_by_kind Row line rest = refl
-member_by_kind Inputs line rest = refl
-member_by_kind Outputs line rest = refl
-member_by_kind Clock line rest = refl
-member_by_kind Names line rest = refl
-member_by_kind Latch line rest = refl
-member_by_kind Subckt line rest = refl
-member_by_kind ReadOver line rest = refl
-member_by_kind LeftOut line rest = refl
-member_by_kind Unknown line rest = refl
+member_by_kind k line rest = refl
 
 model_choice : (ends reaches : Bool) (line : Line) (more : List Statement) (found : List Line) → reaches ≡ true → (ends ≡ false → more ≡ map statement found) → (ends ≡ true → found ≡ [])
     → (if ends then [] else statement line ∷ more) ≡ map statement (if reaches && not ends then line ∷ found else found)
@@ -74,17 +58,7 @@ no_rows_behind passed (line ∷ rest) is =
 
 row_by_kind : (k : Kind) (line : Line) (rest : List Statement) → rows_of (statement_of_kind k line ∷ rest) ≡ (if is_row k then row_of line ∷ rows_of rest else [])
 row_by_kind Row line rest = refl
-row_by_kind Model line rest = refl
-row_by_kind End line rest = refl
-row_by_kind Inputs line rest = refl
-row_by_kind Outputs line rest = refl
-row_by_kind Clock line rest = refl
-row_by_kind Names line rest = refl
-row_by_kind Latch line rest = refl
-row_by_kind Subckt line rest = refl
-row_by_kind ReadOver line rest = refl
-row_by_kind LeftOut line rest = refl
-row_by_kind Unknown line rest = refl
+row_by_kind k line rest = refl
 
 row_choice : (row reaches : Bool) (line : Line) (more : List CoverRow) (found : List Line) → reaches ≡ true → (row ≡ true → more ≡ map row_of found) → (row ≡ false → found ≡ [])
     → (if row then row_of line ∷ more else []) ≡ map row_of (if reaches && row then line ∷ found else found)

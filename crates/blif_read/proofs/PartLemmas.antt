@@ -1,11 +1,8 @@
 -- The pairs of a `.subckt` line.
 use Rattle.std.proofs.Common.{◌≡◌, ℕ, suc, ◌+◌, ◌<◌, ◌≤◌, List, [], ◌∷◌, ◌++◌, drop, length, get_or, true, refl, ap, ◌∙◌, arith, drop_of_length-le, map}
-use Rattle.std.specs.Prelude.{slice_range, ◌&&◌}
-use Rattle.std.specs.List.{list_all}
-use Rattle.std.proofs.Math.Seq.{drop-cons}
-use Rattle.blif_read.specs.Faults.{is_pair}
-use Rattle.blif_read.specs.Statements.{pair_of}
+use Rattle.blif_read.proofs.Common.{slice_range, ◌&&◌, list_all, drop-cons, is_pair, pair_of}
 use Rattle.blif_read.proofs.WordLemmas.{slice_more, slice_none, slice_rest}
+use Rattle.std.proofs.lemmas.List.{map_push}
 
 pub pairs_more : (words : List (List ℕ)) (k : ℕ) → k < length words
     → list_all is_pair (drop k words) ≡ (is_pair (get_or words k []) && list_all is_pair (drop (k + 1) words))
@@ -16,10 +13,6 @@ pairs_more words k inside =
 
 pub pairs_end : (words : List (List ℕ)) (k : ℕ) → length words ≤ k → list_all is_pair (drop k words) ≡ true
 pairs_end words k over = ap (list_all is_pair) (drop_of_length-le words over)
-
-map_push : {X Y : Type 0} (f : X → Y) (xs : List X) (x : X) → map f (xs ++ x ∷ []) ≡ map f xs ++ f x ∷ []
-map_push f [] x = refl
-map_push f (y ∷ ys) x = ap (λ more. f y ∷ more) (map_push f ys x)
 
 pub pair_next : (words : List (List ℕ)) (k : ℕ) → 2 ≤ k → k < length words
     → map pair_of (slice_range words 2 (k + 1)) ≡ map pair_of (slice_range words 2 k) ++ pair_of (get_or words k []) ∷ []

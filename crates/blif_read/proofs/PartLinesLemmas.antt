@@ -1,19 +1,13 @@
 -- The models of a text whose lines are read part by part.
-use Rattle.std.proofs.Common.{◌≡◌, ◌≤◌, ◌<◌, ℕ, suc, ◌+◌, ◌-◌, List, [], ◌∷◌, length, drop, map, true, Some, None, Ok, Err, refl, sym, ap, subst, ◌∙◌, arith, drop_of_length-le, append-nil}
-use Rattle.std.specs.Prelude.{Result, IfOk}
-use Rattle.std.proofs.Math.Seq.{drop-cons}
-use Rattle.blif_text.specs.Texts.{Line, lines}
+use Rattle.std.proofs.Common.{◌≡◌, ◌≤◌, ◌<◌, ℕ, suc, ◌+◌, ◌-◌, List, [], ◌∷◌, length, drop, map, true, Some, None, Ok, Err, refl, sym, ap, ◌∙◌, arith, drop_of_length-le, append-nil}
+use Rattle.blif_read.proofs.Common.{Result, drop-cons, Line, BlifFault, BlifModel, first_fault, or_else, statement, if_any, unless_fault, reads_lines, reads, Progress, all_ended, follow, fault_next}
+use Rattle.std.specs.Prelude.{IfOk}
+use Rattle.blif_text.specs.Texts.{lines}
 use Rattle.blif_text.specs.Lines.{line_at}
 use Rattle.blif_text.specs.Reading.{State, start as text_start, finish}
 use Rattle.blif_text.specs.Parts.{state_over, with_part}
 use Rattle.blif_text.proofs.PartLemmas.{behind_part, left, Stands, stands_start, left_start, left_over, stands_over, left_part, stands_part, left_end}
-use Rattle.blif_read.specs.declared.fault.BlifFault.{BlifFault}
 use Rattle.blif_read.specs.declared.fault.BlifFault.TheVariants.{BadByte}
-use Rattle.blif_read.specs.declared.models.BlifModel.{BlifModel}
-use Rattle.blif_read.specs.Faults.{first_fault, or_else}
-use Rattle.blif_read.specs.Statements.{statement}
-use Rattle.blif_read.specs.Reads.{if_any, unless_fault, reads_lines, reads}
-use Rattle.blif_read.specs.Running.{Progress, all_ended, follow, fault_next}
 use Rattle.blif_read.specs.Readers.{start}
 use Rattle.blif_read.specs.Parts.{LeadTo}
 use Rattle.blif_read.proofs.WholeLemmas.{whole, whole_step, whole_end}
@@ -35,17 +29,10 @@ leads_next lines before now next i on inside none is =
     let none_here : Line = record { number = 0; words = [] } in
     let e : suc i ≡ i + 1 = omega arith in
     let here : drop i lines ≡ line_at lines i ∷ drop (i + 1) lines = drop-cons lines i none_here inside ∙ ap (λ n. line_at lines i ∷ drop n lines) e in
-    record {
-      leads = λ behind rest.
-          let P : List Line → Type 0 = λ more. LeadTo now more behind in
-          let Q : Progress → Type 0 = λ p. LeadTo p (drop (i + 1) lines) behind in
-          on.leads behind (subst P (sym here) (none, subst Q is rest));
-    }
+    record { leads = λ behind rest. on.leads behind (rw here (none, rw is at rest)) }
 
 pub leads_end : (lines : List Line) (before now : Progress) (i : ℕ) → LeadsOn lines before now i → length lines ≤ i → LeadTo before lines now
-leads_end lines before now i on over =
-    let P : List Line → Type 0 = λ more. LeadTo now more now in
-    on.leads now (subst P (sym (drop_of_length-le lines over)) refl)
+leads_end lines before now i on over = on.leads now (rw (drop_of_length-le lines over) refl)
 
 -- What remains of a text.
 
@@ -89,14 +76,10 @@ behind_one line more (Ok rest) = refl
 behind_one line more (Err n) = refl
 
 remains_lines : (text : List ℕ) (p q : Progress) (part : List Line) (rest : Result (List Line) ℕ) → Remains text p (behind_part part rest) → LeadTo p part q → Remains text q rest
-remains_lines text p q [] rest at is =
-    let P : Result (List Line) ℕ → Type 0 = λ more. Remains text q more in
-    let Q : Progress → Type 0 = λ now. Remains text now (behind_part [] rest) in
-    subst P (behind_none rest) (subst Q (sym is) at)
-remains_lines text p q (line ∷ more) rest at leads =
-    let P : Result (List Line) ℕ → Type 0 = λ found. Remains text p found in
+remains_lines text p q [] rest found is = rw is (rw (behind_none rest) at found)
+remains_lines text p q (line ∷ more) rest found leads =
     remains_lines text (follow p (statement line)) q more rest
-    (remains_line text p line (behind_part more rest) (subst P (behind_one line more rest) at) leads.0) leads.1
+    (remains_line text p line (behind_part more rest) (rw (behind_one line more rest) at found) leads.0) leads.1
 
 remains_none : (text : List ℕ) (p : Progress) → Remains text p (Ok []) → reads text ≡ if_any (all_ended p)
 remains_none text p at = sym at.answers ∙ ap if_any (whole_end p)
@@ -109,48 +92,42 @@ pub record PartsAt (text : List ℕ) (p : Progress) (s : State) (i : ℕ) : Type
   pub remains : Remains text p (left true text s i)
 
 pub at_start : (text : List ℕ) (p : Progress) (s : State) → p ≡ start → s ≡ text_start → PartsAt text p s 0
-at_start text p s p_is s_is =
-    let P : Progress → Type 0 = λ now. Remains text now (left true text s 0) in
-    record {
-      stands = stands_start s s_is;
-      number = (stands_start s s_is).number;
-      within = omega arith;
-      remains = subst P (sym p_is) (record {
-        earlier = [];
-        agrees = record { place = refl; names = λ name. refl };
-        answers = ap (answer_left start []) (left_start text true s s_is) ∙ nothing_earlier (lines text true);
-      });
-    }
+at_start text p s p_is s_is = record {
+  stands = stands_start s s_is;
+  number = (stands_start s s_is).number;
+  within = omega arith;
+  remains = rw p_is (record {
+    earlier = [];
+    agrees = record { place = refl; names = λ name. refl };
+    answers = ap (answer_left start []) (left_start text true s s_is) ∙ nothing_earlier (lines text true);
+  });
+}
 
 pub at_bytes : (text : List ℕ) (p : Progress) (s next : State) (i j : ℕ) → PartsAt text p s i → i ≤ j → j ≤ length text → state_over true text i (j - i) s ≡ Some next
     → PartsAt text p next j
 at_bytes text p s next i j at low within read =
-    let P : Result (List Line) ℕ → Type 0 = λ found. Remains text p found in
     let stands = stands_over text true s next i j at.stands low within read in
     record {
       stands = stands;
       number = stands.number;
       within = within;
-      remains = subst P (sym (left_over text true s next i j at.stands low within read)) at.remains;
+      remains = rw (left_over text true s next i j at.stands low within read) (at.remains);
     }
 
 pub at_part : (text : List ℕ) (p q : Progress) (s next : State) (part : List Line) (i : ℕ) → PartsAt text p s i → s ≡ with_part part next → LeadTo p part q → PartsAt text q next i
-at_part text p q s next part i at is leads =
-    let P : Result (List Line) ℕ → Type 0 = λ found. Remains text p found in
-    record {
-      stands = stands_part part s next i is at.stands;
-      number = (stands_part part s next i is at.stands).number;
-      within = at.within;
-      remains = remains_lines text p q part (left true text next i) (subst P (left_part text true part s next i is) at.remains) leads;
-    }
+at_part text p q s next part i at is leads = record {
+  stands = stands_part part s next i is at.stands;
+  number = (stands_part part s next i is at.stands).number;
+  within = at.within;
+  remains = remains_lines text p q part (left true text next i) (rw (left_part text true part s next i is) at (at.remains)) leads;
+}
 
 pub at_end : (text : List ℕ) (p q : Progress) (s : State) (part : List Line) (i : ℕ) → PartsAt text p s i → length text ≤ i → part ≡ finish true s → LeadTo p part q
     → reads text ≡ if_any (all_ended q)
 at_end text p q s part i at over is leads =
-    let P : Result (List Line) ℕ → Type 0 = λ found. Remains text p found in
     let e : left true text s i ≡ behind_part part (Ok []) =
     left_end text true s i at.stands over ∙ ap (λ all. Ok all) (sym (append-nil part ∙ is)) in
-    remains_none text q (remains_lines text p q part (Ok []) (subst P e at.remains) leads)
+    remains_none text q (remains_lines text p q part (Ok []) (rw e at (at.remains)) leads)
 
 pub ok_same : {X : Type 0} (result wanted : Result X BlifFault) → wanted ≡ result → IfOk result (λ x. wanted ≡ Ok x)
 ok_same (Ok x) wanted is = is

@@ -1,17 +1,15 @@
 -- The running state is what looking back finds.
 use Rattle.std.proofs.Common.{◌≡◌, ◌≢◌, ℕ, Bool, true, false, List, [], ◌∷◌, ◌++◌, length, Some, None, refl, sym, ap, ap₂, ◌∙◌, arith, length-take}
-use Rattle.std.specs.Prelude.{◌&&◌, ◌||◌, if◌then◌else◌, option_map, option_and_then, unwrap_or, Option, bytes_eq}
+use Rattle.blif_read.proofs.Common.{◌&&◌, if◌then◌else◌, option_map, Option, bytes_eq, Line, Kind, Row, Model, Place, kind, arguments, model_name, place_behind, is_model_name, fault_inside, fault_at, statement, statement_of_kind, pins_of, OpenGate, OpenModel, Progress, follow, fault_next}
+use Rattle.std.specs.Prelude.{◌||◌, option_and_then, unwrap_or}
 use Rattle.std.specs.List.{list_any}
-use Rattle.blif_text.specs.Texts.{Line}
 use Rattle.blif_read.specs.declared.fault.BlifFault.TheVariants as fault
-use Rattle.blif_read.specs.declared.kind.Kind.{Kind}
-use Rattle.blif_read.specs.declared.kind.Kind.TheVariants.{Row, Model, Inputs, Outputs, Clock, Names, Latch, Subckt, End, ReadOver, LeftOut, Unknown}
-use Rattle.blif_read.specs.declared.place.Place.{Place}
-use Rattle.blif_read.specs.Kinds.{kind, arguments, pin_count, is_on, model_name}
-use Rattle.blif_read.specs.Places.{is_model, is_end, is_names, is_row, in_model, cover_line, this_unless, first_row, place_behind, is_model_name}
-use Rattle.blif_read.specs.Faults.{fault_inside, fault_at, row_fault}
-use Rattle.blif_read.specs.Statements.{statement, statement_of_kind, pins_of, lits_of}
-use Rattle.blif_read.specs.Running.{OpenGate, OpenModel, Progress, add, add_row, place_in, follow, fault_next}
+use Rattle.blif_read.specs.declared.kind.Kind.TheVariants.{Names, End}
+use Rattle.blif_read.specs.Kinds.{pin_count, is_on}
+use Rattle.blif_read.specs.Places.{is_model, is_end, is_names, is_row, in_model, cover_line, this_unless, first_row}
+use Rattle.blif_read.specs.Faults.{row_fault}
+use Rattle.blif_read.specs.Statements.{lits_of}
+use Rattle.blif_read.specs.Running.{add, add_row, place_in}
 use Rattle.blif_read.proofs.FollowLemmas.{fault_of_other, goes_on}
 
 abbrev pub place : Bool → Option ℕ → Option Bool → Place
@@ -55,14 +53,7 @@ inside_place m Row line earlier other more same none =
     ∙ ap (λ t. place t (option_map (λ names. pin_count (arguments names)) (cover_line earlier)) (option_map is_on (this_unless line (first_row earlier)))) (ap (λ at. at.in_model) same)
 inside_place m Names line earlier other more same none =
     ap₂ (λ t pins. place t (Some pins) None) (ap (λ at. at.in_model) same) (length_pins (arguments line))
-inside_place m Inputs line earlier other more same none = ap (λ t. place t None None) (ap (λ at. at.in_model) same)
-inside_place m Outputs line earlier other more same none = ap (λ t. place t None None) (ap (λ at. at.in_model) same)
-inside_place m Clock line earlier other more same none = ap (λ t. place t None None) (ap (λ at. at.in_model) same)
-inside_place m Latch line earlier other more same none = ap (λ t. place t None None) (ap (λ at. at.in_model) same)
-inside_place m Subckt line earlier other more same none = ap (λ t. place t None None) (ap (λ at. at.in_model) same)
-inside_place m ReadOver line earlier other more same none = ap (λ t. place t None None) (ap (λ at. at.in_model) same)
-inside_place m LeftOut line earlier other more same none = ap (λ t. place t None None) (ap (λ at. at.in_model) same)
-inside_place m Unknown line earlier other more same none = ap (λ t. place t None None) (ap (λ at. at.in_model) same)
+inside_place m k line earlier other more same none = ap (λ t. place t None None) (ap (λ at. at.in_model) same)
 
 some_place : (in_progress : Option OpenModel) (k : Kind) (line : Line) (earlier : List Line) → k ≢ Model → k ≢ End → place_in in_progress ≡ place_behind earlier
     → (if (place_in in_progress).in_model then fault_inside k line (place_in in_progress) else Some (fault.OutsideModel line.number)) ≡ None
@@ -82,16 +73,7 @@ place_by_kind : (p : Progress) (k : Kind) (line : Line) (earlier : List Line) (t
     → place_in (follow p (statement_of_kind k line)).in_progress ≡ place_by k line earlier
 place_by_kind p Model line earlier taken same none = refl
 place_by_kind p End line earlier taken same none = refl
-place_by_kind p Row line earlier taken same none = other_place p Row line earlier taken (λ e. cc e) (λ e. cc e) same none
-place_by_kind p Inputs line earlier taken same none = other_place p Inputs line earlier taken (λ e. cc e) (λ e. cc e) same none
-place_by_kind p Outputs line earlier taken same none = other_place p Outputs line earlier taken (λ e. cc e) (λ e. cc e) same none
-place_by_kind p Clock line earlier taken same none = other_place p Clock line earlier taken (λ e. cc e) (λ e. cc e) same none
-place_by_kind p Names line earlier taken same none = other_place p Names line earlier taken (λ e. cc e) (λ e. cc e) same none
-place_by_kind p Latch line earlier taken same none = other_place p Latch line earlier taken (λ e. cc e) (λ e. cc e) same none
-place_by_kind p Subckt line earlier taken same none = other_place p Subckt line earlier taken (λ e. cc e) (λ e. cc e) same none
-place_by_kind p ReadOver line earlier taken same none = other_place p ReadOver line earlier taken (λ e. cc e) (λ e. cc e) same none
-place_by_kind p LeftOut line earlier taken same none = other_place p LeftOut line earlier taken (λ e. cc e) (λ e. cc e) same none
-place_by_kind p Unknown line earlier taken same none = other_place p Unknown line earlier taken (λ e. cc e) (λ e. cc e) same none
+place_by_kind p k line earlier taken same none = other_place p k line earlier taken (λ e. cc e) (λ e. cc e) same none
 
 -- Names of models.
 
@@ -113,17 +95,7 @@ names_by_kind : (p : Progress) (k : Kind) (line : Line) (earlier : List Line) �
     → list_any (bytes_eq name) (follow p (statement_of_kind k line)).names ≡ ((is_model k && bytes_eq name (model_name line)) || is_model_name name earlier)
 names_by_kind p Model line earlier are name =
     any_push (bytes_eq name) p.names (model_name line) ∙ ap (λ t. bytes_eq name (model_name line) || t) (are name)
-names_by_kind p Row line earlier are name = are name
-names_by_kind p Inputs line earlier are name = are name
-names_by_kind p Outputs line earlier are name = are name
-names_by_kind p Clock line earlier are name = are name
-names_by_kind p Names line earlier are name = are name
-names_by_kind p Latch line earlier are name = are name
-names_by_kind p Subckt line earlier are name = are name
-names_by_kind p End line earlier are name = are name
-names_by_kind p ReadOver line earlier are name = are name
-names_by_kind p LeftOut line earlier are name = are name
-names_by_kind p Unknown line earlier are name = are name
+names_by_kind p k line earlier are name = are name
 
 -- The running state agrees with the lines so far.
 pub record Agrees (p : Progress) (earlier : List Line) : Type 0 where

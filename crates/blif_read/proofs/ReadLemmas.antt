@@ -1,15 +1,7 @@
 -- The answer that there is once the lines that are left are read.
-use Rattle.std.proofs.Common.{◌≡◌, ◌≤◌, ◌<◌, ℕ, zero, suc, ◌+◌, List, [], ◌∷◌, length, drop, map, Some, None, Ok, Err, refl, sym, ap, subst, ◌∙◌, arith, drop_of_length-le}
-use Rattle.std.specs.Prelude.{Option, Result}
-use Rattle.std.proofs.Math.Seq.{drop-cons}
-use Rattle.blif_text.specs.Texts.{Line}
+use Rattle.std.proofs.Common.{◌≡◌, ◌≤◌, ◌<◌, ℕ, zero, suc, ◌+◌, List, [], ◌∷◌, length, drop, map, Some, None, Ok, Err, refl, sym, ap, ◌∙◌, drop_of_length-le, add-one}
+use Rattle.blif_read.proofs.Common.{Option, Result, drop-cons, Line, BlifFault, BlifModel, first_fault, or_else, statement, if_any, unless_fault, reads_lines, Progress, all_ended, follow, fault_next}
 use Rattle.blif_text.specs.Lines.{line_at}
-use Rattle.blif_read.specs.declared.fault.BlifFault.{BlifFault}
-use Rattle.blif_read.specs.declared.models.BlifModel.{BlifModel}
-use Rattle.blif_read.specs.Faults.{first_fault, or_else}
-use Rattle.blif_read.specs.Statements.{statement}
-use Rattle.blif_read.specs.Reads.{if_any, unless_fault, reads_lines}
-use Rattle.blif_read.specs.Running.{Progress, all_ended, follow, fault_next}
 use Rattle.blif_read.specs.Answers.{Answers}
 use Rattle.blif_read.specs.Readers.{start}
 use Rattle.blif_read.proofs.WholeLemmas.{whole, whole_step, whole_end}
@@ -28,9 +20,7 @@ pub record ReadsAt (lines : List Line) (p : Progress) (i : ℕ) : Type 0 where
   pub answers : answer p (before lines i) (drop i lines) ≡ reads_lines (Ok lines)
 
 pub at_start : (lines : List Line) (p : Progress) → p ≡ start → ReadsAt lines p 0
-at_start lines p is =
-    let P : Progress → Type 0 = λ now. ReadsAt lines now 0 in
-    subst P (sym is) (record { agrees = record { place = refl; names = λ name. refl }; answers = refl })
+at_start lines p is = rw is (record { agrees = record { place = refl; names = λ name. refl }; answers = refl })
 
 lines_here : (lines : List Line) (i : ℕ) → i < length lines → drop i lines ≡ line_at lines i ∷ drop (suc i) lines
 lines_here lines i inside = drop-cons lines i (record { number = 0; words = [] }) inside
@@ -47,16 +37,12 @@ pub at_next : (lines : List Line) (p next : Progress) (i : ℕ) → ReadsAt line
     → ReadsAt lines next (i + 1)
 at_next lines p next i at inside none is =
     let line = line_at lines i in
-    let now = follow p (statement line) in
-    let P : Progress → Type 0 = λ q. ReadsAt lines q (i + 1) in
-    let Q : ℕ → Type 0 = λ k. ReadsAt lines now k in
-    let e : suc i ≡ i + 1 = omega arith in
-    subst P (sym is) (subst Q e (record {
+    rw (is, add-one) (record {
       agrees = agrees_next p line (before lines i) at.agrees none;
       answers =
           ap (unless_fault (first_fault (line ∷ before lines i) (drop (suc i) lines))) (whole_step p (statement line) (map statement (drop (suc i) lines)))
           ∙ fault_here lines p i None at inside none;
-    }))
+    })
 
 pub at_fault : (lines : List Line) (p : Progress) (i : ℕ) (found : BlifFault) → ReadsAt lines p i → i < length lines → fault_next p (line_at lines i) ≡ Some found → reads_lines (Ok lines) ≡ Err found
 at_fault lines p i found at inside is = sym (fault_here lines p i (Some found) at inside is)

@@ -1,24 +1,20 @@
 -- What the lines of a text say is sound.
 use Rattle.std.proofs.Common.{◌≡◌, ◌≢◌, ℕ, ◌+◌, List, [], ◌∷◌, drop, map, true, false, refl, sym, ap, ◌∙◌, arith, All}
-use Rattle.std.specs.Prelude.{Bool, if◌then◌else◌, Some, None, Option, codes, bytes_eq}
-use Rattle.std.specs.List.{list_all, position_or_len}
-use Rattle.std.proofs.lemmas.List.Elements.{All-nil, All-cons, All-head, All-tail, All-map, All-take, All-drop}
+use Rattle.blif_read.proofs.Common.{if◌then◌else◌, Option, bytes_eq, list_all, All-head, All-tail, Line, BlifFault, Kind, Place, Statement, Inputs, Outputs, Clocks, Latch, Part, End, kind, arguments, model_name, place_behind, is_model_name, fault_at, fault_inside, first_fault, or_else, is_pair, is_equals, statement, statement_of_kind, pins_of, pair_of}
+use Rattle.std.specs.Prelude.{Bool, Some, None, codes}
+use Rattle.std.specs.List.{position_or_len}
+use Rattle.std.proofs.lemmas.List.Elements.{All-nil, All-cons, All-map, All-take, All-drop}
 use Rattle.std.proofs.lemmas.Bool.{and_parts}
 use Rattle.cyc_base.specs.Names.{IsBlifName, IsBlifByte}
 use Rattle.netlist.specs.declared.parts.Edge.{Edge}
-use Rattle.blif_text.specs.Texts.{Line, is_filled}
+use Rattle.blif_text.specs.Texts.{is_filled}
 use Rattle.blif_text.proofs.LineFacts.{HasNames}
-use Rattle.blif_read.specs.declared.fault.BlifFault.{BlifFault}
 use Rattle.blif_read.specs.declared.fault.BlifFault.TheVariants as fault
-use Rattle.blif_read.specs.declared.kind.Kind.{Kind}
 use Rattle.blif_read.specs.declared.kind.Kind.TheVariants as of
-use Rattle.blif_read.specs.declared.place.Place.{Place}
-use Rattle.blif_read.specs.declared.statement.Statement.{Statement}
-use Rattle.blif_read.specs.declared.statement.Statement.TheVariants.{Model, Inputs, Outputs, Clocks, Names, Row, Latch, Part, End, Nothing}
-use Rattle.blif_read.specs.Kinds.{kind, arguments, model_name, pin_count, word_at}
-use Rattle.blif_read.specs.Places.{place_behind, is_model_name}
-use Rattle.blif_read.specs.Faults.{fault as fault_of, fault_at, fault_inside, first_fault, or_else, model_fault, names_fault, latch_fault, subckt_fault, is_pair, is_equals, formal_of, actual_of}
-use Rattle.blif_read.specs.Statements.{statement, statement_of_kind, pins_of, output_of, latch_of, control_of, edge_of, part_of, pair_of}
+use Rattle.blif_read.specs.declared.statement.Statement.TheVariants.{Model, Names, Row, Nothing}
+use Rattle.blif_read.specs.Kinds.{pin_count, word_at}
+use Rattle.blif_read.specs.Faults.{fault as fault_of, model_fault, names_fault, latch_fault, subckt_fault, formal_of, actual_of}
+use Rattle.blif_read.specs.Statements.{output_of, latch_of, control_of, edge_of, part_of}
 use Rattle.blif_read.specs.Flattening.{IsSoundControl, IsSoundLatch, IsSoundPart}
 use Rattle.blif_read.proofs.FollowLemmas.{fault_of_other}
 
@@ -116,13 +112,9 @@ sound_inside of.Inputs line place other each none = names_behind line each
 sound_inside of.Outputs line place other each none = names_behind line each
 sound_inside of.Clock line place other each none = names_behind line each
 sound_inside of.Names line place other each none = sound_gate line.number (arguments line) (names_behind line each) none
-sound_inside of.Row line place other each none = tt
 sound_inside of.Latch line place other each none = sound_latch line.number (arguments line) (names_behind line each) none
 sound_inside of.Subckt line place other each none = sound_part line.number (arguments line) (names_behind line each) none
-sound_inside of.End line place other each none = tt
-sound_inside of.ReadOver line place other each none = tt
-sound_inside of.LeftOut line place other each none = tt
-sound_inside of.Unknown line place other each none = tt
+sound_inside unnamed line place other each none = tt
 
 no_fault_inside : (t : Bool) (n : ℕ) (inside : Option BlifFault) → (if t then inside else Some (fault.OutsideModel n)) ≡ None → inside ≡ None
 no_fault_inside true n inside none = none
@@ -135,17 +127,7 @@ sound_other k line place taken other each none =
 
 sound_statement : (k : Kind) (line : Line) (place : Place) (taken : Bool) → HasNames line → fault_at k line place taken ≡ None → IsSoundStatement (statement_of_kind k line)
 sound_statement of.Model line place taken each none = sound_model_name line.number line.words taken each none
-sound_statement of.Inputs line place taken each none = sound_other of.Inputs line place taken (λ e. cc e) each none
-sound_statement of.Outputs line place taken each none = sound_other of.Outputs line place taken (λ e. cc e) each none
-sound_statement of.Clock line place taken each none = sound_other of.Clock line place taken (λ e. cc e) each none
-sound_statement of.Names line place taken each none = sound_other of.Names line place taken (λ e. cc e) each none
-sound_statement of.Row line place taken each none = tt
-sound_statement of.Latch line place taken each none = sound_other of.Latch line place taken (λ e. cc e) each none
-sound_statement of.Subckt line place taken each none = sound_other of.Subckt line place taken (λ e. cc e) each none
-sound_statement of.End line place taken each none = tt
-sound_statement of.ReadOver line place taken each none = tt
-sound_statement of.LeftOut line place taken each none = tt
-sound_statement of.Unknown line place taken each none = tt
+sound_statement other line place taken each none = sound_other other line place taken (λ e. cc e) each none
 
 pub or_none : (here next : Option BlifFault) → or_else here next ≡ None → (here ≡ None) × (next ≡ None)
 or_none (Some f) next none = absurd (cc none)

@@ -1,16 +1,15 @@
 -- The models that there are once more statements follow.
 use Rattle.std.proofs.Common.{◌≡◌, ℕ, Bool, true, List, [], ◌∷◌, ◌++◌, length, Some, None, refl, sym, ap, ap₂, ◌∙◌, append_assoc, append-nil}
-use Rattle.std.specs.Prelude.{flat_map, option_map, option_to_list, unwrap_or, Option}
+use Rattle.blif_read.proofs.Common.{option_map, Option, BlifModel, Statement, Inputs, Outputs, Clocks, Latch, Part, End, members, OpenGate, OpenModel, Progress, all_ended, follow}
+use Rattle.std.specs.Prelude.{flat_map, option_to_list, unwrap_or}
 use Rattle.cover_logic.specs.declared.row.Row as rows
 use Rattle.cover_logic.specs.Covers.{Cover}
-use Rattle.blif_read.specs.declared.models.BlifModel.{BlifModel}
 use Rattle.blif_read.specs.declared.models.GateLine.{GateLine}
 use Rattle.blif_read.specs.declared.models.Item.{Item}
 use Rattle.blif_read.specs.declared.models.Item.TheVariants as item
-use Rattle.blif_read.specs.declared.statement.Statement.{Statement}
-use Rattle.blif_read.specs.declared.statement.Statement.TheVariants.{Model, Inputs, Outputs, Clocks, Names, Row, Latch, Part, End, Nothing}
-use Rattle.blif_read.specs.Models.{members, inputs_in, outputs_in, clocks_in, rows_of, plane_of, body_of, model_of, models}
-use Rattle.blif_read.specs.Running.{OpenGate, OpenModel, Progress, add_row, gate_items, ended, add, all_ended, follow}
+use Rattle.blif_read.specs.declared.statement.Statement.TheVariants.{Model, Row}
+use Rattle.blif_read.specs.Models.{inputs_in, outputs_in, clocks_in, rows_of, plane_of, body_of, model_of, models}
+use Rattle.blif_read.specs.Running.{add_row, gate_items, ended, add}
 
 -- the plane of the first row, where more rows follow
 abbrev pub plane_then : Option Bool → List Statement → Bool
@@ -95,9 +94,6 @@ extended_by m (Clocks names) inside stands =
     ap₂ (λ clocks body. model_with m.model.name (m.model.inputs ++ flat_map inputs_in inside) (m.model.outputs ++ flat_map outputs_in inside) clocks body)
     (append_assoc m.model.clocks names (flat_map clocks_in inside))
     (body_ended m.model.body m.gate (Clocks names ∷ inside) refl refl)
-extended_by m (Names pins output) inside stands =
-    ap (λ body. model_with m.model.name (m.model.inputs ++ flat_map inputs_in inside) (m.model.outputs ++ flat_map outputs_in inside) (m.model.clocks ++ flat_map clocks_in inside) body)
-    (body_ended m.model.body m.gate (Names pins output ∷ inside) refl refl)
 extended_by m (Row row plane) inside stands =
     ap (λ items. model_with m.model.name (m.model.inputs ++ flat_map inputs_in inside) (m.model.outputs ++ flat_map outputs_in inside) (m.model.clocks ++ flat_map clocks_in inside) (m.model.body ++ items))
     (row_added m.gate row plane inside)
@@ -107,9 +103,9 @@ extended_by m (Latch latch) inside stands =
 extended_by m (Part part) inside stands =
     ap (λ body. model_with m.model.name (m.model.inputs ++ flat_map inputs_in inside) (m.model.outputs ++ flat_map outputs_in inside) (m.model.clocks ++ flat_map clocks_in inside) body)
     (append_assoc (m.model.body ++ gate_items m.gate) (item.Part part ∷ []) (body_of inside) ∙ body_ended m.model.body m.gate (Part part ∷ inside) refl refl)
-extended_by m Nothing inside stands =
+extended_by m other inside stands =
     ap (λ body. model_with m.model.name (m.model.inputs ++ flat_map inputs_in inside) (m.model.outputs ++ flat_map outputs_in inside) (m.model.clocks ++ flat_map clocks_in inside) body)
-    (body_ended m.model.body m.gate (Nothing ∷ inside) refl refl)
+    (body_ended m.model.body m.gate (other ∷ inside) refl refl)
 
 -- Nothing more in the model.
 extended_no_more : (m : OpenModel) → extended m [] ≡ ended m
@@ -140,14 +136,7 @@ whole_step p (Model name) rest =
     ∙ ap (λ more. (p.done ++ more) ++ model_of name (members rest) ∷ models rest) (sym (open_ended p.in_progress (Model name ∷ rest) refl))
 whole_step p End rest =
     ap (λ front. front ++ models rest) (append-nil (all_ended p) ∙ ap (λ more. p.done ++ more) (sym (open_ended p.in_progress (End ∷ rest) refl)))
-whole_step p (Inputs names) rest = within p (Inputs names) rest tt refl
-whole_step p (Outputs names) rest = within p (Outputs names) rest tt refl
-whole_step p (Clocks names) rest = within p (Clocks names) rest tt refl
-whole_step p (Names pins output) rest = within p (Names pins output) rest tt refl
-whole_step p (Row row plane) rest = within p (Row row plane) rest tt refl
-whole_step p (Latch latch) rest = within p (Latch latch) rest tt refl
-whole_step p (Part part) rest = within p (Part part) rest tt refl
-whole_step p Nothing rest = within p Nothing rest tt refl
+whole_step p other rest = within p other rest tt refl
 
 pub whole_end : (p : Progress) → whole p [] ≡ all_ended p
 whole_end p = append-nil (p.done ++ open_then p.in_progress []) ∙ ap (λ more. p.done ++ more) (open_ended p.in_progress [] refl)

@@ -1,6 +1,6 @@
 -- Words of a line by their places.
 use Rattle.std.proofs.Common.{◌≡◌, ℕ, suc, ◌+◌, ◌-◌, ◌<◌, ◌≤◌, List, [], ◌∷◌, ◌++◌, drop, length, get_or, refl, arith, length-drop, get_or-drop}
-use Rattle.std.specs.Prelude.{slice_range}
+use Rattle.blif_read.proofs.Common.{slice_range}
 use Rattle.std.proofs.Math.Seq.{take-suc}
 use Rattle.std.proofs.lemmas.Grind.{common_steps}
 

@@ -102,14 +102,10 @@ fn lit_of(b: u8) -> Lit
     }
 }
 
-fn lits_of_word(alloc: Global, word: &[u8]) -> Result<Items<Lit>, AllocError>
-    ensures { IfOk result (λ lits. lits ≡ map lit_of word.now) }
+fn lits_of_word(alloc: Global, word: &[u8]) -> Result<Vec<Lit>, AllocError>
+    ensures { IfOk result (λ lits. lits.items ≡ map lit_of word.now) }
 {
-    let mut lits = Vec::with_capacity(alloc, word.len())?;
-    for b in word {
-        lits.push(lit_of(*b))?;
-    }
-    Ok(Items::of(lits))
+    word.iter().map(|b| lit_of(*b)).collect(alloc)
 }
 
 fn lits_of(alloc: Global, line: &TextLine<'_>) -> Result<Items<Lit>, AllocError>
@@ -118,7 +114,8 @@ fn lits_of(alloc: Global, line: &TextLine<'_>) -> Result<Items<Lit>, AllocError>
     if line.words() < 2 {
         return Ok(Items::of(Vec::new(alloc)));
     }
-    lits_of_word(alloc, line.word(0))
+    let lits = lits_of_word(alloc, line.word(0))?;
+    Ok(Items::of(lits))
 }
 
 pub fn read_row(alloc: Global, place: Place, line: &TextLine<'_>) -> Result<Statement, BlifFault>

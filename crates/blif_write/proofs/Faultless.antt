@@ -1,6 +1,6 @@
 -- No line of a written netlist has a fault.
 use Rattle.std.proofs.Common.{◌≡◌, ◌&&◌, ℕ, ◌+◌, ◌≤◌, nat_lt, not, Bool, true, false, List, [], ◌∷◌, ◌++◌, length, map, refl, sym, ap, ◌∙◌, subst, append_assoc, arith, eq-eqb, if◌then◌else◌, None, Some, option_map}
-use Rattle.blif_write.proofs.Common.{All, flat_map, list_any, Option, length-map, All-head, All-tail, IsCover, Lit, Zero, One, Any, Edge, Rise, Fall, Init, Gate, Parts, numbered, name_of, clock_lines, control_words, edge_word, init_word, latch_line, latch_lines, lit_byte, plane_word, lits_words, row_line, gate_lines, all_gate_lines, lines_of}
+use Rattle.blif_write.proofs.Common.{All, flat_map, list_any, Option, length-map, All-head, All-tail, IsCover, Lit, Zero, Edge, Rise, Fall, Init, Gate, Parts, numbered, name_of, clock_lines, control_words, edge_word, init_word, latch_line, latch_lines, lit_byte, plane_word, lits_words, row_line, gate_lines, all_gate_lines, lines_of}
 use Rattle.std.specs.Prelude.{codes, bytes_eq}
 use Rattle.std.specs.List.{list_all}
 use Rattle.std.proofs.lemmas.Grind.{common_steps}
@@ -62,16 +62,12 @@ end_passes = record { none = λ n earlier m. or_none _ _ (inside _ _ _ m refl) r
 
 typed_fine : (n : ℕ) (edge : Edge) (init : Init) → typed_latch_fault n (edge_word edge) (is_init (init_word init)) ≡ None
 typed_fine n Rise starts.Zero = refl
-typed_fine n Rise starts.One = refl
-typed_fine n Rise starts.Either = refl
 typed_fine n Fall starts.Zero = refl
-typed_fine n Fall starts.One = refl
-typed_fine n Fall starts.Either = refl
+typed_fine n edge init = refl
 
 init_fine : (n : ℕ) (from name : List ℕ) (init : Init) → latch_fault n (from ∷ name ∷ init_word init ∷ []) ≡ None
 init_fine n from name starts.Zero = refl
-init_fine n from name starts.One = refl
-init_fine n from name starts.Either = refl
+init_fine n from name init = refl
 
 latch_fine : (n : ℕ) (from name : List ℕ) (clock : Option ClockOf) (clocked : Bool) (init : Init)
     → latch_fault n (from ∷ name ∷ (control_words clock clocked ++ init_word init ∷ [])) ≡ None
@@ -101,8 +97,7 @@ plane_row n false = refl
 
 lit_row : (lit : Lit) (bytes : List ℕ) → kind_of (lit_byte lit ∷ bytes) ≡ Row
 lit_row Zero bytes = refl
-lit_row One bytes = refl
-lit_row Any bytes = refl
+lit_row lit bytes = refl
 
 pub row_kind : (n : ℕ) (plane : Bool) (lits : List Lit) → kind (line n (lits_words lits ++ plane_word plane ∷ [])) ≡ Row
 row_kind n plane [] = plane_row n plane
@@ -122,8 +117,7 @@ is_plane_word false = refl
 
 lit_fine : (lit : Lit) → is_lit (lit_byte lit) ≡ true
 lit_fine Zero = refl
-lit_fine One = refl
-lit_fine Any = refl
+lit_fine lit = refl
 
 lits_fine : (lits : List Lit) → list_all is_lit (map lit_byte lits) ≡ true
 lits_fine [] = refl

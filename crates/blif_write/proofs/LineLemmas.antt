@@ -83,10 +83,10 @@ gates_are net (gate ∷ gates) =
 pub written_is : (net : Parts) → written net ≡ text_of (head_lines net) ++ body net
 written_is net =
     let end : List (List (List ℕ)) = (codes ".end" ∷ []) ∷ [] in
-    flat_map-append line_text (head_lines net) (latch_lines net ++ (all_gate_lines net ++ end))
-    ∙ ap (λ text. text_of (head_lines net) ++ text)
-    (flat_map-append line_text (latch_lines net) (all_gate_lines net ++ end)
-    ∙ ap (λ text. text ++ text_of (all_gate_lines net ++ end)) (flat_map-map line_text (latch_line net) net.latches)
-    ∙ ap (λ text. latches_text net ++ text)
-    (flat_map-append line_text (all_gate_lines net) end
-    ∙ ap (λ text. text ++ text_of end) (gates_are net net.gates)))
+    rw (
+      flat_map-append line_text (head_lines net) (latch_lines net ++ (all_gate_lines net ++ end)),
+      flat_map-append line_text (latch_lines net) (all_gate_lines net ++ end),
+      flat_map-map line_text (latch_line net) net.latches,
+      flat_map-append line_text (all_gate_lines net) end,
+      gates_are net net.gates,
+    ) refl

@@ -1,51 +1,39 @@
 -- The lines of a written netlist link to the netlist.
-use Rattle.std.proofs.Common.{◌≡◌, ◌&&◌, ◌||◌, ℕ, zero, suc, ◌<◌, not, Bool, true, false, List, [], ◌∷◌, ◌++◌, length, map, get_or, refl, sym, ap, ◌∙◌, subst, arith, eq-eqb, if◌then◌else◌, None, Some, option_map, is_some, Ok, Err, cond}
+use Rattle.std.proofs.Common.{◌≡◌, ◌&&◌, ◌||◌, ℕ, ◌<◌, not, Bool, true, false, List, [], ◌∷◌, ◌++◌, length, map, get_or, refl, sym, ap, ◌∙◌, subst, arith, eq-eqb, if◌then◌else◌, None, Some, option_map, is_some, Ok, Err, cond, ap₂}
 use Rattle.blif_write.proofs.Common.{All, IfSome, flat_map, list_any, bytes_eq, Option, All-head, All-tail, Sig, Clock, Edge, Rise, Fall, Gate, Latch, Parts, signal, signal_names, driven_names, IsNetlist, IsClockName, BlifModel, GateLine, LatchLine, name_of}
 use Rattle.std.specs.Prelude.{codes, filter}
 use Rattle.std.specs.List.{find, position_or_len, IsDistinct, AllByRecursion}
 use Rattle.std.specs.Option.{option_or, option_and_then, option_map_or}
-use Rattle.std.proofs.lemmas.List.Elements.{All-nil, All-cons, All-append}
-use Rattle.std.proofs.lemmas.List.Folds.{list_any-append}
-use Rattle.std.proofs.lemmas.Bool.{or_right, or_parts}
+use Rattle.std.proofs.lemmas.List.Elements.{All-nil, All-cons, All-append, All-map, All-weaker}
+use Rattle.std.proofs.lemmas.List.Folds.{list_any-append, list_any_at, map_fixed}
+use Rattle.std.proofs.lemmas.Bool.{or_right, or_parts, false_from_ne_true, both_ways}
 use Rattle.cyc_base.proofs.ListLemmas.{map-map}
 use Rattle.cyc_base.proofs.NameLemmas.{bytes_eq-true}
 use Rattle.netlist.specs.Netlists.{sig_eq, IsSignal}
-use Rattle.netlist.specs.Faults.{repeat_after}
-use Rattle.netlist.proofs.Differ.{no_repeat_from_differ}
 use Rattle.netlist.proofs.NameLemmas.{length-signal_names}
 use Rattle.flatten.specs.declared.fault.FlatFault.{FlatFault}
 use Rattle.flatten.specs.declared.fault.FlatFault.TheVariants.{DeclaredTwice, DrivenTwice, Undriven, BadClock, ClockRead}
 use Rattle.flatten.specs.Instances.{is_among}
-use Rattle.flatten.specs.Linking.{twice_after, first_twice, each_once, own_clocks, latch_outputs, gate_outputs, drivers, reads, has_control, first_control, edge_eq, is_fitting, has_bad_control, link_fault, signal_list, sig_of, latch_with, gate_with, netlist_by, linked}
+use Rattle.flatten.specs.Linking.{first_twice, each_once, own_clocks, latch_outputs, gate_outputs, drivers, reads, has_control, first_control, edge_eq, is_fitting, has_bad_control, link_fault, signal_list, sig_of, latch_with, gate_with, netlist_by, linked}
 use Rattle.flatten.proofs.Names.{bytes_refl, bytes_sym}
-use Rattle.flatten.proofs.Placing.{step_yes, step_no}
+use Rattle.flatten.proofs.Libraries.{distinct_fresh, none_old}
 use Rattle.blif_write.proofs.NameLemmas.{driven_any}
 use Rattle.blif_write.proofs.Said.{control_if, clock_names, latch_of_text, gate_of_text, model_of_text}
 use Rattle.blif_write.proofs.Flattened.{lines_of_text}
+use Rattle.std.proofs.lemmas.List.Sums.{position_or_len_is}
+use Rattle.std.proofs.lemmas.Map.Keys.{apart_from_distinct, IsDistinct-from_apart}
+use Rattle.std.proofs.lemmas.List.{get_or_append_left, length-append}
 
 -- Names that differ.
 
-twice_is : (earlier names : List (List ℕ)) → twice_after earlier names ≡ option_map (λ p. p.1) (repeat_after bytes_eq earlier names)
-twice_is earlier [] = refl
-twice_is earlier (name ∷ names) = by (list_any (bytes_eq name) earlier) (twice_is (earlier ++ name ∷ []) names)
-  where
-    by : (t : Bool) → twice_after (earlier ++ name ∷ []) names ≡ option_map (λ p. p.1) (repeat_after bytes_eq (earlier ++ name ∷ []) names)
-        → (if t then Some name else twice_after (earlier ++ name ∷ []) names)
-        ≡ option_map (λ p. p.1) (if t then Some (length earlier, name) else repeat_after bytes_eq (earlier ++ name ∷ []) names)
-    by true rest = refl
-    by false rest = rest
-
 once : (names : List (List ℕ)) → IsDistinct bytes_eq names → first_twice names ≡ None
-once names d = twice_is [] names ∙ ap (option_map (λ p. p.1)) (no_repeat_from_differ bytes_eq bytes_sym names d)
+once names d = distinct_fresh [] names (none_old names) d
 
 distinct_front : (xs ys : List (List ℕ)) → IsDistinct bytes_eq (xs ++ ys) → IsDistinct bytes_eq xs
-unfolding IsDistinct
-distinct_front [] ys d = tt
-distinct_front (x ∷ xs) ys d = (front xs d.0, distinct_front xs ys d.1)
-  where
-    front : (zs : List (List ℕ)) → AllByRecursion (λ y. bytes_eq x y ≡ false) (zs ++ ys) → AllByRecursion (λ y. bytes_eq x y ≡ false) zs
-    front [] a = tt
-    front (z ∷ zs) a = (a.0, front zs a.1)
+distinct_front xs ys d =
+    IsDistinct-from_apart bytes_eq xs (λ i j e before l.
+    let n = length-append xs ys in
+    sym (ap₂ bytes_eq (get_or_append_left xs ys e i (omega arith)) (get_or_append_left xs ys e j l)) ∙ apart_from_distinct bytes_eq (xs ++ ys) i j e d before (omega arith))
 
 each_apart : (name : List ℕ) (names : List (List ℕ)) → is_among names name ≡ false → AllByRecursion (λ y. bytes_eq name y ≡ false) names
 each_apart name [] e = tt
@@ -69,31 +57,19 @@ put_in name (x ∷ xs) ys d no_x no_y =
 
 -- The place of a name among names that differ.
 
-apart_at : (name : List ℕ) (names : List (List ℕ)) (i : ℕ) → AllByRecursion (λ y. bytes_eq name y ≡ false) names → i < length names
-    → bytes_eq name (get_or names i []) ≡ false
-apart_at name [] i a l = absurd (omega arith)
-apart_at name (x ∷ names) zero a l = a.0
-apart_at name (x ∷ names) (suc i) a l = apart_at name names i a.1 (omega arith)
-
 place_of : (names : List (List ℕ)) (i : ℕ) → IsDistinct bytes_eq names → i < length names → position_or_len (bytes_eq (get_or names i [])) names ≡ i
-unfolding IsDistinct
-place_of [] i d l = absurd (omega arith)
-place_of (x ∷ names) zero d l = step_yes (bytes_eq x) x names (bytes_refl x)
-place_of (x ∷ names) (suc i) d l =
+place_of names i d l =
     let name = get_or names i [] in
-    omega (arith, step_no (bytes_eq name) x names (bytes_sym name x ∙ apart_at x names i d.0 (omega arith)), place_of names i d.1 (omega arith))
+    position_or_len_is (bytes_eq name) names i [] (omega arith)
+    (λ k before. bytes_sym name (get_or names k []) ∙ apart_from_distinct bytes_eq names k i [] d before l) (λ within. bytes_refl name)
 
 among_at : (names : List (List ℕ)) (i : ℕ) → i < length names → is_among names (get_or names i []) ≡ true
-among_at [] i l = absurd (omega arith)
-among_at (x ∷ names) zero l = ap (λ t. t || is_among names x) (bytes_refl x)
-among_at (x ∷ names) (suc i) l = or_right (bytes_eq (get_or names i []) x) _ (among_at names i (omega arith))
+among_at names i l = list_any_at (bytes_eq (get_or names i [])) names i [] l (bytes_refl (get_or names i []))
 
 -- The signals of a netlist and their names.
 
 map_all : {X : Type 0} (P : X → Type 0) (f : X → X) → ((x : X) → P x → f x ≡ x) → (xs : List X) → All P xs → map f xs ≡ xs
-map_all P f same [] each = refl
-map_all P f same (x ∷ xs) each =
-    ap (λ y. y ∷ map f xs) (same x (All-head P x xs each)) ∙ ap (λ rest. x ∷ rest) (map_all P f same xs (All-tail P x xs each))
+map_all P f same xs each = map_fixed f xs (All-weaker P (λ x. f x ≡ x) same xs each)
 
 driven_are : (net : Parts) → latch_outputs (lines_of_text net) ++ gate_outputs (lines_of_text net) ≡ driven_names net
 driven_are net =
@@ -148,18 +124,17 @@ no_signal : (net : Parts) (clock : Option Clock) (name : List ℕ) → ClockFits
 no_signal net None name fits among = refl
 no_signal net (Some clock) name fits among = by (is_among net.inputs clock.name) refl
   where
-    apart : is_among net.inputs clock.name ≡ false → (t : Bool) → bytes_eq name clock.name ≡ t → t ≡ false
-    apart e false same = refl
-    apart e true same =
+    apart : is_among net.inputs clock.name ≡ false → bytes_eq name clock.name ≡ false
+    apart e =
+        false_from_ne_true _ (λ same.
         let is : name ≡ clock.name = bytes_eq-true name clock.name same in
-        let there : is_among (signal_names net) clock.name ≡ true = ap (is_among (signal_names net)) (sym is) ∙ among in
         let split = list_any-append (bytes_eq clock.name) net.inputs (driven_names net) in
         let none : is_among (signal_names net) clock.name ≡ false = split ∙ ap (λ b. b || is_among (driven_names net) clock.name) e ∙ driven_any net clock.name ∙ fits.undriven in
-        cc
+        both_ways (is_among (signal_names net) clock.name) none (ap (is_among (signal_names net)) (sym is) ∙ among))
 
     by : (t : Bool) → is_among net.inputs clock.name ≡ t → is_among (if t then [] else clock.name ∷ []) name ≡ false
     by true e = refl
-    by false e = ap (λ b. b || false) (apart e (bytes_eq name clock.name) refl)
+    by false e = ap (λ b. b || false) (apart e)
 
 -- What is read.
 
@@ -170,16 +145,13 @@ read_signal : (net : Parts) (s : Sig) → IsSignal net s → IsRead net (name_of
 read_signal net s is = among_at (signal_names net) s.0 (omega (arith, is, length-signal_names net))
 
 All-mapped : {X Y : Type 0} (P : X → Type 0) (Q : Y → Type 0) (f : X → Y) → ((x : X) → P x → Q (f x)) → (xs : List X) → All P xs → All Q (map f xs)
-All-mapped P Q f gives [] each = All-nil Q
-All-mapped P Q f gives (x ∷ xs) each =
-    All-cons Q (f x) (map f xs) (gives x (All-head P x xs each)) (All-mapped P Q f gives xs (All-tail P x xs each))
+All-mapped P Q f gives xs each = All-map Q f xs (All-weaker P (λ x. Q (f x)) gives xs each)
 
 sources_read : (net : Parts) (ls : List Latch) → All (λ latch. IsSignal net latch.from) ls
     → All (IsRead net) (map (λ (l : LatchLine). l.from) (map (latch_of_text net) ls))
-sources_read net [] each = All-nil (IsRead net)
-sources_read net (latch ∷ ls) each =
-    let S = λ (latch : Latch). IsSignal net latch.from in
-    All-cons (IsRead net) (name_of net latch.from) _ (read_signal net latch.from (All-head S latch ls each)) (sources_read net ls (All-tail S latch ls each))
+sources_read net ls each =
+    All-map (IsRead net) (λ (l : LatchLine). l.from) (map (latch_of_text net) ls)
+    (All-mapped (λ (latch : Latch). IsSignal net latch.from) (λ l. IsRead net l.from) (latch_of_text net) (λ latch is. read_signal net latch.from is) ls each)
 
 pins_read : (net : Parts) (gs : List Gate) → All (λ gate. All (IsSignal net) gate.pins) gs
     → All (IsRead net) (flat_map (λ (g : GateLine). g.pins) (map (gate_of_text net) gs))
@@ -216,15 +188,11 @@ among_more xs ys zs name e =
 
 sigs_apart : (net : Parts) → IsNetlist net → (a b : Sig) → IsSignal net a → IsSignal net b → sig_eq a b ≡ false
     → bytes_eq (name_of net a) (name_of net b) ≡ false
-sigs_apart net valid a b is_a is_b differ = by (bytes_eq (name_of net a) (name_of net b)) refl
-  where
-    by : (t : Bool) → bytes_eq (name_of net a) (name_of net b) ≡ t → t ≡ false
-    by false e = refl
-    by true e =
-        let same : name_of net a ≡ name_of net b = bytes_eq-true _ _ e in
-        let is : a ≡ b = sym (sig_same net valid a is_a) ∙ ap (sig_of (signal_names net)) same ∙ sig_same net valid b is_b in
-        let same_sig : sig_eq a b ≡ true = ap (λ s. sig_eq s b) is ∙ eq-eqb b.0 b.0 refl in
-        cc
+sigs_apart net valid a b is_a is_b differ =
+    false_from_ne_true _ (λ e.
+    let same : name_of net a ≡ name_of net b = bytes_eq-true _ _ e in
+    let is : a ≡ b = sym (sig_same net valid a is_a) ∙ ap (sig_of (signal_names net)) same ∙ sig_same net valid b is_b in
+    both_ways (sig_eq a b) differ (ap (λ s. sig_eq s b) is ∙ eq-eqb b.0 b.0 refl))
 
 outputs_apart : (net : Parts) → IsNetlist net → (a : Sig) (sigs : List Sig) → IsSignal net a → All (IsSignal net) sigs
     → AllByRecursion (λ b. sig_eq a b ≡ false) sigs → AllByRecursion (λ name. bytes_eq (name_of net a) name ≡ false) (map (name_of net) sigs)
@@ -289,17 +257,13 @@ control_is net valid = by net.clock refl
 fitting : (net : Parts) (clock : Clock) → net.clock ≡ Some clock → IsClockName net clock.name → is_fitting (model_of_text net) clock clock ≡ true
 fitting net clock e is =
     all_true (not (bytes_eq clock.name (codes "NIL"))) (is_among net.inputs clock.name || is_among (clock_names net net.clock) clock.name) (edge_eq clock.edge clock.edge) (bytes_eq clock.name clock.name)
-    (ap not (other_name (bytes_eq clock.name (codes "NIL")) refl))
+    (ap not (false_from_ne_true _ (λ same. is.named (bytes_eq-true clock.name (codes "NIL") same))))
     (ap (λ the. is_among net.inputs clock.name || is_among (clock_names net the) clock.name) e ∙ either (is_among net.inputs clock.name))
     (same_edge clock.edge)
     (bytes_refl clock.name)
   where
     all_true : (a b c d : Bool) → a ≡ true → b ≡ true → c ≡ true → d ≡ true → ((a && b) && c && d) ≡ true
     all_true a b c d e f g h = rw (e, f, g, h) refl
-
-    other_name : (t : Bool) → bytes_eq clock.name (codes "NIL") ≡ t → bytes_eq clock.name (codes "NIL") ≡ false
-    other_name true same = absurd (is.named (bytes_eq-true clock.name (codes "NIL") same))
-    other_name false same = same
 
     either : (t : Bool) → (t || is_among (if t then [] else clock.name ∷ []) clock.name) ≡ true
     either true = refl
@@ -378,35 +342,24 @@ record IsLatchOf (net : Parts) (latch : Latch) : Type 0 where
 
 latch_again : (net : Parts) → IsNetlist net → (latch : Latch) → IsLatchOf net latch
     → latch_with (sig_of (signal_names net)) (latch_of_text net latch) ≡ latch
-latch_again net valid latch is =
-    let made = λ (from : Sig) (clocked : Bool). let l : Latch = record { name = latch.name; from = from; init = latch.init; clocked = clocked } in l in
-    ap (λ from. made from (is_some (control_if net.clock latch.clocked))) (sig_same net valid latch.from is.from)
-    ∙ ap (made latch.from) (still_clocked net.clock latch.clocked is.clocked)
+latch_again net valid latch is = rw (sig_same net valid latch.from is.from, still_clocked net.clock latch.clocked is.clocked) refl
 
 gate_again : (net : Parts) → IsNetlist net → (gate : Gate) → All (IsSignal net) gate.pins
     → gate_with (sig_of (signal_names net)) (gate_of_text net gate) ≡ gate
-gate_again net valid gate is =
-    let made = λ (pins : List Sig). let g : Gate = record { name = gate.name; pins = pins; cover = gate.cover } in g in
-    ap made (sigs_same net valid gate.pins is)
+gate_again net valid gate is = rw (sigs_same net valid gate.pins is) refl
 
 linked_again : (net : Parts) → IsNetlist net → netlist_by (sig_of (signal_names net)) (model_of_text net) (lines_of_text net) ≡ net
 linked_again net valid =
     let sig = sig_of (signal_names net) in
-    let made = λ (clock : Option Clock) (latches : List Latch) (gates : List Gate) (outputs : List Sig).
-    let parts : Parts = record { name = net.name; inputs = net.inputs; clock = clock; latches = latches; gates = gates; outputs = outputs } in parts in
-    let ls = map (latch_with sig) (map (latch_of_text net) net.latches) in
-    let gs = map (gate_with sig) (map (gate_of_text net) net.gates) in
-    let outs = map sig (map (name_of net) net.outputs) in
     let clocked = all_clocked (is_some net.clock) net.latches (λ e. sym valid.clocked ∙ e) in
     let each : All (IsLatchOf net) net.latches = λ k d l. record { from = valid.sources k d l; clocked = clocked k d l } in
-    ap (λ clock. made clock ls gs outs) (control_is net valid)
-    ∙ ap (λ latches. made net.clock latches gs outs)
-    (map-map (latch_with sig) (latch_of_text net) net.latches
-    ∙ map_all (IsLatchOf net) (λ latch. latch_with sig (latch_of_text net latch)) (latch_again net valid) net.latches each)
-    ∙ ap (λ gates. made net.clock net.latches gates outs)
-    (map-map (gate_with sig) (gate_of_text net) net.gates
-    ∙ map_all (λ (gate : Gate). All (IsSignal net) gate.pins) (λ gate. gate_with sig (gate_of_text net gate)) (gate_again net valid) net.gates valid.pins)
-    ∙ ap (λ outputs. made net.clock net.latches net.gates outputs) (sigs_same net valid net.outputs valid.outputs)
+    let latches : map (latch_with sig) (map (latch_of_text net) net.latches) ≡ net.latches =
+    map-map (latch_with sig) (latch_of_text net) net.latches
+    ∙ map_all (IsLatchOf net) (λ latch. latch_with sig (latch_of_text net latch)) (latch_again net valid) net.latches each in
+    let gates : map (gate_with sig) (map (gate_of_text net) net.gates) ≡ net.gates =
+    map-map (gate_with sig) (gate_of_text net) net.gates
+    ∙ map_all (λ (gate : Gate). All (IsSignal net) gate.pins) (λ gate. gate_with sig (gate_of_text net gate)) (gate_again net valid) net.gates valid.pins in
+    rw (control_is net valid, latches, gates, sigs_same net valid net.outputs valid.outputs) refl
 
 pub lines_link : (net : Parts) → IsNetlist net → linked (model_of_text net) (lines_of_text net) ≡ Ok net
 lines_link net valid =

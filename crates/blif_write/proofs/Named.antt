@@ -1,8 +1,8 @@
 -- Each line of a written netlist has words, all of which are names.
-use Rattle.std.proofs.Common.{◌≡◌, ◌≢◌, ℕ, if◌then◌else◌, Bool, true, false, List, [], ◌∷◌, ◌++◌, map, refl, arith, None, Some}
-use Rattle.blif_write.proofs.Common.{All, IfSome, flat_map, list_any, bytes_eq, Option, All-head, All-tail, Sig, Lit, Zero, One, Any, Clock, Edge, Rise, Fall, Init, Gate, Latch, Parts, signal_names, driven_names, IsNetlist, IsClockName, name_of, clock_lines, edge_word, init_word, control_words, latch_line, latch_lines, lit_byte, plane_word, lits_words, row_line, gate_lines, all_gate_lines, lines_of}
+use Rattle.std.proofs.Common.{◌≡◌, ◌≢◌, ℕ, if◌then◌else◌, Bool, true, false, List, [], ◌∷◌, ◌++◌, map, refl, arith, None, Some, length, get_or}
+use Rattle.blif_write.proofs.Common.{All, IfSome, flat_map, list_any, bytes_eq, Option, All-head, All-tail, Sig, Lit, Zero, Clock, Edge, Rise, Fall, Init, Gate, Latch, Parts, signal_names, driven_names, IsNetlist, IsClockName, name_of, clock_lines, edge_word, init_word, control_words, latch_line, latch_lines, lit_byte, plane_word, lits_words, row_line, gate_lines, all_gate_lines, lines_of}
 use Rattle.std.specs.Prelude.{codes}
-use Rattle.std.proofs.lemmas.List.Elements.{All-nil, All-cons, All-append, All-get_or}
+use Rattle.std.proofs.lemmas.List.Elements.{All-nil, All-cons, All-append, All-get_or, All-map, All-weaker, All-take, All-drop}
 use Rattle.cyc_base.specs.Names.{IsBlifByte, IsBlifName}
 use Rattle.blif_text.proofs.WrittenLines.{IsLine}
 use Rattle.cover_logic.specs.declared.row.Row.{Row}
@@ -12,6 +12,7 @@ use Rattle.netlist.specs.Faults.{is_blif_name}
 use Rattle.netlist.proofs.Decisions.{is_blif_name_decides}
 use Rattle.netlist.proofs.NameLemmas.{length-signal_names}
 use Rattle.blif_write.specs.Written.{head_lines}
+use Rattle.std.proofs.lemmas.List.{take_at, drop_at}
 
 cons_filled : {X : Type 0} (x : X) (xs : List X) → (x ∷ xs) ≢ []
 cons_filled x xs e = cc
@@ -27,25 +28,20 @@ one : (word : List ℕ) → IsBlifName word → All IsBlifName (word ∷ [])
 one word is = All-cons IsBlifName word [] is (All-nil IsBlifName)
 
 front_named : (xs ys : List (List ℕ)) → All IsBlifName (xs ++ ys) → All IsBlifName xs
-front_named [] ys each = All-nil IsBlifName
-front_named (x ∷ xs) ys each =
-    All-cons IsBlifName x xs (All-head IsBlifName x (xs ++ ys) each) (front_named xs ys (All-tail IsBlifName x (xs ++ ys) each))
+front_named xs ys each = rw (take_at xs ys (length xs) refl) at (All-take IsBlifName (length xs) (xs ++ ys) each)
+
+back_named : (xs ys : List (List ℕ)) → All IsBlifName (xs ++ ys) → All IsBlifName ys
+back_named xs ys each = rw (drop_at xs ys (length xs) refl) at (All-drop IsBlifName (length xs) (xs ++ ys) each)
 
 signal_named : (net : Parts) → IsNetlist net → (s : Sig) → IsSignal net s → IsBlifName (name_of net s)
 signal_named net valid s is = All-get_or IsBlifName (signal_names net) s.0 [] (omega (arith, is, length-signal_names net)) valid.names
 
 signals_named : (net : Parts) → IsNetlist net → (sigs : List Sig) → All (IsSignal net) sigs → All IsBlifName (map (name_of net) sigs)
-signals_named net valid [] each = All-nil IsBlifName
-signals_named net valid (s ∷ sigs) each =
-    All-cons IsBlifName (name_of net s) (map (name_of net) sigs) (signal_named net valid s (All-head (IsSignal net) s sigs each))
-    (signals_named net valid sigs (All-tail (IsSignal net) s sigs each))
+signals_named net valid sigs each =
+    All-map IsBlifName (name_of net) sigs (All-weaker (IsSignal net) (λ s. IsBlifName (name_of net s)) (signal_named net valid) sigs each)
 
 driven_named : (net : Parts) → IsNetlist net → All IsBlifName (driven_names net)
-driven_named net valid = behind net.inputs valid.names
-  where
-    behind : (xs : List (List ℕ)) → All IsBlifName (xs ++ driven_names net) → All IsBlifName (driven_names net)
-    behind [] each = each
-    behind (x ∷ xs) each = behind xs (All-tail IsBlifName x (xs ++ driven_names net) each)
+driven_named net valid = back_named net.inputs (driven_names net) valid.names
 
 -- The head.
 
@@ -98,12 +94,10 @@ latches_named net (latch ∷ ls) valid from names =
 
 lit_named : (lit : Lit) → IsBlifByte (lit_byte lit)
 lit_named Zero = (omega arith, omega arith, omega arith)
-lit_named One = (omega arith, omega arith, omega arith)
-lit_named Any = (omega arith, omega arith, omega arith)
+lit_named lit = (omega arith, omega arith, omega arith)
 
 lits_bytes : (lits : List Lit) → All IsBlifByte (map lit_byte lits)
-lits_bytes [] = All-nil IsBlifByte
-lits_bytes (lit ∷ lits) = All-cons IsBlifByte (lit_byte lit) (map lit_byte lits) (lit_named lit) (lits_bytes lits)
+lits_bytes lits = All-map IsBlifByte lit_byte lits (λ k d l. lit_named (get_or lits k d))
 
 plane_named : (plane : Bool) → IsBlifName (plane_word plane)
 plane_named true = constant (codes "1") refl
@@ -120,8 +114,7 @@ row_named plane row = by row.lits
         (one (plane_word plane) (plane_named plane))
 
 rows_named : (plane : Bool) (rows : List Row) → All IsLine (map (row_line plane) rows)
-rows_named plane [] = All-nil IsLine
-rows_named plane (row ∷ rows) = All-cons IsLine (row_line plane row) (map (row_line plane) rows) (row_named plane row) (rows_named plane rows)
+rows_named plane rows = All-map IsLine (row_line plane) rows (λ k d l. row_named plane (get_or rows k d))
 
 gates_named : (net : Parts) (gs : List Gate) → IsNetlist net → All (λ gate. All (IsSignal net) gate.pins) gs
     → All IsBlifName (map (λ gate. gate.name) gs) → All IsLine (flat_map (gate_lines net) gs)
@@ -138,10 +131,6 @@ gates_named net (gate ∷ gs) valid pins names =
     (gates_named net gs valid (All-tail S gate gs pins) (All-tail IsBlifName gate.name more names))
 
 -- The whole text.
-
-back_named : (xs ys : List (List ℕ)) → All IsBlifName (xs ++ ys) → All IsBlifName ys
-back_named [] ys each = each
-back_named (x ∷ xs) ys each = back_named xs ys (All-tail IsBlifName x (xs ++ ys) each)
 
 pub lines_named : (net : Parts) → IsNetlist net → All IsLine (lines_of net)
 lines_named net valid =

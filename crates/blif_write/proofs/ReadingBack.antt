@@ -1,12 +1,12 @@
 -- A written netlist reads back.
-use Rattle.std.proofs.Common.{◌≡◌, ◌+◌, ◌≤◌, ℕ, Bool, true, false, [], ◌∷◌, length, map, ap, ◌∙◌, refl, None, Some, Ok}
+use Rattle.std.proofs.Common.{◌≡◌, ◌+◌, ◌≤◌, ℕ, true, [], ◌∷◌, length, map, ap, ◌∙◌, refl, None, Some, Ok}
 use Rattle.blif_write.proofs.Common.{All, IfSome, Option, Clock, Parts, IsNetlist, IsClockName, numbered, lines_of}
-use Rattle.std.specs.Prelude.{codes, bytes_eq}
+use Rattle.std.specs.Prelude.{codes}
 use Rattle.cyc_base.proofs.NameLemmas.{bytes_eq-true}
 use Rattle.blif_read.specs.Models.{models}
 use Rattle.blif_read.specs.Statements.{statement}
 use Rattle.blif_read.specs.Reads.{reads, reads_lines, unless_fault, if_any}
-use Rattle.flatten.specs.Flat.{flat_within, flat_from, linked_lines}
+use Rattle.flatten.specs.Flat.{flat_within, flat_from}
 use Rattle.blif_write.specs.Written.{written}
 use Rattle.blif_write.specs.Laws.{HasCovers, WrittenReadsBack}
 use Rattle.blif_write.proofs.ReadLines.{written_lines}
@@ -15,17 +15,14 @@ use Rattle.blif_write.proofs.Said.{IsNamed, model_of_text, models_are}
 use Rattle.blif_write.proofs.Flattened.{model_found, lines_flat}
 use Rattle.blif_write.proofs.Linked.{lines_link}
 use Rattle.blif_write.proofs.Named.{lines_named}
+use Rattle.std.proofs.lemmas.Bool.{false_from_ne_true}
 
 whole_gates : (net : Parts) → IsNetlist net → HasCovers net → All IsWhole net.gates
 whole_gates net valid covers = λ k d l. record { cover = covers k d l; width = valid.pin_counts k d l }
 
 clock_is_named : (net : Parts) (clock : Option Clock) → IfSome clock (λ clock. IsClockName net clock.name) → IsNamed clock
 clock_is_named net None is = tt
-clock_is_named net (Some clock) is = by (bytes_eq clock.name (codes "NIL")) refl
-  where
-    by : (t : Bool) → bytes_eq clock.name (codes "NIL") ≡ t → t ≡ false
-    by true same = absurd (is.named (bytes_eq-true clock.name (codes "NIL") same))
-    by false same = refl
+clock_is_named net (Some clock) is = false_from_ne_true _ (λ same. is.named (bytes_eq-true clock.name (codes "NIL") same))
 
 read_again : (net : Parts) → IsNetlist net → HasCovers net → reads (written net) ≡ Ok (model_of_text net ∷ [])
 read_again net valid covers =
@@ -39,9 +36,7 @@ flat_again : (depth limit : ℕ) (net : Parts) → IsNetlist net → length net.
     → flat_within depth limit (model_of_text net ∷ []) net.name ≡ Ok net
 flat_again depth limit net valid few =
     let model = model_of_text net in
-    ap (flat_from depth limit (model ∷ []) net.name) (model_found model)
-    ∙ ap (linked_lines model) (lines_flat depth limit net few)
-    ∙ lines_link net valid
+    ap (flat_from depth limit (model ∷ []) net.name) (model_found model) ∙ lines_flat net depth limit few ∙ lines_link net valid
 
 pub reads_back : WrittenReadsBack
 reads_back net valid covers few = record {

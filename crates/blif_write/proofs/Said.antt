@@ -1,9 +1,8 @@
 -- What the lines of a written netlist say: one model.
-use Rattle.std.proofs.Common.{◌≡◌, ℕ, ◌+◌, Bool, true, false, List, [], ◌∷◌, ◌++◌, length, map, take, refl, sym, ap, ◌∙◌, append_assoc, append-nil, if◌then◌else◌, None, Some}
-use Rattle.blif_write.proofs.Common.{All, flat_map, list_any, Option, length-map, All-head, All-tail, Lit, Zero, One, Any, Edge, Rise, Fall, Init, Parts, numbered, BlifModel, GateLine, LatchLine, name_of, clock_lines, control_words, edge_word, init_word, latch_line, latch_lines, lit_byte, plane_word, lits_words, row_line, gate_lines, all_gate_lines, lines_of}
+use Rattle.std.proofs.Common.{◌≡◌, ℕ, ◌+◌, Bool, true, false, List, [], ◌∷◌, ◌++◌, length, map, take, refl, sym, ap, ◌∙◌, append_assoc, append-nil, if◌then◌else◌, None, Some, get_or}
+use Rattle.blif_write.proofs.Common.{All, flat_map, list_any, Option, length-map, All-head, All-tail, Lit, Zero, Edge, Rise, Fall, Init, Parts, numbered, BlifModel, GateLine, LatchLine, name_of, clock_lines, control_words, edge_word, init_word, latch_line, latch_lines, lit_byte, plane_word, lits_words, row_line, gate_lines, all_gate_lines, lines_of}
 use Rattle.std.specs.Prelude.{codes, bytes_eq}
 use Rattle.std.proofs.lemmas.List.{map-append, take_at, get_or_at}
-use Rattle.cover_logic.specs.Covers.{Cover}
 use Rattle.cover_logic.specs.declared.row.Row as rows
 use Rattle.netlist.specs.declared.parts.Clock as clocks
 use Rattle.netlist.specs.declared.parts.Init.TheVariants as starts
@@ -20,6 +19,8 @@ use Rattle.blif_read.specs.Kinds.{kind, is_on, pin_count}
 use Rattle.blif_read.specs.Statements.{lit_of, lits_of, latch_of, control_of, pins_of, output_of, statement, statement_of_kind}
 use Rattle.blif_read.specs.Models.{members, inputs_in, outputs_in, clocks_in, rows_of, plane_of, gate_of, body_of, model_of, models}
 use Rattle.blif_write.proofs.Faultless.{line, IsWhole, counted, row_on, row_kind}
+use Rattle.std.proofs.lemmas.List.Folds.{map_fixed}
+use Rattle.cyc_base.proofs.ListLemmas.{map-map}
 
 -- The model of a written netlist.
 
@@ -65,17 +66,7 @@ says words = statement (record { number = 0; words = words })
 
 number_aside : (k : kinds.Kind) (n : ℕ) (words : List (List ℕ)) → statement_of_kind k (line n words) ≡ statement_of_kind k (line 0 words)
 number_aside of.Row n words = refl
-number_aside of.Model n words = refl
-number_aside of.Inputs n words = refl
-number_aside of.Outputs n words = refl
-number_aside of.Clock n words = refl
-number_aside of.Names n words = refl
-number_aside of.Latch n words = refl
-number_aside of.Subckt n words = refl
-number_aside of.End n words = refl
-number_aside of.ReadOver n words = refl
-number_aside of.LeftOut n words = refl
-number_aside of.Unknown n words = refl
+number_aside k n words = refl
 
 says_all : (n : ℕ) (ws : List (List (List ℕ))) → map statement (numbered n ws) ≡ map says ws
 says_all n [] = refl
@@ -92,18 +83,20 @@ latch_said net latch = Latch (latch_of_text net latch)
 abbrev gate_said : Parts → gates.Gate → List Statement
 gate_said net gate = Names (map (name_of net) gate.pins) gate.name ∷ map (row_said gate.cover.plane) gate.cover.rows
 
-abbrev clock_said : Parts → Option clocks.Clock → List Statement
-clock_said net None = []
-clock_said net (Some clock) = if list_any (bytes_eq clock.name) net.inputs then [] else Clocks (clock.name ∷ []) ∷ []
+-- the line of a clock, where there is one
+abbrev clocks_said : List (List ℕ) → List Statement
+clocks_said [] = []
+clocks_said (name ∷ names) = Clocks (name ∷ names) ∷ []
+
+abbrev clock_said : Parts → List Statement
+clock_said net = clocks_said (clock_names net net.clock)
 
 lit_same : (lit : Lit) → lit_of (lit_byte lit) ≡ lit
 lit_same Zero = refl
-lit_same One = refl
-lit_same Any = refl
+lit_same lit = refl
 
 lits_same : (lits : List Lit) → map lit_of (map lit_byte lits) ≡ lits
-lits_same [] = refl
-lits_same (lit ∷ lits) = ap (λ l. l ∷ map lit_of (map lit_byte lits)) (lit_same lit) ∙ ap (λ ls. lit ∷ ls) (lits_same lits)
+lits_same lits = map-map lit_of lit_byte lits ∙ map_fixed (λ (lit : Lit). lit_of (lit_byte lit)) lits (λ k d l. lit_same (get_or lits k d))
 
 row_lits : (plane : Bool) (lits : List Lit) → lits_of (lits_words lits ++ plane_word plane ∷ []) ≡ lits
 row_lits plane [] = refl
@@ -121,9 +114,7 @@ row_says plane row =
 
 rows_say : (plane : Bool) (rs : List rows.Row) → map says (map (row_line plane) rs) ≡ map (row_said plane) rs
 rows_say plane [] = refl
-rows_say plane (row ∷ rs) =
-    ap (λ said. said ∷ map says (map (row_line plane) rs)) (row_says plane row)
-    ∙ ap (λ rest. row_said plane row ∷ rest) (rows_say plane rs)
+rows_say plane (row ∷ rs) = rw (row_says plane row, rows_say plane rs) refl
 
 front_of : (names : List (List ℕ)) (last : List ℕ) → pins_of (names ++ last ∷ []) ≡ names
 front_of names last = ap (λ n. take n (names ++ last ∷ [])) (counted names last) ∙ take_at names (last ∷ []) (length names) refl
@@ -134,9 +125,7 @@ last_is names last = get_or_at names last [] [] (pin_count (names ++ last ∷ []
 gate_says : (net : Parts) (gate : gates.Gate) → map says (gate_lines net gate) ≡ gate_said net gate
 gate_says net gate =
     let names = map (name_of net) gate.pins in
-    ap (λ pins. Names pins (output_of (names ++ gate.name ∷ [])) ∷ map says (map (row_line gate.cover.plane) gate.cover.rows)) (front_of names gate.name)
-    ∙ ap (λ output. Names names output ∷ map says (map (row_line gate.cover.plane) gate.cover.rows)) (last_is names gate.name)
-    ∙ ap (λ rest. Names names gate.name ∷ rest) (rows_say gate.cover.plane gate.cover.rows)
+    rw (front_of names gate.name, last_is names gate.name, rows_say gate.cover.plane gate.cover.rows) refl
 
 gates_say : (net : Parts) (gs : List gates.Gate) → map says (flat_map (gate_lines net) gs) ≡ flat_map (gate_said net) gs
 gates_say net [] = refl
@@ -152,8 +141,7 @@ IsNamed (Some clock) = bytes_eq clock.name (codes "NIL") ≡ false
 
 init_same : (from name : List ℕ) (init : Init) → latch_of (from ∷ name ∷ init_word init ∷ []) ≡ record { from = from; output = name; control = None; init = init }
 init_same from name starts.Zero = refl
-init_same from name starts.One = refl
-init_same from name starts.Either = refl
+init_same from name init = refl
 
 abbrev clock_with : Edge → List ℕ → clocks.Clock
 clock_with edge name = record { edge = edge; name = name }
@@ -171,11 +159,8 @@ control_same from name edge clock init named = by edge init
 
     by : (edge : Edge) (init : Init) → latch_of (from ∷ name ∷ edge_word edge ∷ clock ∷ init_word init ∷ []) ≡ line_with from name init (Some (clock_with edge clock))
     by Rise starts.Zero = ap (line_with from name starts.Zero) (named_control Rise)
-    by Rise starts.One = ap (line_with from name starts.One) (named_control Rise)
-    by Rise starts.Either = ap (line_with from name starts.Either) (named_control Rise)
     by Fall starts.Zero = ap (line_with from name starts.Zero) (named_control Fall)
-    by Fall starts.One = ap (line_with from name starts.One) (named_control Fall)
-    by Fall starts.Either = ap (line_with from name starts.Either) (named_control Fall)
+    by edge init = ap (line_with from name init) (named_control edge)
 
 latch_same : (from name : List ℕ) (clock : Option clocks.Clock) (clocked : Bool) (init : Init) → IsNamed clock
     → latch_of (from ∷ name ∷ (control_words clock clocked ++ init_word init ∷ []))
@@ -190,15 +175,13 @@ latch_says net latch named =
 
 latches_say : (net : Parts) (ls : List latches.Latch) → IsNamed net.clock → map says (map (latch_line net) ls) ≡ map (latch_said net) ls
 latches_say net [] named = refl
-latches_say net (latch ∷ ls) named =
-    ap (λ said. said ∷ map says (map (latch_line net) ls)) (latch_says net latch named)
-    ∙ ap (λ rest. latch_said net latch ∷ rest) (latches_say net ls named)
+latches_say net (latch ∷ ls) named = rw (latch_says net latch named, latches_say net ls named) refl
 
-clock_says : (net : Parts) (clock : Option clocks.Clock) → map says (clock_lines net clock) ≡ clock_said net clock
+clock_says : (net : Parts) (clock : Option clocks.Clock) → map says (clock_lines net clock) ≡ clocks_said (clock_names net clock)
 clock_says net None = refl
 clock_says net (Some clock) = by (list_any (bytes_eq clock.name) net.inputs)
   where
-    by : (t : Bool) → map says (if t then [] else (codes ".clock" ∷ clock.name ∷ []) ∷ []) ≡ (if t then [] else Clocks (clock.name ∷ []) ∷ [])
+    by : (t : Bool) → map says (if t then [] else (codes ".clock" ∷ clock.name ∷ []) ∷ []) ≡ clocks_said (if t then [] else clock.name ∷ [])
     by true = refl
     by false = refl
 
@@ -206,28 +189,24 @@ abbrev body_said : Parts → List Statement
 body_said net = map (latch_said net) net.latches ++ (flat_map (gate_said net) net.gates ++ End ∷ [])
 
 all_said : (net : Parts) → IsNamed net.clock → map says (lines_of net)
-    ≡ Model net.name ∷ Inputs net.inputs ∷ Outputs (map (name_of net) net.outputs) ∷ (clock_said net net.clock ++ body_said net)
+    ≡ Model net.name ∷ Inputs net.inputs ∷ Outputs (map (name_of net) net.outputs) ∷ (clock_said net ++ body_said net)
 all_said net named =
     let end : List (List (List ℕ)) = (codes ".end" ∷ []) ∷ [] in
     let gs = all_gate_lines net ++ end in
-    ap (λ rest. Model net.name ∷ Inputs net.inputs ∷ Outputs (map (name_of net) net.outputs) ∷ rest)
-    (map-append says (clock_lines net net.clock) (latch_lines net ++ gs)
-    ∙ ap (λ said. said ++ map says (latch_lines net ++ gs)) (clock_says net net.clock)
-    ∙ ap (λ rest. clock_said net net.clock ++ rest)
-    (map-append says (latch_lines net) gs
-    ∙ ap (λ said. said ++ map says gs) (latches_say net net.latches named)
-    ∙ ap (λ rest. map (latch_said net) net.latches ++ rest)
-    (map-append says (all_gate_lines net) end ∙ ap (λ said. said ++ End ∷ []) (gates_say net net.gates))))
+    rw (
+      map-append says (clock_lines net net.clock) (latch_lines net ++ gs),
+      clock_says net net.clock,
+      map-append says (latch_lines net) gs,
+      latches_say net net.latches named,
+      map-append says (all_gate_lines net) end,
+      gates_say net net.gates,
+    ) refl
 
 -- The statements lie in one model, which ends at the last.
 
-clock_members : (net : Parts) (clock : Option clocks.Clock) (rest : List Statement) → members (clock_said net clock ++ rest) ≡ clock_said net clock ++ members rest
-clock_members net None rest = refl
-clock_members net (Some clock) rest = by (list_any (bytes_eq clock.name) net.inputs)
-  where
-    by : (t : Bool) → members ((if t then [] else Clocks (clock.name ∷ []) ∷ []) ++ rest) ≡ (if t then [] else Clocks (clock.name ∷ []) ∷ []) ++ members rest
-    by true = refl
-    by false = refl
+clock_members : (names : List (List ℕ)) (rest : List Statement) → members (clocks_said names ++ rest) ≡ clocks_said names ++ members rest
+clock_members [] rest = refl
+clock_members (name ∷ names) rest = refl
 
 latch_members : (net : Parts) (ls : List latches.Latch) (rest : List Statement) → members (map (latch_said net) ls ++ rest) ≡ map (latch_said net) ls ++ members rest
 latch_members net [] rest = refl
@@ -246,13 +225,9 @@ gate_members net (gate ∷ gs) rest =
     ∙ ap (λ said. gate_said net gate ++ said) (gate_members net gs rest)
     ∙ sym (append_assoc (gate_said net gate) more (members rest))
 
-clock_models : (net : Parts) (clock : Option clocks.Clock) (rest : List Statement) → models (clock_said net clock ++ rest) ≡ models rest
-clock_models net None rest = refl
-clock_models net (Some clock) rest = by (list_any (bytes_eq clock.name) net.inputs)
-  where
-    by : (t : Bool) → models ((if t then [] else Clocks (clock.name ∷ []) ∷ []) ++ rest) ≡ models rest
-    by true = refl
-    by false = refl
+clock_models : (names : List (List ℕ)) (rest : List Statement) → models (clocks_said names ++ rest) ≡ models rest
+clock_models [] rest = refl
+clock_models (name ∷ names) rest = refl
 
 latch_models : (net : Parts) (ls : List latches.Latch) (rest : List Statement) → models (map (latch_said net) ls ++ rest) ≡ models rest
 latch_models net [] rest = refl
@@ -266,9 +241,7 @@ gate_models : (net : Parts) (gs : List gates.Gate) (rest : List Statement) → m
 gate_models net [] rest = refl
 gate_models net (gate ∷ gs) rest =
     let more = flat_map (gate_said net) gs in
-    ap models (append_assoc (gate_said net gate) more rest)
-    ∙ row_models gate.cover.plane gate.cover.rows (more ++ rest)
-    ∙ gate_models net gs rest
+    rw (append_assoc (gate_said net gate) more rest, row_models gate.cover.plane gate.cover.rows (more ++ rest), gate_models net gs rest) refl
 
 -- What a model collects of them, where latches and gates give nothing.
 
@@ -294,37 +267,21 @@ module _ (f : Statement → List (List ℕ)) (no_latch : (l : LatchLine) → f (
   pub body_nothing : (net : Parts) → flat_map f (map (latch_said net) net.latches ++ flat_map (gate_said net) net.gates) ≡ []
   body_nothing net = latches_nothing net net.latches _ (gates_nothing net net.gates)
 
-inputs_nothing : (net : Parts) (clock : Option clocks.Clock) (rest : List Statement) → flat_map inputs_in (clock_said net clock ++ rest) ≡ flat_map inputs_in rest
-inputs_nothing net None rest = refl
-inputs_nothing net (Some clock) rest = by (list_any (bytes_eq clock.name) net.inputs)
-  where
-    by : (t : Bool) → flat_map inputs_in ((if t then [] else Clocks (clock.name ∷ []) ∷ []) ++ rest) ≡ flat_map inputs_in rest
-    by true = refl
-    by false = refl
+inputs_nothing : (names : List (List ℕ)) (rest : List Statement) → flat_map inputs_in (clocks_said names ++ rest) ≡ flat_map inputs_in rest
+inputs_nothing [] rest = refl
+inputs_nothing (name ∷ names) rest = refl
 
-outputs_nothing : (net : Parts) (clock : Option clocks.Clock) (rest : List Statement) → flat_map outputs_in (clock_said net clock ++ rest) ≡ flat_map outputs_in rest
-outputs_nothing net None rest = refl
-outputs_nothing net (Some clock) rest = by (list_any (bytes_eq clock.name) net.inputs)
-  where
-    by : (t : Bool) → flat_map outputs_in ((if t then [] else Clocks (clock.name ∷ []) ∷ []) ++ rest) ≡ flat_map outputs_in rest
-    by true = refl
-    by false = refl
+outputs_nothing : (names : List (List ℕ)) (rest : List Statement) → flat_map outputs_in (clocks_said names ++ rest) ≡ flat_map outputs_in rest
+outputs_nothing [] rest = refl
+outputs_nothing (name ∷ names) rest = refl
 
-clocks_there : (net : Parts) (clock : Option clocks.Clock) (rest : List Statement) → flat_map clocks_in (clock_said net clock ++ rest) ≡ clock_names net clock ++ flat_map clocks_in rest
-clocks_there net None rest = refl
-clocks_there net (Some clock) rest = by (list_any (bytes_eq clock.name) net.inputs)
-  where
-    by : (t : Bool) → flat_map clocks_in ((if t then [] else Clocks (clock.name ∷ []) ∷ []) ++ rest) ≡ (if t then [] else clock.name ∷ []) ++ flat_map clocks_in rest
-    by true = refl
-    by false = refl
+clocks_there : (names : List (List ℕ)) (rest : List Statement) → flat_map clocks_in (clocks_said names ++ rest) ≡ names ++ flat_map clocks_in rest
+clocks_there [] rest = refl
+clocks_there (name ∷ names) rest = refl
 
-clock_body : (net : Parts) (clock : Option clocks.Clock) (rest : List Statement) → body_of (clock_said net clock ++ rest) ≡ body_of rest
-clock_body net None rest = refl
-clock_body net (Some clock) rest = by (list_any (bytes_eq clock.name) net.inputs)
-  where
-    by : (t : Bool) → body_of ((if t then [] else Clocks (clock.name ∷ []) ∷ []) ++ rest) ≡ body_of rest
-    by true = refl
-    by false = refl
+clock_body : (names : List (List ℕ)) (rest : List Statement) → body_of (clocks_said names ++ rest) ≡ body_of rest
+clock_body [] rest = refl
+clock_body (name ∷ names) rest = refl
 
 -- The items of the body.
 
@@ -353,18 +310,11 @@ plane_is : (plane : Bool) (rs : List rows.Row) (rest : List Statement) → Start
 plane_is plane [] rest none on = none.plane ∙ sym (on refl)
 plane_is plane (row ∷ rs) rest none on = refl
 
-abbrev cover_with : ℕ → Bool → List rows.Row → Cover
-cover_with pins plane rs = record { pins = pins; plane = plane; rows = rs }
-
 gate_same : (net : Parts) (gate : gates.Gate) (rest : List Statement) → IsWhole gate → StartsNoRow rest
     → gate_of (map (name_of net) gate.pins) gate.name (map (row_said gate.cover.plane) gate.cover.rows ++ rest) ≡ gate_of_text net gate
 gate_same net gate rest whole none =
-    let names = map (name_of net) gate.pins in
-    let made = λ (cover : Cover). let g : GateLine = record { pins = names; output = gate.name; cover = cover } in g in
-    let said = map (row_said gate.cover.plane) gate.cover.rows ++ rest in
-    ap (λ n. made (cover_with n (plane_of said) (rows_of said))) (length-map gate.pins (name_of net) ∙ whole.width)
-    ∙ ap (λ p. made (cover_with gate.cover.pins p (rows_of said))) (plane_is gate.cover.plane gate.cover.rows rest none whole.cover.plane)
-    ∙ ap (λ rs. made (cover_with gate.cover.pins gate.cover.plane rs)) (rows_are gate.cover.plane gate.cover.rows rest none)
+    let width = length-map gate.pins (name_of net) ∙ whole.width in
+    rw (width, plane_is gate.cover.plane gate.cover.rows rest none whole.cover.plane, rows_are gate.cover.plane gate.cover.rows rest none) refl
 
 gates_body : (net : Parts) (gs : List gates.Gate) → All IsWhole gs → body_of (flat_map (gate_said net) gs) ≡ gate_items net gs
 gates_body net [] whole = refl
@@ -380,53 +330,46 @@ gates_body net (gate ∷ gs) whole =
 abbrev inner : Parts → List Statement
 inner net = map (latch_said net) net.latches ++ flat_map (gate_said net) net.gates
 
-inner_members : (net : Parts) → members (clock_said net net.clock ++ body_said net) ≡ clock_said net net.clock ++ inner net
+inner_members : (net : Parts) → members (clock_said net ++ body_said net) ≡ clock_said net ++ inner net
 inner_members net =
     let end : List Statement = End ∷ [] in
-    clock_members net net.clock (body_said net)
-    ∙ ap (λ said. clock_said net net.clock ++ said)
-    (latch_members net net.latches (flat_map (gate_said net) net.gates ++ end)
-    ∙ ap (λ said. map (latch_said net) net.latches ++ said)
-    (gate_members net net.gates end ∙ append-nil (flat_map (gate_said net) net.gates)))
+    rw (
+      clock_members (clock_names net net.clock) (body_said net),
+      latch_members net net.latches (flat_map (gate_said net) net.gates ++ end),
+      gate_members net net.gates end,
+      append-nil (flat_map (gate_said net) net.gates),
+    ) refl
 
-no_more_models : (net : Parts) → models (clock_said net net.clock ++ body_said net) ≡ []
+no_more_models : (net : Parts) → models (clock_said net ++ body_said net) ≡ []
 no_more_models net =
     let end : List Statement = End ∷ [] in
-    clock_models net net.clock (body_said net)
+    clock_models (clock_names net net.clock) (body_said net)
     ∙ latch_models net net.latches (flat_map (gate_said net) net.gates ++ end)
     ∙ gate_models net net.gates end
 
-abbrev with_parts : List ℕ → List (List ℕ) → List (List ℕ) → List (List ℕ) → List Item → BlifModel
-with_parts name inputs outputs clock body = record { name = name; inputs = inputs; outputs = outputs; clocks = clock; body = body }
-
 model_is : (net : Parts) → All IsWhole net.gates
-    → model_of net.name (Inputs net.inputs ∷ Outputs (map (name_of net) net.outputs) ∷ (clock_said net net.clock ++ inner net)) ≡ model_of_text net
+    → model_of net.name (Inputs net.inputs ∷ Outputs (map (name_of net) net.outputs) ∷ (clock_said net ++ inner net)) ≡ model_of_text net
 model_is net whole =
-    let rest = clock_said net net.clock ++ inner net in
+    let rest = clock_said net ++ inner net in
     let outs = map (name_of net) net.outputs in
     let no_inputs : flat_map inputs_in rest ≡ [] =
-    inputs_nothing net net.clock (inner net) ∙ body_nothing inputs_in (λ l. refl) (λ p o. refl) (λ r b. refl) net in
+    inputs_nothing (clock_names net net.clock) (inner net) ∙ body_nothing inputs_in (λ l. refl) (λ p o. refl) (λ r b. refl) net in
     let no_outputs : flat_map outputs_in rest ≡ [] =
-    outputs_nothing net net.clock (inner net) ∙ body_nothing outputs_in (λ l. refl) (λ p o. refl) (λ r b. refl) net in
+    outputs_nothing (clock_names net net.clock) (inner net) ∙ body_nothing outputs_in (λ l. refl) (λ p o. refl) (λ r b. refl) net in
     let the_clocks : flat_map clocks_in rest ≡ clock_names net net.clock =
-    clocks_there net net.clock (inner net)
+    clocks_there (clock_names net net.clock) (inner net)
     ∙ ap (λ more. clock_names net net.clock ++ more) (body_nothing clocks_in (λ l. refl) (λ p o. refl) (λ r b. refl) net)
     ∙ append-nil (clock_names net net.clock) in
     let the_body : body_of rest ≡ latch_items net net.latches ++ gate_items net net.gates =
-    clock_body net net.clock (inner net)
+    clock_body (clock_names net net.clock) (inner net)
     ∙ latches_body net net.latches (flat_map (gate_said net) net.gates)
     ∙ ap (λ items. latch_items net net.latches ++ items) (gates_body net net.gates whole) in
-    ap (λ more. with_parts net.name (net.inputs ++ more) (outs ++ flat_map outputs_in rest) (flat_map clocks_in rest) (body_of rest)) no_inputs
-    ∙ ap (λ ins. with_parts net.name ins (outs ++ flat_map outputs_in rest) (flat_map clocks_in rest) (body_of rest)) (append-nil net.inputs)
-    ∙ ap (λ more. with_parts net.name net.inputs (outs ++ more) (flat_map clocks_in rest) (body_of rest)) no_outputs
-    ∙ ap (λ names. with_parts net.name net.inputs names (flat_map clocks_in rest) (body_of rest)) (append-nil outs)
-    ∙ ap (λ names. with_parts net.name net.inputs outs names (body_of rest)) the_clocks
-    ∙ ap (λ items. with_parts net.name net.inputs outs (clock_names net net.clock) items) the_body
+    rw (no_inputs, no_outputs, the_clocks, the_body, append-nil net.inputs, append-nil outs) refl
 
 pub models_are : (net : Parts) → All IsWhole net.gates → IsNamed net.clock → models (map statement (numbered 1 (lines_of net))) ≡ model_of_text net ∷ []
 models_are net whole named =
     let outs = map (name_of net) net.outputs in
-    let rest = clock_said net net.clock ++ body_said net in
+    let rest = clock_said net ++ body_said net in
     ap models (says_all 1 (lines_of net) ∙ all_said net named)
     ∙ ap (λ more. model_of net.name (Inputs net.inputs ∷ Outputs outs ∷ more) ∷ models rest) (inner_members net)
     ∙ ap (λ model. model ∷ models rest) (model_is net whole)

@@ -23,19 +23,11 @@ use Rattle.care_sets.specs.declared.fault.CareFault.TheVariants.{UnknownName, Me
 
 -- the names of the columns come first
 name_of_column : (net : Parts) (k : ℕ) → k < columns net → get_or (signal_names net) k [] ≡ get_or (column_names net) k []
-name_of_column net k inside =
-    ap (λ (l : List (List ℕ)). get_or l k []) (names_split net)
-    ∙ get_or_append_left (column_names net) (gate_names net) [] k (omega (arith, length-column_names net))
+name_of_column net k inside = grind (arith, names_split, get_or_append_left, gate_names, length-column_names)
 
 pub column_found : (net : Parts) (name : List ℕ) (s : ℕ) → IsNetlist net → slice_get (signal_names net) s ≡ Some name → s < length net.inputs + length net.latches →
     Some s ≡ column_of net name
-column_found net name s h found inside =
-    let is : get_or (signal_names net) s [] ≡ name = get_or_from_slice_get (signal_names net) s name [] found in
-    place_of (bytes_eq name) (column_names net) s
-    (position_or_len_is (bytes_eq name) (column_names net) s [] (omega (arith, length-column_names net))
-    (λ k lt. ap (bytes_eq name) (sym (name_of_column net k (omega arith))) ∙ others_differ (signal_names net) name s k h.names_differ found (omega (arith, length-names net)) (omega arith))
-    (λ _. bytes_eq-same name (get_or (column_names net) s []) (sym is ∙ name_of_column net s inside)))
-    (omega (arith, length-column_names net))
+column_found net name s h found inside = grind (arith, get_or_from_slice_get, place_of, position_or_len_is, length-column_names, name_of_column, others_differ, length-names, bytes_eq-same)
 
 none_of_column : (net : Parts) (name : List ℕ) → ((k : ℕ) → k < columns net → bytes_eq name (get_or (signal_names net) k []) ≡ false) → None ≡ column_of net name
 none_of_column net name differ =
@@ -45,44 +37,28 @@ none_of_column net name differ =
 
 pub column_behind : (net : Parts) (name : List ℕ) (s : ℕ) → IsNetlist net → slice_get (signal_names net) s ≡ Some name → length net.inputs + length net.latches ≤ s →
     None ≡ column_of net name
-column_behind net name s h found behind =
-    none_of_column net name (λ k lt. others_differ (signal_names net) name s k h.names_differ found (omega (arith, length-names net)) (omega arith))
+column_behind net name s h found behind = grind (arith, none_of_column, others_differ, length-names)
 
 pub column_absent : (net : Parts) (name : List ℕ) → list_any (bytes_eq name) (signal_names net) ≡ false → None ≡ column_of net name
-column_absent net name absent =
-    none_of_column net name (λ k lt. absent_at (signal_names net) name k absent (omega (arith, length-names net)))
+column_absent net name absent = grind (arith, none_of_column, absent_at, length-names)
 
 pub input_name : (model : Parts) (i : ℕ) (name : List ℕ) → i < length model.inputs → slice_get (signal_names model) i ≡ Some name →
     slice_get model.inputs i ≡ Some name
-input_name model i name inside found =
-    slice_get-get_or model.inputs i [] inside
-    ∙ ap (λ (n : List ℕ). Some n)
-    (sym (get_or_append_left model.inputs (driven_names model) [] i inside) ∙ get_or_from_slice_get (signal_names model) i name [] found)
+input_name model i name inside found = grind (arith, slice_get-get_or model.inputs i [] inside, get_or_append_left model.inputs (driven_names model) [] i inside, get_or_from_slice_get (signal_names model) i name [] found)
 
 -- a list, cut before and behind one of its items
 split_at : (names : List (List ℕ)) (i : ℕ) (name : List ℕ) → slice_get names i ≡ Some name → names ≡ take i names ++ name ∷ drop (i + 1) names
-split_at names i name found =
-    sym (take-append-drop i names)
-    ∙ ap (λ rest. take i names ++ rest)
-    (drop_more names i [] (slice_get_within names i name found) ∙ ap (λ n. n ∷ drop (i + 1) names) (get_or_from_slice_get names i name [] found))
+split_at names i name found = grind (arith, take-append-drop i names, drop_more names i [] (slice_get_within names i name found), slice_get_within names i name found, get_or_from_slice_get names i name [] found)
 
 pub columns_start : (net : Parts) (names : List (List ℕ)) → AreColumnsOf net (take 0 names) []
 columns_start net names = record { named = refl }
 
 take_next : (names : List (List ℕ)) (i : ℕ) (name : List ℕ) → slice_get names i ≡ Some name → take (i + 1) names ≡ take i names ++ name ∷ []
-take_next names i name found =
-    take_more names i [] (slice_get_within names i name found)
-    ∙ ap (λ (n : List ℕ). take i names ++ n ∷ []) (get_or_from_slice_get names i name [] found)
+take_next names i name found = grind (arith, take_more names i [] (slice_get_within names i name found), slice_get_within names i name found, get_or_from_slice_get names i name [] found)
 
 pub columns_more : (net : Parts) (names : List (List ℕ)) (i : ℕ) (columns : List ℕ) (name : List ℕ) (column : ℕ) → AreColumnsOf net (take i names) columns →
     slice_get names i ≡ Some name → Some column ≡ column_of net name → AreColumnsOf net (take (i + 1) names) (columns ++ column ∷ [])
-columns_more net names i columns name column so_far found is = record {
-  named =
-      map_push (λ c. Some c) columns column
-      ∙ ap₂ (λ front c. front ++ c ∷ []) so_far.named is
-      ∙ sym (map_push (column_of net) (take i names) name)
-      ∙ sym (ap (map (column_of net)) (take_next names i name found));
-}
+columns_more net names i columns name column so_far found is = grind (arith, map_push, map_push (column_of net) (take i names) name, take_next names i name found)
 
 pub columns_all : (net : Parts) (names : List (List ℕ)) (n : ℕ) (columns : List ℕ) → n ≡ length names → AreColumnsOf net (take n names) columns → AreColumnsOf net names columns
 columns_all net names n columns is all = subst (λ (l : List (List ℕ)). AreColumnsOf net l columns) (take_all n names (omega (arith, is))) all
@@ -91,28 +67,19 @@ columns_all net names n columns is all = subst (λ (l : List (List ℕ)). AreCol
 all_known : (net : Parts) (names : List (List ℕ)) (columns : List ℕ) → map (λ c. Some c) columns ≡ map (column_of net) names → find (is_unknown_name net) names ≡ None
 all_known net [] columns e = refl
 all_known net (name ∷ names) [] e = cc
-all_known net (name ∷ names) (column ∷ columns) e =
-    let here : Some column ≡ column_of net name = cc in
-    let there : map (λ c. Some c) columns ≡ map (column_of net) names = cc in
-    ap₂ (λ t rest. cond t (Some name) rest) (ap is_none (sym here)) (all_known net names columns there)
+all_known net (name ∷ names) (column ∷ columns) e = grind (arith, all_known net names columns)
 
 pub no_unknown_name : (net : Parts) (names : List (List ℕ)) (columns : List ℕ) → AreColumnsOf net names columns → find (is_unknown_name net) names ≡ None
 no_unknown_name net names columns h = all_known net names columns h.named
 
 pub unknown_name_at : (net : Parts) (names : List (List ℕ)) (i : ℕ) (columns : List ℕ) (name : List ℕ) → AreColumnsOf net (take i names) columns →
     slice_get names i ≡ Some name → None ≡ column_of net name → find (is_unknown_name net) names ≡ Some name
-unknown_name_at net names i columns name so_far found none =
-    ap (find (is_unknown_name net)) (split_at names i name found)
-    ∙ find-append (is_unknown_name net) (take i names) (name ∷ drop (i + 1) names)
-    ∙ ap (λ o. option_or o (find (is_unknown_name net) (name ∷ drop (i + 1) names))) (no_unknown_name net (take i names) columns so_far)
-    ∙ ap (λ t. cond t (Some name) (find (is_unknown_name net) (drop (i + 1) names))) (ap is_none (sym none))
+unknown_name_at net names i columns name so_far found none = grind (arith, split_at names i name found, find-append (is_unknown_name net) (take i names) (name ∷ drop (i + 1) names), no_unknown_name net (take i names) columns so_far)
 
 pub first_unknown_name : (net : Parts) (names : List (List ℕ)) (i : ℕ) (columns : List ℕ) (name : List ℕ) (fault : CareFault) → AreColumnsOf net (take i names) columns →
     slice_get names i ≡ Some name → (fault ≡ Memory) ⊎ IsUnknownName net name fault →
     (fault ≡ Memory) ⊎ (option_map UnknownName (find (is_unknown_name net) names) ≡ Some fault)
-first_unknown_name net names i columns name fault so_far found (inl memory) = inl memory
-first_unknown_name net names i columns name fault so_far found (inr h) =
-    inr (ap (option_map UnknownName) (unknown_name_at net names i columns name so_far found h.unknown) ∙ ap (λ f. Some f) (sym h.is))
+first_unknown_name net names i columns name fault so_far found h = grind (arith, unknown_name_at)
 
 pub same_length : (net : Parts) (names : List (List ℕ)) (columns : List ℕ) → AreColumnsOf net names columns → length columns ≡ length names
 same_length net names columns h = omega (arith, ap length h.named, length-map columns (λ c. Some c), length-map names (column_of net))
@@ -120,10 +87,7 @@ same_length net names columns h = omega (arith, ap length h.named, length-map co
 -- the column of the name at a place
 column_at : (net : Parts) (names : List (List ℕ)) (columns : List ℕ) (k : ℕ) → AreColumnsOf net names columns → k < length columns →
     column_of net (get_or names k []) ≡ Some (get_or columns k 0)
-column_at net names columns k h inside =
-    sym (get_or-map (column_of net) names k [] None (omega (arith, same_length net names columns h)))
-    ∙ ap (λ (l : List (Option ℕ)). get_or l k None) (sym h.named)
-    ∙ get_or-map (λ c. Some c) columns k 0 None inside
+column_at net names columns k h inside = grind (arith, get_or-map (column_of net) names k [] None, same_length net names columns h, get_or-map)
 
 before_at : (net : Parts) (first : ℕ) (names : List (List ℕ)) (columns : List ℕ) (k : ℕ) → AreColumnsOf net names columns → k < length columns →
     is_before net first (get_or names k []) ≡ nat_lt (get_or columns k 0) first
@@ -162,12 +126,9 @@ no_early_name net first names columns h e =
 
 -- each column that a name has is one of the netlist
 pub column_within : (net : Parts) (name : List ℕ) (column : ℕ) → column_of net name ≡ Some column → column < columns net
-column_within net name column e =
-    let at = position-Some (bytes_eq name) (column_names net) column [] e in
-    omega (arith, at.0, length-column_names net)
+column_within net name column e = grind (arith, position-Some, length-column_names)
 
 pub columns_within : (net : Parts) (names : List (List ℕ)) (columns_named : List ℕ) (k d : ℕ) → AreColumnsOf net names columns_named → k < length columns_named →
     get_or columns_named k d < columns net
 columns_within net names columns_named k d h inside =
-    subst (λ c. c < columns net) (get_or_default columns_named k 0 d inside)
-    (column_within net (get_or names k []) (get_or columns_named k 0) (column_at net names columns_named k h inside))
+    grind (arith, get_or_default columns_named k 0 d inside, column_within net (get_or names k []) (get_or columns_named k 0) (column_at net names columns_named k h inside), column_at net names columns_named k h inside)

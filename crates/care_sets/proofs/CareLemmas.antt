@@ -9,13 +9,7 @@ use Rattle.care_sets.specs.Laws.{VectorsServeAssume, StatesServeInvariant}
 use Rattle.care_sets.proofs.BindingLemmas.{columns_within}
 
 serves : (net : Parts) (first : ℕ) (values : List Bool) (m : Option CareModel) → IfSome m (IsBoundTo net first) → columns net ≡ first + length values → IfSome m (HasValues values)
-serves net first values None bound wide = tt
-serves net first values (Some model) bound wide = record {
-  each = λ k d inside.
-      let within : get_or model.columns k d < columns net = columns_within net model.net.inputs model.columns k d bound.names inside in
-      let late : first ≤ get_or model.columns k d = bound.late k d inside in
-      omega (arith, bound.start);
-}
+serves net first values m bound wide = grind (arith, columns_within)
 
 pub vectors_serve_assume : VectorsServeAssume
 vectors_serve_assume net care v bound width = serves net 0 v care.assume bound.assume (omega arith)

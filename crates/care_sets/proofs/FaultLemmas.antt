@@ -38,43 +38,23 @@ outputs_fail model none differ = record { first = λ net first. rw (none, unequa
 
 pub shape_fails : (net : Parts) (first : ℕ) (model : Parts) (fault : CareFault) → (fault ≡ Memory) ⊎ IsShapeFault model fault →
     (fault ≡ Memory) ⊎ (fault_but_loops net first model ≡ Some fault)
-shape_fails net first model fault (inl memory) = inl memory
-shape_fails net first model fault (inr shape) = inr (shape.first net first)
+shape_fails net first model fault h = grind arith
 
 -- Models without a fault, and with a loop.
 
 not_failing : (b : Bool) (fault : CareFault) (rest : Option CareFault) → option_or (unless b fault) rest ≡ None → (b ≡ true) × (rest ≡ None)
-not_failing true fault rest e = (refl, e)
-not_failing false fault rest e = cc
+not_failing b fault rest e = grind arith
 
 pub bound_model : (net : Parts) (first : ℕ) (model : Parts) (columns : List ℕ) → fault_but_loops net first model ≡ None → IsLoopFree model →
     AreColumnsOf net model.inputs columns → All (λ column. first ≤ column) columns → Binds net first model (record { net = model; first = first; columns = columns })
-bound_model net first model columns none free names late =
-    let stateless = not_failing (length model.latches == 0) (HasLatch model.name) _ none in
-    let one = not_failing (length model.outputs == 1) (NotOneOutput model.name) _ stateless.1 in
-    record {
-      kept = refl;
-      to = record { start = refl; names = names; late = late };
-      valid = record {
-        latches = eqb-true (length model.latches) 0 stateless.0;
-        outputs = eqb-true (length model.outputs) 1 one.0;
-        loop_free = free;
-        width = same_length net model.inputs columns names;
-        columns = late;
-      };
-      passes = record { others = none; loop_free = free };
-    }
+bound_model net first model columns none free names late = grind (arith, not_failing, eqb-true, same_length)
 
 pub loop_alone : (net : Parts) (first : ℕ) (model : Parts) (fault : CareFault) → fault_but_loops net first model ≡ None →
     (fault ≡ Memory) ⊎ LoopsIn model fault → (fault ≡ Memory) ⊎ IsFaultOf net first fault model
-loop_alone net first model fault none (inl memory) = inl memory
-loop_alone net first model fault none (inr loops) = inr (inr (record { others = none; loops = loops }))
+loop_alone net first model fault none h = grind arith
 
 bound_passes : (net : Parts) (first : ℕ) (model : Option Parts) (bound : Option CareModel) → BindsAny net first model bound → IfSome model (HasNoFault net first)
-bound_passes net first None None h = tt
-bound_passes net first None (Some b) h = tt
-bound_passes net first (Some m) None h = absurd h
-bound_passes net first (Some m) (Some b) h = h.passes
+bound_passes net first model bound h = grind arith
 
 -- where the assumption is bound, the invariant's fault is the first
 pub invariant_fails : (net : Parts) (a i : Option Parts) (bound : Option CareModel) (fault : CareFault) → BindsAny net 0 a bound →
@@ -85,47 +65,26 @@ invariant_fails net a i bound fault h (inr fails) = inr (inr (inr (record { assu
 -- The first fault is one.
 
 no_fault_there : (net : Parts) (first : ℕ) (model : Parts) (fault : CareFault) → HasNoFault net first model → IsFaultOf net first fault model → ⊥
-no_fault_there net first model fault passes (inl is) = let none : fault_but_loops net first model ≡ None = passes.others in cc
-no_fault_there net first model fault passes (inr alone) =
-    passes.loop_free alone.loops.loop.gate alone.loops.loop.via alone.loops.loop.walk
+no_fault_there net first model fault passes h = grind arith
 
 one_fault : (net : Parts) (first : ℕ) (model : Parts) (f g : CareFault) → IsFaultOf net first f model → IsFaultOf net first g model → f ≡ g
-one_fault net first model f g (inl is) (inl is') = same_Some f g (sym is ∙ is')
-one_fault net first model f g (inl is) (inr alone) = let none : fault_but_loops net first model ≡ None = alone.others in cc
-one_fault net first model f g (inr alone) (inl is) = let none : fault_but_loops net first model ≡ None = alone.others in cc
-one_fault net first model f g (inr alone) (inr alone') = alone.loops.is ∙ sym alone'.loops.is
+one_fault net first model f g h e = grind arith
 
 pub passing : (net : Parts) (first : ℕ) (model : Option Parts) (fault : CareFault) → IfSome model (HasNoFault net first) → IsSomeAnd model (IsFaultOf net first fault) → ⊥
-passing net first None fault passes fails = absurd fails
-passing net first (Some m) fault passes fails = no_fault_there net first m fault passes fails
+passing net first model fault passes fails = grind arith
 
 one_of : (net : Parts) (first : ℕ) (model : Option Parts) (f g : CareFault) → IsSomeAnd model (IsFaultOf net first f) → IsSomeAnd model (IsFaultOf net first g) → f ≡ g
 one_of net first None f g h k = absurd h
 one_of net first (Some m) f g h k = one_fault net first m f g h k
 
 absent : (net : Parts) (first : ℕ) (model : Option Parts) (fault : CareFault) → model ≡ None → IsSomeAnd model (IsFaultOf net first fault) → ⊥
-absent net first None fault e fails = absurd fails
-absent net first (Some m) fault e fails = cc
+absent net first model fault e fails = grind arith
 
 pub first_fault_is_one : FirstFaultIsOne
-first_fault_is_one net a i f g (inl none) (inl none') = none.is ∙ sym none'.is
-first_fault_is_one net a i f g (inl none) (inr (inl fails)) = absurd (absent net 0 a g none.no_assume fails)
-first_fault_is_one net a i f g (inl none) (inr (inr fails)) = absurd (absent net (length net.inputs) i g none.no_invariant fails.invariant_fails)
-first_fault_is_one net a i f g (inr (inl fails)) (inl none) = absurd (absent net 0 a f none.no_assume fails)
-first_fault_is_one net a i f g (inr (inr fails)) (inl none) = absurd (absent net (length net.inputs) i f none.no_invariant fails.invariant_fails)
-first_fault_is_one net a i f g (inr (inl fails)) (inr (inl fails')) = one_of net 0 a f g fails fails'
-first_fault_is_one net a i f g (inr (inl fails)) (inr (inr later)) = absurd (passing net 0 a f later.assume_passes fails)
-first_fault_is_one net a i f g (inr (inr later)) (inr (inl fails)) = absurd (passing net 0 a g later.assume_passes fails)
-first_fault_is_one net a i f g (inr (inr later)) (inr (inr later')) = one_of net (length net.inputs) i f g later.invariant_fails later'.invariant_fails
+first_fault_is_one net a i f g h e = grind (arith, absent, one_of, passing)
 
 pub none_there : (a i : Option Parts) → a ≡ None → i ≡ None → (is_some a || is_some i) ≡ true → ⊥
-none_there None None e k h = cc
-none_there None (Some m) e k h = cc
-none_there (Some m) i e k h = cc
+none_there a i e k h = grind arith
 
 pub bound_models_have_no_fault : BoundModelsHaveNoFault
-bound_models_have_no_fault net a i care fault bound (inl none) = none_there a i none.no_assume none.no_invariant bound.some
-bound_models_have_no_fault net a i care fault bound (inr (inl fails)) =
-    passing net 0 a fault (bound_passes net 0 a care.assume bound.assume) fails
-bound_models_have_no_fault net a i care fault bound (inr (inr later)) =
-    passing net (length net.inputs) i fault (bound_passes net (length net.inputs) i care.invariant bound.invariant) later.invariant_fails
+bound_models_have_no_fault net a i care fault bound h = grind arith

@@ -18,12 +18,7 @@ given_at model values = map (λ column. bit (get_or values (column - model.first
 pub output_within_at : (model : CareModel) (values : List Bool) (v wires : List Trit) (outputs : List Sig) (d : Sig) → IsNetlist model.net →
     length model.net.outputs ≡ 1 → length model.net.latches ≡ 0 → length model.columns ≡ length model.net.inputs →
     v ≡ given_at model values → wires ≡ fix model.net v → outputs ≡ model.net.outputs → (get_or outputs 0 d).0 < length wires
-output_within_at model values v wires outputs d h one none width e f g =
-    let inside : (get_or model.net.outputs 0 d).0 < count model.net = h.outputs 0 d (omega arith) in
-    let same : (get_or outputs 0 d).0 ≡ (get_or model.net.outputs 0 d).0 = ap (λ (l : List Sig). (get_or l 0 d).0) g in
-    let long : length v ≡ length model.net.inputs + length model.net.latches =
-    omega (arith, ap length e, length-map model.columns (λ column. bit (get_or values (column - model.first) false))) in
-    omega (arith, ap length f, length-fix model.net v long)
+output_within_at model values v wires outputs d h one none width e f g = grind (arith, length-map, length-fix)
 
 bits_of_map : (f : ℕ → Bool) (xs : List ℕ) → map (λ x. bit (f x)) xs ≡ bits (map f xs)
 bits_of_map f [] = refl
@@ -34,6 +29,4 @@ pub model_value_at : (model : CareModel) (values : List Bool) (v wires : List Tr
     v ≡ given_at model values → wires ≡ fix model.net v → outputs ≡ model.net.outputs → is_one (wire wires (get_or outputs 0 d)) ≡ holds_at model values
 model_value_at model values v wires outputs d one e f g =
     let given : v ≡ bits (inputs_at model values) = e ∙ bits_of_map (λ column. get_or values (column - model.first) false) model.columns in
-    ap (λ (l : List Sig). is_one (wire wires (get_or l 0 d))) g
-    ∙ ap (λ w. is_one (wire w (get_or model.net.outputs 0 d))) (f ∙ ap (fix model.net) given)
-    ∙ ap is_one (sym (get_or-map (wire (fix model.net (bits (inputs_at model values)))) model.net.outputs 0 d X (omega arith)))
+    grind (arith, get_or-map (wire (fix model.net (bits (inputs_at model values)))) model.net.outputs 0 d X)

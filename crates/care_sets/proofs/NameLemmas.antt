@@ -31,20 +31,12 @@ others_differ names name s k distinct found inside other =
     let apart : AllPairs (λ x y. x ≢ y) names = AllPairs-from_IsDistinct bytes_eq-Decides names distinct in
     let is : get_or names s [] ≡ name = get_or_from_slice_get names s name [] found in
     let within : s < length names = slice_get_within names s name found in
-    false_from_ne_true (bytes_eq name (get_or names k []))
-    (λ e. by_order apart is within ((bytes_eq-Decides name (get_or names k [])).0 e) (cases_lt k s))
-  where
-    by_order : AllPairs (λ x y. x ≢ y) names → get_or names s [] ≡ name → s < length names → name ≡ get_or names k [] → (k < s) ⊎ (s ≤ k) → ⊥
-    by_order apart is within e (inl lt) = apart k s [] lt within (sym e ∙ sym is)
-    by_order apart is within e (inr le) = apart s k [] (omega arith) inside (is ∙ e)
+    grind (arith, false_from_ne_true (bytes_eq name (get_or names k [])), bytes_eq-Decides name (get_or names k []), cases_lt k s)
 
 -- a name that stands nowhere
 pub absent_at : (names : List (List ℕ)) (name : List ℕ) (k : ℕ) → list_any (bytes_eq name) names ≡ false → k < length names
     → bytes_eq name (get_or names k []) ≡ false
-absent_at names name k absent inside =
-    false_from_ne_true (bytes_eq name (get_or names k [])) (λ e. true≢false (sym (list_any_at (bytes_eq name) names k [] inside e) ∙ absent))
+absent_at names name k absent inside = grind (arith, false_from_ne_true, true≢false, list_any_at)
 
 pub place_of : {X : Type 0} (p : X → Bool) (xs : List X) (i : ℕ) → position_or_len p xs ≡ i → i < length xs → Some i ≡ position p xs
-place_of p xs i e inside =
-    let below : position_or_len p xs < length xs = omega arith in
-    sym (ap (λ t. cond t (Some (position_or_len p xs)) None) (lt-ltb _ _ below) ∙ ap (λ n. Some n) e)
+place_of p xs i e inside = grind arith

@@ -1,7 +1,7 @@
 -- Pairs of wires in a cone's models, and at care vectors.
-use Rattle.std.proofs.Common.{◌≡◌, inl, inr, ℕ, suc, ◌<◌, ◌+◌, ◌*◌, Bool, true, false, not, List, [], ◌∷◌, ◌++◌, get_or, Some, refl, sym, ap, subst, ◌∙◌, arith, true≢false}
+use Rattle.std.proofs.Common.{◌≡◌, inl, inr, ℕ, suc, ◌<◌, ◌+◌, ◌*◌, Bool, true, false, not, List, [], ◌∷◌, ◌++◌, get_or, Some, refl, sym, subst, ◌∙◌, arith, true≢false}
 use Rattle.std.specs.List.{All, AllZip}
-use Rattle.clause_decision.proofs.Common.{cases_lt, get_or_default, get_or-take, All-nil, All-cons, All-get_or, All-push, All-weaker, Sig, Trit, Zero, One, X, bits, Parts, wire, fix, count, first_gate, gate_of, value_in, CareSet, columns, is_allowed, is_in_invariant, state_of, IsCareVector, Formula, Rails, IsWanted, gate_rails, says, IsModel, HasModelFrom, Grows, is_known, no_rails, rails_at, Reads, AreWithin, ReadsAll-at, Problem, problem, HasNoModelUnder, models-same, column_rails, vector_in, ReadsAbove, ReadsFix, IsCone, AddLiterals, SayPairs}
+use Rattle.clause_decision.proofs.Common.{cases_lt, get_or_default, get_or-take, All-nil, All-cons, All-get_or, All-push, All-weaker, Sig, Trit, Zero, One, X, bits, Parts, wire, fix, count, first_gate, gate_of, value_in, CareSet, columns, IsCareVector, Formula, Rails, IsWanted, gate_rails, says, IsModel, HasModelFrom, Grows, is_known, no_rails, rails_at, Reads, AreWithin, ReadsAll-at, Problem, problem, HasNoModelUnder, column_rails, vector_in, ReadsAbove, ReadsFix, IsCone, AddLiterals, SayPairs}
 use Rattle.std.proofs.lemmas.List.Folds.{list_any_none}
 use Rattle.std.proofs.lemmas.Slice.Zip.{all_zipped_more}
 use Rattle.ternary_clauses.specs.Apart.{SaysApart}
@@ -18,9 +18,9 @@ use Rattle.clause_decision.specs.declared.pairs.Pair.{Pair}
 use Rattle.clause_decision.specs.declared.scope.Scope.{Scope}
 use Rattle.clause_decision.specs.Apart.{are_apart, is_apart_at, AreNeverApart, IsPairOf, IsWireIn, IsPairIn, ArePairsIn}
 use Rattle.clause_decision.specs.Pairs.{HasRails, SaysPair, AddsLiteral, TellPairs, AreRefuted}
-use Rattle.clause_decision.proofs.ConeLemmas.{cone-kept}
-use Rattle.clause_decision.proofs.SignalLemmas.{column_rails-length, signal-at, three}
-use Rattle.clause_decision.proofs.UnknownLemmas.{vector-read}
+use Rattle.clause_decision.proofs.ConeLemmas.{care-under, cone-kept}
+use Rattle.clause_decision.proofs.SignalLemmas.{column_rails-length, signal-at}
+use Rattle.clause_decision.proofs.FormulaLemmas.{two-within}
 
 -- what is read past the end of a list of hints
 abbrev pub no_hint : Hint
@@ -83,34 +83,6 @@ rails-still old new rails grows pair has = record {
 
 -- ---- literals that are added one by one
 
-pub pairs-none : (f : Formula) (rails : List Rails) → IsFormula f → SayPairs f f rails [] []
-pairs-none f rails formula = record {
-  grows = Grows-refl f formula;
-  within = All-nil (λ l. l < 2 * f.variables);
-  says_each = λ m h. tt;
-  complete = λ m len h. model-here f m len h;
-}
-
-pub pairs-step : (old mid new : Formula) (rails : List Rails) (pairs : List Pair) (literals : List ℕ) (pair : Pair) (l : ℕ) →
-    SayPairs old mid rails pairs literals → SaysApart mid new (rails_at rails pair.here.0) (rails_at rails pair.there.0) l → SayPairs old new rails (pairs ++ pair ∷ []) (literals ++ l ∷ [])
-pairs-step old mid new rails pairs literals pair l was step = record {
-  grows = Grows-chain was.grows step.grows;
-  within = All-push (λ k. k < 2 * new.variables) literals l
-      (All-weaker (λ k. k < 2 * mid.variables) (λ k. k < 2 * new.variables) (λ k less. let x = step.grows.more in omega (arith, less, x)) literals was.within) step.within;
-  says_each = λ m h. all_zipped_more (SaysPair m rails) pairs literals pair l (was.says_each m (step.grows.sound m h)) (λ s t here there. step.says_it m s t h here there);
-  complete = λ m len h.
-      let one : HasModelFrom mid m = was.complete m len h in
-      model-after new m one.more (step.complete (m ++ one.more) one.width one.model);
-}
-
-pub exchanged_rails : (f : Formula) (r : Rails) → AreRailsOf f r → AreRailsOf f (exchanged r)
-exchanged_rails f r are = record {
-  within = record { one = are.within.zero; zero = are.within.one; known = are.within.known };
-  reads = λ m h.
-      let opposite_read = Reads-opposite m r (value_read m r) (are.reads m h) in
-      subst (Reads m (exchanged r)) (value-is m (exchanged r) (opposite (value_read m r)) opposite_read) opposite_read;
-}
-
 pub apart_adds : (old new : Formula) (here there : Rails) (l : ℕ) → SaysApart old new here there l → AddsLiteral old new l
 apart_adds old new here there l step = record { grows = step.grows; within = step.within; complete = step.complete }
 
@@ -131,6 +103,24 @@ literals-step old mid new literals l was step = record {
       model-after new m one.more (step.complete (m ++ one.more) one.width one.model);
 }
 
+pub pairs-none : (f : Formula) (rails : List Rails) → IsFormula f → SayPairs f f rails [] []
+pairs-none f rails formula = record { adds = literals-none f formula; says_each = λ m h. tt }
+
+pub pairs-step : (old mid new : Formula) (rails : List Rails) (pairs : List Pair) (literals : List ℕ) (pair : Pair) (l : ℕ) →
+    SayPairs old mid rails pairs literals → SaysApart mid new (rails_at rails pair.here.0) (rails_at rails pair.there.0) l → SayPairs old new rails (pairs ++ pair ∷ []) (literals ++ l ∷ [])
+pairs-step old mid new rails pairs literals pair l was step = record {
+  adds = literals-step old mid new literals l was.adds (apart_adds mid new (rails_at rails pair.here.0) (rails_at rails pair.there.0) l step);
+  says_each = λ m h. all_zipped_more (SaysPair m rails) pairs literals pair l (was.says_each m (step.grows.sound m h)) (λ s t here there. step.says_it m s t h here there);
+}
+
+pub exchanged_rails : (f : Formula) (r : Rails) → AreRailsOf f r → AreRailsOf f (exchanged r)
+exchanged_rails f r are = record {
+  within = record { one = are.within.zero; zero = are.within.one; known = are.within.known };
+  reads = λ m h.
+      let opposite_read = Reads-opposite m r (value_read m r) (are.reads m h) in
+      subst (Reads m (exchanged r)) (value-is m (exchanged r) (opposite (value_read m r)) opposite_read) opposite_read;
+}
+
 -- hints, and then pairs
 pub pairs-told : (net : Parts) (care : CareSet) (marks : List Bool) (old mid : Formula) (pairs : List Pair) (asked : Asked) →
     IsCone net care marks old asked.cone.rails.items asked.cone.inside asked.cone.allowed → AddLiterals old mid asked.hints.items → SayPairs mid asked.cone.formula asked.cone.rails.items pairs asked.pairs.items →
@@ -139,14 +129,13 @@ pairs-told net care marks old mid pairs asked cone first last =
     let f = asked.cone.formula in
     let kept : IsCone net care marks f asked.cone.rails.items asked.cone.inside asked.cone.allowed =
     cone-kept net care marks mid f asked.cone.rails.items asked.cone.inside asked.cone.allowed
-    (cone-kept net care marks old mid asked.cone.rails.items asked.cone.inside asked.cone.allowed cone first.grows first.complete) last.grows last.complete in
+    (cone-kept net care marks old mid asked.cone.rails.items asked.cone.inside asked.cone.allowed cone first.grows first.complete) last.adds.grows last.adds.complete in
     record {
       cone = kept;
       askable = record {
-        care = All-cons (λ l. l < 2 * f.variables) asked.cone.inside (asked.cone.allowed ∷ []) kept.inside_within
-            (All-cons (λ l. l < 2 * f.variables) asked.cone.allowed [] kept.allowed_within (All-nil (λ l. l < 2 * f.variables)));
-        hints = All-weaker (λ k. k < 2 * mid.variables) (λ k. k < 2 * f.variables) (λ k less. let x = last.grows.more in omega (arith, less, x)) asked.hints.items first.within;
-        pairs = last.within;
+        care = two-within (2 * f.variables) asked.cone.inside asked.cone.allowed kept.inside_within kept.allowed_within;
+        hints = All-weaker (λ k. k < 2 * mid.variables) (λ k. k < 2 * f.variables) (λ k less. let x = last.adds.grows.more in omega (arith, less, x)) asked.hints.items first.within;
+        pairs = last.adds.within;
       };
       says_each = last.says_each;
     }
@@ -155,15 +144,9 @@ pairs-told net care marks old mid pairs asked cone first last =
 
 -- values that are known and equal aren't apart
 equal-apart : (s t : Trit) → not (is_known (agreed s t)) ≡ false → are_apart s t ≡ false
-equal-apart Zero Zero e = refl
 equal-apart Zero One e = absurd (true≢false e)
-equal-apart Zero X e = refl
 equal-apart One Zero e = absurd (true≢false e)
-equal-apart One One e = refl
-equal-apart One X e = refl
-equal-apart X Zero e = refl
-equal-apart X One e = refl
-equal-apart X X e = refl
+equal-apart s t e = refl
 
 module _ (net : Parts) (care : CareSet) (scope : Scope) (pairs : List Pair) (asked : Asked) (told : TellPairs net care scope.gates pairs asked) (none : AreRefuted asked) where
   -- a literal that is refuted is false in the model of a care vector's fixpoint
@@ -171,18 +154,9 @@ module _ (net : Parts) (care : CareSet) (scope : Scope) (pairs : List Pair) (ask
       HasNoModelUnder (problem asked.cone.formula) (asked.cone.inside ∷ asked.cone.allowed ∷ l ∷ []) → says has.model l ≡ false
   refuted-at v counts has l refuted = by (says has.model l) refl
     where
-      vector : vector_in net asked.cone.rails.items has.model ≡ v
-      vector = vector-read has.model (column_rails net asked.cone.rails.items) v has.columns
-
       by : (b : Bool) → says has.model l ≡ b → says has.model l ≡ false
       by false e = e
-      by true e =
-          absurd (refuted has.model (record {
-            model = models-same asked.cone.formula has.model ∙ has.holds;
-            assumed = three (λ k. says has.model k ≡ true) asked.cone.inside asked.cone.allowed l
-                (told.cone.inside_tells has.model has.holds ∙ ap (λ w. is_in_invariant care (state_of net w)) vector ∙ counts.state)
-                (told.cone.allowed_tells has.model has.holds ∙ ap (is_allowed care) vector ∙ counts.allowed) e;
-          }))
+      by true e = absurd (refuted has.model (care-under told.cone v has counts l e))
 
   -- a wire is read as its value
   wire-read : (v : List Bool) → IsCareVector net care v → (has : ReadsFix net scope.gates asked.cone.formula asked.cone.rails.items v) → (s : Sig) → s.0 < count net →

@@ -1,18 +1,16 @@
 -- Cut wires that a sweep changes on care: where none does, the sweeps are enough.
-use Rattle.std.proofs.Common.{◌≡◌, ◌≢◌, ℕ, suc, ◌<◌, ◌+◌, Bool, true, false, not, List, [], ◌∷◌, length, get_or, Contains, refl, sym, ap, ◌∙◌, arith, true≢false}
+use Rattle.std.proofs.Common.{◌≡◌, ◌≢◌, inl, inr, ℕ, suc, ◌<◌, ◌+◌, Bool, true, false, not, List, [], ◌∷◌, length, get_or, Contains, refl, sym, ap, ◌∙◌, arith, true≢false}
 use Rattle.std.specs.List.{All}
-use Rattle.clause_decision.proofs.Common.{length-map, get_or_default, All-cons, Contains-get_or, Trit, Zero, One, X, bit, bits, Below, Parts, IsNetlist, fix_gates, Cut, Loops, CutsAreFixed, cuts_of, sweeps, value_in, map_agree, cut_values_agree, fixed_cuts_give_fix, CareSet, state_of, is_allowed, is_in_invariant, IsCareVector, Formula, Rails, says, negation, IsModel, Reads, rails_at, is_known, ReadsPlaces, says-negation, problem, HasNoModelUnder, models-same, change_literals, AreFedKnown, column_rails, vector_in, ReadsFix, IsCone, AreCutPlaces, LoopAt, IsLoopAt, gates_in, loops_in, is_marked, AreClosed, AreTooFewAt, TellsTooFew}
-use Rattle.std.proofs.lemmas.List.Elements.{All-contains}
-use Rattle.cyc_base.proofs.OrderLemmas.{EachBelow-at, Below-known}
-use Rattle.loops.specs.Sweeps.{cuts}
-use Rattle.loops.proofs.Sweeps.{still_is_fix, sweeps_rise}
+use Rattle.clause_decision.proofs.Common.{length-map, get_or_default, All-cons, Contains-get_or, Trit, Zero, One, X, bit, bits, Parts, IsNetlist, is_cut, Loops, CutsAreFixed, sweeps, value_in, CareSet, IsCareVector, Formula, Rails, says, negation, IsModel, Reads, rails_at, is_known, ReadsPlaces, says-negation, problem, HasNoModelUnder, models-same, change_literals, AreFedKnown, vector_in, ReadsFix, IsCone, AreCutPlaces, LoopAt, IsLoopAt, gates_in, loops_in, is_marked, AreClosed, AreTooFewAt, TellsTooFew, All-contains, Below-known}
+use Rattle.cyc_base.proofs.OrderLemmas.{EachBelow-at, bit-known, unknown_or_bit}
+use Rattle.loops.proofs.Sweeps.{sweeps_rise}
 use Rattle.ternary_clauses.specs.Sweeps.{ReadsOutside}
 use Rattle.clause_queries.specs.declared.query.Reply.{Reply}
 use Rattle.clause_queries.specs.declared.query.Reply.TheVariants as replies
 use Rattle.clause_decision.specs.Changes.{HasChange, ChangesAfter, StandAfter, TellsChange, TellsChangeAfter}
-use Rattle.clause_decision.proofs.FormulaLemmas.{ones-read}
-use Rattle.clause_decision.proofs.SignalLemmas.{column_rails-length, gate-read, three}
-use Rattle.clause_decision.proofs.LoopLemmas.{are-loops, cut-of, of-loop}
+use Rattle.clause_decision.proofs.ConeLemmas.{care-holds, care-read}
+use Rattle.clause_decision.proofs.SignalLemmas.{gate-read, three}
+use Rattle.clause_decision.proofs.LoopLemmas.{moved-unfixed, of-loop, unmoved-fixed}
 use Rattle.clause_decision.proofs.SweepingLemmas.{fed-read, outside-of-fix}
 use Rattle.clause_decision.proofs.UnknownLemmas.{unknown-value}
 
@@ -39,11 +37,7 @@ module _ (net : Parts) (care : CareSet) (marks : List Bool) (loops : Loops) (gat
   changes-after m has =
       let is : IsModel m f = sym (models-same f m) ∙ has.is.model in
       let v : List Bool = vector_in net rails m in
-      let counts : IsCareVector net care v = record {
-        width = length-map (column_rails net rails) (λ (r : Rails). says m r.one) ∙ column_rails-length net rails cone.size;
-        state = sym (cone.inside_tells m is) ∙ has.is.assumed 0 0 (omega arith);
-        allowed = sym (cone.allowed_tells m is) ∙ has.is.assumed 1 0 (omega arith);
-      } in
+      let counts : IsCareVector net care v = care-read cone m is (has.is.assumed 0 0 (omega arith)) (has.is.assumed 1 0 (omega arith)) in
       let i : ℕ = has.place in
       let low : i < length gates = All-contains (λ j. j < length gates) places i wires.within has.among in
       let out : ReadsOutside net loops gates rails m (bits v) = outside-fed m is counts in
@@ -63,9 +57,6 @@ module _ (net : Parts) (care : CareSet) (marks : List Bool) (loops : Loops) (gat
     where
       has : ReadsFix net marks f rails v
       has = cone.complete v counts.width
-
-      vector : vector_in net rails has.model ≡ v
-      vector = sym (ones-read has.model (column_rails net rails) (vector_in net rails has.model) (cone.sound has.model has.holds)) ∙ ones-read has.model (column_rails net rails) v has.columns
 
       out : ReadsOutside net loops gates rails has.model (bits v)
       out = outside-of-fix net marks loops gates proper closed width marked f rails v cone.size counts.width has
@@ -87,10 +78,8 @@ module _ (net : Parts) (care : CareSet) (marks : List Bool) (loops : Loops) (gat
       refuted known =
           All-contains (λ i. HasNoModelUnder (problem f) (change_literals inside allowed before after i)) places in_gates.0 none placed has.model (record {
             model = models-same f has.model ∙ has.holds;
-            assumed = All-cons (λ l. says has.model l ≡ true) inside (allowed ∷ negation (rails_at before in_gates.0).known ∷ (rails_at after in_gates.0).known ∷ [])
-                (cone.inside_tells has.model has.holds ∙ ap (λ u. is_in_invariant care (state_of net u)) vector ∙ counts.state)
-                (three (λ l. says has.model l ≡ true) allowed (negation (rails_at before in_gates.0).known) (rails_at after in_gates.0).known
-                (cone.allowed_tells has.model has.holds ∙ ap (is_allowed care) vector ∙ counts.allowed)
+            assumed = All-cons (λ l. says has.model l ≡ true) inside (allowed ∷ negation (rails_at before in_gates.0).known ∷ (rails_at after in_gates.0).known ∷ []) (care-holds cone v has counts).0
+                (three (λ l. says has.model l ≡ true) allowed (negation (rails_at before in_gates.0).known) (rails_at after in_gates.0).known (care-holds cone v has counts).1
                 (says-negation has.model (rails_at before in_gates.0).known ∙ ap not (first.known ∙ ap (λ (j : ℕ). is_known (value_in (sweeps net loops (bits v) k) j)) at ∙ ap is_known unknown))
                 (second.known ∙ ap (λ (j : ℕ). is_known (value_in (sweeps net loops (bits v) (k + 1)) j)) at ∙ known));
           })
@@ -116,52 +105,30 @@ module _ (l : LoopAt) (is_loop : IsLoopAt l) where
   change-too-few : (care : CareSet) (k : ℕ) (v : List Bool) → ChangesAfter l.net (loops_in l) care (gates_in l) k v → AreTooFewAt l.net (loops_in l) care (gates_in l) k v
   change-too-few care k v found = record {
     counts = found.counts;
-    open_cuts = λ a inside fixed.
-        let loops : Loops = loops_in l in
-        let same = (of-loop l is_loop a inside).1 found.wire found.inside in
-        let next : CutsAreFixed l.net loops (bits v) a (suc k) = (fixed_cuts_give_fix l.net loops (are-loops l is_loop) (bits v) (length-map v bit ∙ found.counts.width) a k fixed).0 in
-        let now_is = cut_values_agree l.net loops (are-loops l is_loop) a (sweeps l.net loops (bits v) k) (fix_gates l.net (bits v)) fixed found.wire same found.is_cut in
-        let next_is = cut_values_agree l.net loops (are-loops l is_loop) a (sweeps l.net loops (bits v) (suc k)) (fix_gates l.net (bits v)) next found.wire same found.is_cut in
-        let e : suc k ≡ k + 1 = omega arith in
-        found.known (ap (λ (j : ℕ). value_in (sweeps l.net loops (bits v) j) found.wire) (sym e) ∙ next_is ∙ sym now_is ∙ found.unknown);
+    open_cuts =
+        let next : suc k ≡ k + 1 = omega arith in
+        moved-unfixed l is_loop (bits v) (length-map v bit ∙ found.counts.width) k found.wire found.inside found.is_cut
+        (λ e. found.known (ap (λ (j : ℕ). value_in (sweeps l.net (loops_in l) (bits v) j) found.wire) (sym next) ∙ sym e ∙ found.unknown));
   }
 
   -- where none does, the loop stands at the fixpoint
-  module _ (care : CareSet) (k : ℕ) (stand : StandAfter l.net (loops_in l) care (gates_in l) k) (a : ℕ) (inside : Contains (gates_in l) a) (v : List Bool) (counts : IsCareVector l.net care v) where
-    still-at : (n : ℕ) → (loops_in l).same a n ≡ true → (loops_in l).cut n ≡ true → value_in (sweeps l.net (loops_in l) (bits v) (suc k)) n ≡ value_in (sweeps l.net (loops_in l) (bits v) k) n
-    still-at n same is_cut = by (value_in (sweeps l.net (loops_in l) (bits v) k) n) refl
-      where
-        e : k + 1 ≡ suc k
-        e = omega arith
+  module _ (care : CareSet) (k : ℕ) (stand : StandAfter l.net (loops_in l) care (gates_in l) k) (v : List Bool) (counts : IsCareVector l.net care v) where
+    still-at : (n : ℕ) → Contains (gates_in l) n → is_cut l.cut.wires n ≡ true → value_in (sweeps l.net (loops_in l) (bits v) (suc k)) n ≡ value_in (sweeps l.net (loops_in l) (bits v) k) n
+    still-at n there is_cut = elim (unknown_or_bit (value_in (sweeps l.net (loops_in l) (bits v) k) n)) [
+      | inl unknown ↦
+          let next : k + 1 ≡ suc k = omega arith in
+          ap (λ (j : ℕ). value_in (sweeps l.net (loops_in l) (bits v) j) n) (sym next) ∙ stand v counts n there is_cut unknown ∙ sym unknown
+      | inr known ↦
+          Below-known (value_in (sweeps l.net (loops_in l) (bits v) k) n) (value_in (sweeps l.net (loops_in l) (bits v) (suc k)) n)
+          (EachBelow-at (sweeps l.net (loops_in l) (bits v) k) (sweeps l.net (loops_in l) (bits v) (suc k)) n (sweeps_rise l.net (loops_in l) (bits v) k))
+          (λ unknown. bit-known known.0 (sym known.1 ∙ unknown))
+    ]
 
-        below : Below (value_in (sweeps l.net (loops_in l) (bits v) k) n) (value_in (sweeps l.net (loops_in l) (bits v) (suc k)) n)
-        below = EachBelow-at (sweeps l.net (loops_in l) (bits v) k) (sweeps l.net (loops_in l) (bits v) (suc k)) n (sweeps_rise l.net (loops_in l) (bits v) k)
-
-        known : value_in (sweeps l.net (loops_in l) (bits v) k) n ≢ X → value_in (sweeps l.net (loops_in l) (bits v) (suc k)) n ≡ value_in (sweeps l.net (loops_in l) (bits v) k) n
-        known isnt = Below-known (value_in (sweeps l.net (loops_in l) (bits v) k) n) (value_in (sweeps l.net (loops_in l) (bits v) (suc k)) n) below isnt
-
-        by : (t : Trit) → value_in (sweeps l.net (loops_in l) (bits v) k) n ≡ t → value_in (sweeps l.net (loops_in l) (bits v) (suc k)) n ≡ value_in (sweeps l.net (loops_in l) (bits v) k) n
-        by X is =
-            ap (λ (j : ℕ). value_in (sweeps l.net (loops_in l) (bits v) j) n) (sym e)
-            ∙ stand v counts n ((of-loop l is_loop a inside).0 n same) is_cut is ∙ sym is
-        by Zero is = known (λ x. let c : Zero ≡ X = sym is ∙ x in cc)
-        by One is = known (λ x. let c : One ≡ X = sym is ∙ x in cc)
-
-    still : cuts l.net (loops_in l) (bits v) a (suc k) ≡ cuts l.net (loops_in l) (bits v) a k
-    still =
-        map_agree (value_in (sweeps l.net (loops_in l) (bits v) (suc k))) (value_in (sweeps l.net (loops_in l) (bits v) k)) (cuts_of l.net (loops_in l) a)
-        (λ j d low. still-at (get_or (cuts_of l.net (loops_in l) a) j d) (cut-of l.net (loops_in l) a j d low).0 (cut-of l.net (loops_in l) a j d low).1)
-
-    stand-fixed : CutsAreFixed l.net (loops_in l) (bits v) a k
-    stand-fixed =
-        map_agree (value_in (sweeps l.net (loops_in l) (bits v) k)) (value_in (fix_gates l.net (bits v))) (cuts_of l.net (loops_in l) a)
-        (λ j d low.
-        sym (still-at (get_or (cuts_of l.net (loops_in l) a) j d) (cut-of l.net (loops_in l) a j d low).0 (cut-of l.net (loops_in l) a j d low).1)
-        ∙ still_is_fix l.net (loops_in l) (are-loops l is_loop) (bits v) (length-map v bit ∙ counts.width) a k still
-        (get_or (cuts_of l.net (loops_in l) a) j d) (cut-of l.net (loops_in l) a j d low).0)
+    stand-fixed : (a : ℕ) → Contains (gates_in l) a → CutsAreFixed l.net (loops_in l) (bits v) a k
+    stand-fixed = unmoved-fixed l is_loop (bits v) (length-map v bit ∙ counts.width) k still-at
 
   pub change-tells : (care : CareSet) (rails : List Rails) (k : ℕ) (reply : Reply) → TellsChangeAfter l.net (loops_in l) care (gates_in l) rails k reply →
       TellsTooFew l.net (loops_in l) care (gates_in l) rails k reply
   change-tells care rails k (replies.Model m) h = change-too-few care k (vector_in l.net rails m.items) h
-  change-tells care rails k replies.NoModel h = λ a inside v counts. stand-fixed care k h a inside v counts
+  change-tells care rails k replies.NoModel h = λ a inside v counts. stand-fixed care k h v counts a inside
   change-tells care rails k replies.Unknown h = tt

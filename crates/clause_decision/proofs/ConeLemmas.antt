@@ -1,9 +1,10 @@
 -- The gates of a scope on top of the clauses of a care set.
-use Rattle.std.proofs.Common.{◌≡◌, ℕ, ◌<◌, ◌≤◌, ◌+◌, Bool, true, List, ◌++◌, length, map, take, get_or, sym, ap, subst, ◌∙◌, arith}
+use Rattle.std.proofs.Common.{◌≡◌, ℕ, ◌<◌, ◌≤◌, ◌+◌, Bool, true, List, [], ◌∷◌, ◌++◌, length, map, take, get_or, sym, ap, subst, ◌∙◌, arith}
 use Rattle.std.specs.Prelude.{Contains}
 use Rattle.std.specs.List.{All}
-use Rattle.clause_decision.proofs.Common.{length-map, length-take-le, get_or-take, All-get_or, All-take, Contains-get_or, Sig, bit, bits, Parts, fix_gates, count, gate_sig, gate_at, no_gate, signal, IsNetlist, first_gate, gate_of, value_in, CareSet, columns, is_allowed, is_in_invariant, state_of, Formula, Rails, IsClosed, SaysNetlist, gate_rails, says, IsModel, HasModelFrom, Grows, ReadsAll, AreWithin, no_rails, ReadsAll-more, All-within-more, column_rails, vector_in, ReadsAbove, ReadsFix, IsCone, is_marked, AreClosed}
+use Rattle.clause_decision.proofs.Common.{length-map, length-take-le, get_or-take, All-get_or, All-take, Contains-get_or, Sig, bit, bits, Parts, fix_gates, count, gate_sig, gate_at, no_gate, signal, IsNetlist, first_gate, gate_of, value_in, CareSet, columns, is_allowed, is_in_invariant, state_of, IsCareVector, Formula, Rails, IsClosed, SaysNetlist, gate_rails, says, IsModel, HasModelFrom, Grows, ReadsAll, AreWithin, no_rails, ReadsAll-more, All-within-more, problem, models-same, column_rails, vector_in, ReadsAbove, ReadsFix, IsCone, is_marked, AreClosed, IsModelUnder}
 use Rattle.std.proofs.lemmas.List.{ext_get_or}
+use Rattle.std.proofs.lemmas.Simd.{map-map}
 use Rattle.std.proofs.lemmas.List.Elements.{All-from_get_or}
 use Rattle.netlist.specs.declared.parts.Gate.{Gate}
 use Rattle.netlist.specs.Netlists.{IsSignal}
@@ -11,6 +12,8 @@ use Rattle.ternary_clauses.specs.Encoding.{ReadsStill, HasState}
 use Rattle.ternary_clauses.proofs.LawLemmas.{still_is_above_fix}
 use Rattle.ternary_clauses.proofs.ReadingLemmas.{Reads-more}
 use Rattle.clause_decision.specs.Formulas.{HasVector, IsCareFormula}
+use Rattle.clause_decision.proofs.FormulaLemmas.{ones-read}
+use Rattle.clause_decision.proofs.SignalLemmas.{column_rails-length, three}
 
 -- each pin of a marked gate is a column, or a gate that feeds it
 pub closed-by_pins : (net : Parts) (marks : List Bool) → IsNetlist net → AreClosed net marks → IsClosed net marks
@@ -124,3 +127,33 @@ pub cone-kept : (net : Parts) (care : CareSet) (marks : List Bool) (f g : Formul
     IsCone net care marks f rails inside allowed → Grows f g → ((m : List Bool) → length m ≡ f.variables → IsModel m f → HasModelFrom g m) → IsCone net care marks g rails inside allowed
 cone-kept net care marks f g rails inside allowed cone grows extends =
     cone-grows net care marks f g rails inside allowed cone grows (λ v wide has. extends has.model has.long has.holds)
+
+-- ---- care vectors in a cone's models
+
+module _ {net : Parts} {care : CareSet} {marks : List Bool} {f : Formula} {rails : List Rails} {inside allowed : ℕ} (cone : IsCone net care marks f rails inside allowed) where
+  -- a model in which the care literals are true reads one
+  pub care-read : (m : List Bool) → IsModel m f → says m inside ≡ true → says m allowed ≡ true → IsCareVector net care (vector_in net rails m)
+  care-read m h in_care may = record {
+    width = length-map (column_rails net rails) (λ (r : Rails). says m r.one) ∙ column_rails-length net rails cone.size;
+    state = sym (cone.inside_tells m h) ∙ in_care;
+    allowed = sym (cone.allowed_tells m h) ∙ may;
+  }
+
+  module _ (v : List Bool) (has : ReadsFix net marks f rails v) where
+    -- the model of a vector's fixpoint reads it
+    pub vector-read : vector_in net rails has.model ≡ v
+    vector-read = sym (map-map (says has.model) (λ (r : Rails). r.one) (column_rails net rails)) ∙ ones-read has.model (column_rails net rails) v has.columns
+
+    -- with a care vector's the care literals are true
+    pub care-holds : IsCareVector net care v → (says has.model inside ≡ true) × (says has.model allowed ≡ true)
+    care-holds counts = (
+      cone.inside_tells has.model has.holds ∙ ap (λ u. is_in_invariant care (state_of net u)) vector-read ∙ counts.state,
+      cone.allowed_tells has.model has.holds ∙ ap (is_allowed care) vector-read ∙ counts.allowed,
+    )
+
+    -- so it is a model under them and each literal that is true in it
+    pub care-under : IsCareVector net care v → (l : ℕ) → says has.model l ≡ true → IsModelUnder (problem f) (inside ∷ allowed ∷ l ∷ []) has.model
+    care-under counts l holds = record {
+      model = models-same f has.model ∙ has.holds;
+      assumed = three (λ k. says has.model k ≡ true) inside allowed l (care-holds counts).0 (care-holds counts).1 holds;
+    }

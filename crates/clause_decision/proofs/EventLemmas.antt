@@ -5,9 +5,8 @@ use Rattle.std.proofs.lemmas.Bool.{cases_eq, leb-true}
 use Rattle.std.proofs.lemmas.List.{drop_more, get_or-set_same, get_or-set_other, length-append, length-replicate}
 use Rattle.std.proofs.lemmas.List.Elements.{Contains-append_cases, Contains-append_right}
 use Rattle.ternary_run.proofs.SettlingLemmas.{falls}
-use Rattle.cyc_base.specs.Values.{EachBelow}
-use Rattle.cyc_base.proofs.OrderLemmas.{Below-refl, Below-trans, Below-unknown}
-use Rattle.cyc_base.proofs.ListLemmas.{Contains-nothing}
+use Rattle.cyc_base.proofs.OrderLemmas.{Below-refl, Below-trans, Below-unknown, EachBelow-from_at}
+use Rattle.cyc_base.proofs.ListLemmas.{Contains-cases, Contains-nothing}
 use Rattle.cover_logic.specs.Extensions.{ext}
 use Rattle.netlist.proofs.FixpointLemmas.{known_count, known_count-le, same_or_more}
 use Rattle.loops.proofs.Sweeps.{ext_below}
@@ -16,10 +15,6 @@ use Rattle.clause_decision.specs.Events.{cover_value, IsDetermined, IsNewValue}
 use Rattle.clause_decision.specs.Simulations.{seen_of}
 
 -- ---- lists and values
-
-Contains-first : {A : Type 0} (x y : A) (xs : List A) → Contains (x ∷ xs) y → (x ≡ y) ⊎ Contains xs y
-Contains-first x y xs (zero, low, is) = inl is
-Contains-first x y xs (suc k, low, is) = inr (k, omega (arith, low), is)
 
 -- signals that differ from one signal alone in what is seen of it are seen alike, where it isn't among them
 reads-or-same : (pins : List Sig) (f h : Sig → Trit) (s : Sig) → ((p : Sig) → p.0 ≢ s.0 → f p ≡ h p) → Contains pins s ⊎ (map f pins ≡ map h pins)
@@ -33,13 +28,14 @@ reads-or-same (p ∷ pins) f h s same =
       ]
     ]
 
-if-same : (b : Bool) (x y z : Trit) → (b ≡ true → x ≡ y) → (if b then x else z) ≡ (if b then y else z)
-if-same true x y z h = h refl
-if-same false x y z h = refl
+-- choices whose branches are alike, or rise, are so
+choice-same : (b : Bool) (x y u v : Trit) → (b ≡ true → x ≡ u) → (b ≡ false → y ≡ v) → (if b then x else y) ≡ (if b then u else v)
+choice-same true x y u v first second = first refl
+choice-same false x y u v first second = second refl
 
-if-below : (b : Bool) (x y z : Trit) → (b ≡ true → Below x y) → Below (if b then x else z) (if b then y else z)
-if-below true x y z h = h refl
-if-below false x y z h = Below-refl z
+choice-below : (b : Bool) (x y u v : Trit) → (b ≡ true → Below x u) → (b ≡ false → Below y v) → Below (if b then x else y) (if b then u else v)
+choice-below true x y u v first second = first refl
+choice-below false x y u v first second = second refl
 
 -- a known value below another is that value
 same-or-unknown : (x y : Trit) → Below x y → (x ≡ X → y ≡ X) → x ≡ y
@@ -51,8 +47,8 @@ same-or-unknown One y below unknown = sym below
 set-rises : (s : List Trit) (g : ℕ) (x : Trit) → g < length s → Below (value_in s g) x → (n : ℕ) → Below (value_in s n) (value_in (set s g x) n)
 set-rises s g x low below n =
     elim (cases_eq n g) [
-      | inl same ↦ subst (λ (m : ℕ). Below (value_in s m) (value_in (set s g x) m)) (sym same) (subst (λ (t : Trit). Below (value_in s g) t) (sym (get_or-set_same s g x X low)) below)
-      | inr other ↦ subst (λ (t : Trit). Below (value_in s n) t) (sym (get_or-set_other s g n x X other)) (Below-refl (value_in s n))
+      | inl same ↦ rw (same, get_or-set_same s g x X low) below
+      | inr other ↦ rw (get_or-set_other s g n x X other) (Below-refl (value_in s n))
     ]
 
 -- ---- what a change lets gates see
@@ -76,18 +72,18 @@ module _ (l : LoopAt) (outside : List Trit) where
     cover-rises n =
         ext_below l.net n (seen_of l outside before after) (seen_of l outside before' after')
         (λ pin.
-        if-below (is_inside l pin) (shown l before after (gate_of l.net pin)) (shown l before' after' (gate_of l.net pin)) (wire outside pin)
-        (λ is. risen.rises (gate_of l.net pin)))
+        choice-below (is_inside l pin) (shown l before after (gate_of l.net pin)) (wire outside pin) (shown l before' after' (gate_of l.net pin)) (wire outside pin)
+        (λ is. risen.rises (gate_of l.net pin)) (λ is. Below-refl (wire outside pin)))
 
     reads-or-still : (n : ℕ) → Contains (gate_at l.net n).pins (gate_sig l.net g) ⊎ (cover_value l outside before after n ≡ cover_value l outside before' after' n)
     reads-or-still n =
         elim (reads-or-same (gate_at l.net n).pins (seen_of l outside before after) (seen_of l outside before' after') (gate_sig l.net g)
         (λ pin differs.
-        if-same (is_inside l pin) (shown l before after (gate_of l.net pin)) (shown l before' after' (gate_of l.net pin)) (wire outside pin)
+        choice-same (is_inside l pin) (shown l before after (gate_of l.net pin)) (wire outside pin) (shown l before' after' (gate_of l.net pin)) (wire outside pin)
         (λ is. risen.others (gate_of l.net pin)
         (λ same.
         let low = leb-true (first_gate l.net) pin.0 (and_parts (leb (first_gate l.net) pin.0) (home_of l.blocks (gate_of l.net pin) == l.number) is).0 in
-        differs (omega (arith, low, same)))))) [
+        differs (omega (arith, low, same)))) (λ is. refl))) [
           | inl reads ↦ inl reads
           | inr alike ↦ inr (ap (ext (gate_at l.net n).cover) alike)
         ]
@@ -102,12 +98,10 @@ module _ (l : LoopAt) (outside : List Trit) where
   uncut-risen : (before after : List Trit) (g : ℕ) (value : Trit) → g < length after → is_cut l.cut.wires g ≡ false → Below (value_in after g) value → HasRisen l before after before (set after g value) g
   uncut-risen before after g value low uncut below = record {
     others = λ n other. ap (λ (t : Trit). if is_cut l.cut.wires n then value_in before n else t) (sym (get_or-set_other after g n value X other));
-    rises = λ n. both (is_cut l.cut.wires n) (value_in before n) (value_in after n) (value_in (set after g value) n) (set-rises after g value low below n);
+    rises = λ n.
+        choice-below (is_cut l.cut.wires n) (value_in before n) (value_in after n) (value_in before n) (value_in (set after g value) n)
+        (λ is. Below-refl (value_in before n)) (λ is. set-rises after g value low below n);
   }
-    where
-      both : (b : Bool) (x y z : Trit) → Below y z → Below (if b then x else y) (if b then x else z)
-      both true x y z h = Below-refl x
-      both false x y z h = h
 
   -- or, as a cut wire, isn't
   cut-still : (before after : List Trit) (g : ℕ) (value : Trit) → is_cut l.cut.wires g ≡ true → (n : ℕ) → cover_value l outside before after n ≡ cover_value l outside before (set after g value) n
@@ -116,14 +110,12 @@ module _ (l : LoopAt) (outside : List Trit) where
       (map_agree (seen_of l outside before after) (seen_of l outside before (set after g value)) (gate_at l.net n).pins
       (λ k d low.
       let pin : Sig = get_or (gate_at l.net n).pins k d in
-      if-same (is_inside l pin) (shown l before after (gate_of l.net pin)) (shown l before (set after g value) (gate_of l.net pin)) (wire outside pin) (λ is. same (gate_of l.net pin))))
+      choice-same (is_inside l pin) (shown l before after (gate_of l.net pin)) (wire outside pin) (shown l before (set after g value) (gate_of l.net pin)) (wire outside pin) (λ is. same (gate_of l.net pin)) (λ is. refl)))
     where
-      at : (m : ℕ) (b : Bool) → is_cut l.cut.wires m ≡ b → (if b then value_in before m else value_in after m) ≡ (if b then value_in before m else value_in (set after g value) m)
-      at m true is = refl
-      at m false is = sym (get_or-set_other after g m value X (λ e. true≢false (sym cut ∙ ap (is_cut l.cut.wires) (sym e) ∙ is)))
-
       same : (m : ℕ) → shown l before after m ≡ shown l before (set after g value) m
-      same m = at m (is_cut l.cut.wires m) refl
+      same m =
+          choice-same (is_cut l.cut.wires m) (value_in before m) (value_in after m) (value_in before m) (value_in (set after g value) m) (λ is. refl)
+          (λ is. sym (get_or-set_other after g m value X (λ e. true≢false (sym cut ∙ ap (is_cut l.cut.wires) (sym e) ∙ is))))
 
   module _ (before after : List Trit) (rest : List ℕ) (g : ℕ) (h : IsSweeping l outside before after (rest ++ g ∷ [])) where
     pub waiting-inside : Contains (gates_in l) g
@@ -140,9 +132,7 @@ module _ (l : LoopAt) (outside : List Trit) where
         | inr is ↦ inr is
         | inl waits ↦ elim (Contains-push_cases rest g n waits) [
           | inl early ↦ inl early
-          | inr same ↦
-              inr (subst (λ (m : ℕ). value_in after m ≡ cover_value l outside before after m) same
-              (same-or-unknown (value_in after g) (cover_value l outside before after g) (h.below g waiting-inside) none))
+          | inr same ↦ inr (rw same at (same-or-unknown (value_in after g) (cover_value l outside before after g) (h.below g waiting-inside) none))
         ]
       ];
     }
@@ -160,19 +150,15 @@ module _ (l : LoopAt) (outside : List Trit) where
           | inr new ↦ inside n new
         ];
         below = λ n there. elim (cases_eq n g) [
-          | inl same ↦
-              subst (λ (m : ℕ). Below (value_in (set after g value) m) (cover_value l outside before (set after g value) m)) (sym same)
-              (subst (λ (t : Trit). Below t (cover_value l outside before (set after g value) g)) (sym now) (rises g))
+          | inl same ↦ rw (same, now) (rises g)
           | inr other ↦
-              subst (λ (t : Trit). Below t (cover_value l outside before (set after g value) n)) (sym (get_or-set_other after g n value X other))
+              rw (get_or-set_other after g n value X other)
               (Below-trans (value_in after n) (cover_value l outside before after n) (cover_value l outside before (set after g value) n) (h.below n there) (rises n))
         ];
         still = λ n there. elim (alike n there) [
           | inl new ↦ inl (Contains-append_right rest more n new)
           | inr same_cover ↦ elim (cases_eq n g) [
-            | inl same ↦
-                inr (subst (λ (m : ℕ). value_in (set after g value) m ≡ cover_value l outside before (set after g value) m) (sym same)
-                (now ∙ ap (cover_value l outside before after) (sym same) ∙ same_cover ∙ ap (cover_value l outside before (set after g value)) same))
+            | inl same ↦ inr (rw same (now ∙ rw same at same_cover))
             | inr other ↦ elim (h.still n there) [
               | inr was ↦ inr (get_or-set_other after g n value X other ∙ was ∙ same_cover)
               | inl waits ↦ elim (Contains-push_cases rest g n waits) [
@@ -188,7 +174,7 @@ module _ (l : LoopAt) (outside : List Trit) where
           now = get_or-set_same after g value X low ∙ is.is
 
       below-value : Below (value_in after g) value
-      below-value = subst (λ (t : Trit). Below t value) (sym is.unknown) tt
+      below-value = rw is.unknown tt
 
       pub uncut-set : (readers : List (List ℕ)) → AreReaders l (gates_in l) readers → is_cut l.cut.wires g ≡ false → IsSweeping l outside before (set after g value) (rest ++ get_or readers g [])
       uncut-set readers are uncut =
@@ -201,7 +187,7 @@ module _ (l : LoopAt) (outside : List Trit) where
       cut-set cut =
           subst (λ (ns : List ℕ). IsSweeping l outside before (set after g value) ns) (append-nil rest)
           (gate-set [] (λ n none. absurd (Contains-nothing n none))
-          (λ n. subst (λ (t : Trit). Below (cover_value l outside before after n) t) (cut-still before after g value cut n) (Below-refl (cover_value l outside before after n)))
+          (λ n. rw (← cut-still before after g value cut n) (Below-refl (cover_value l outside before after n)))
           (λ n there. inr (cut-still before after g value cut n)))
 
   -- ---- a cut wire is shown
@@ -209,12 +195,10 @@ module _ (l : LoopAt) (outside : List Trit) where
   cut-risen : (before after : List Trit) (g : ℕ) → g < length before → is_cut l.cut.wires g ≡ true → Below (value_in before g) (value_in after g) → HasRisen l before after (set before g (value_in after g)) after g
   cut-risen before after g low cut below = record {
     others = λ n other. ap (λ (t : Trit). if is_cut l.cut.wires n then t else value_in after n) (sym (get_or-set_other before g n (value_in after g) X other));
-    rises = λ n. both (is_cut l.cut.wires n) (value_in before n) (value_in (set before g (value_in after g)) n) (value_in after n) (set-rises before g (value_in after g) low below n);
+    rises = λ n.
+        choice-below (is_cut l.cut.wires n) (value_in before n) (value_in after n) (value_in (set before g (value_in after g)) n) (value_in after n)
+        (λ is. set-rises before g (value_in after g) low below n) (λ is. Below-refl (value_in after n));
   }
-    where
-      both : (b : Bool) (x y z : Trit) → Below x y → Below (if b then x else z) (if b then y else z)
-      both true x y z h = h
-      both false x y z h = Below-refl z
 
   pub wire-shown : (before after : List Trit) (waiting : List ℕ) (g : ℕ) (readers : List (List ℕ)) → AreReaders l (gates_in l) readers → Contains (gates_in l) g → is_cut l.cut.wires g ≡ true →
       Below (value_in before g) (value_in after g) → g < length before → IsSweeping l outside before after waiting → IsSweeping l outside (set before g (value_in after g)) after (waiting ++ get_or readers g [])
@@ -267,7 +251,7 @@ module _ (l : LoopAt) where
       | inr same ↦ subst (λ (m : ℕ). is_cut l.cut.wires m ≡ true) same cut
     ];
     below = λ n there is. Below-trans (value_in before n) (value_in after n) (value_in (set after g value) n) (h.below n there is)
-        (set-rises after g value low (subst (λ (t : Trit). Below t value) (sym unknown) tt) n);
+        (set-rises after g value low (rw unknown tt) n);
     each = λ n there is. elim (cases_eq n g) [
       | inl same ↦ inr (subst (λ (m : ℕ). Contains (wires ++ g ∷ []) m) (sym same) (Contains-push wires g))
       | inr other ↦ elim (h.each n there is) [
@@ -310,7 +294,7 @@ module _ (l : LoopAt) where
       | inl same ↦ inl (now n same)
       | inr other ↦ elim (h.each n there is) [
         | inl alike ↦ inl (get_or-set_other before g n (value_in after g) X other ∙ alike)
-        | inr listed ↦ elim (Contains-first g n wires listed) [
+        | inr listed ↦ elim (Contains-cases g wires n listed) [
           | inl same ↦ absurd (other (sym same))
           | inr later ↦ inr later
         ]
@@ -331,39 +315,34 @@ shown-next l outside before after waiting more changed i value readers are next 
     let rest : AreUnseen l before after (wire ∷ drop (i + 1) changed) = subst (λ (ns : List ℕ). AreUnseen l before after ns) (drop_more changed i 0 next) unseen in
     let first : Contains (wire ∷ drop (i + 1) changed) wire = (zero, omega arith, refl) in
     let inside : Contains (gates_in l) wire = rest.inside wire first in
-    let cut = rest.are wire first in (
-      subst (λ (t : Trit). IsSweeping l outside (set before wire t) after more) (sym value_is)
-          (subst (λ (ns : List ℕ). IsSweeping l outside (set before wire (value_in after wire)) after ns) (sym more_is)
-          (wire-shown l outside before after waiting wire readers are inside cut (rest.below wire inside cut) low sweeping)),
-      subst (λ (t : Trit). AreUnseen l (set before wire t) after (drop (i + 1) changed)) (sym value_is) (wire-seen l before after wire (drop (i + 1) changed) low rest),
-    )
+    let cut = rest.are wire first in
+    rw (value_is, more_is) (wire-shown l outside before after waiting wire readers are inside cut (rest.below wire inside cut) low sweeping, wire-seen l before after wire (drop (i + 1) changed) low rest)
 
 -- ---- the first sweep
 
-pub ready-first : (l : LoopAt) (outside before after : List Trit) (waiting : List ℕ) → before ≡ replicate (length l.net.gates) X → after ≡ replicate (length l.net.gates) X → waiting ≡ gates_in l → IsReady l outside before after waiting
-ready-first l outside before after waiting before_is after_is waiting_is = record {
-  sweeping = record {
-    width_before = ap length before_is ∙ length-replicate (length l.net.gates) X;
-    width_after = ap length after_is ∙ length-replicate (length l.net.gates) X;
-    inside = λ n there. subst (λ (ns : List ℕ). Contains ns n) waiting_is there;
-    below = λ n there. subst (λ (t : Trit). Below t (cover_value l outside before after n)) (sym (unknown after after_is n)) tt;
-    still = λ n there. inl (subst (λ (ns : List ℕ). Contains ns n) (sym waiting_is) there);
-  };
-  unseen = record {
-    inside = λ n none. absurd (Contains-nothing n none);
-    are = λ n none. absurd (Contains-nothing n none);
-    below = λ n there is. subst (λ (t : Trit). Below t (value_in after n)) (sym (unknown before before_is n)) tt;
-    each = λ n there is. inl (unknown before before_is n ∙ sym (unknown after after_is n));
-  };
-}
+pub ready-first : (l : LoopAt) (outside : List Trit) → IsReady l outside (replicate (length l.net.gates) X) (replicate (length l.net.gates) X) (gates_in l)
+ready-first l outside =
+    let unknown : List Trit = replicate (length l.net.gates) X in
+    record {
+      sweeping = record {
+        width_before = length-replicate (length l.net.gates) X;
+        width_after = length-replicate (length l.net.gates) X;
+        inside = λ n there. there;
+        below = λ n there. subst (λ (t : Trit). Below t (cover_value l outside unknown unknown n)) (sym (all-unknown (length l.net.gates) n)) tt;
+        still = λ n there. inl there;
+      };
+      unseen = record {
+        inside = λ n none. absurd (Contains-nothing n none);
+        are = λ n none. absurd (Contains-nothing n none);
+        below = λ n there is. Below-refl (value_in unknown n);
+        each = λ n there is. inl refl;
+      };
+    }
   where
     all-unknown : (k n : ℕ) → value_in (replicate k X) n ≡ X
     all-unknown zero n = refl
     all-unknown (suc k) zero = refl
     all-unknown (suc k) (suc n) = all-unknown k n
-
-    unknown : (s : List Trit) → s ≡ replicate (length l.net.gates) X → (n : ℕ) → value_in s n ≡ X
-    unknown s is n = ap (λ (t : List Trit). value_in t n) is ∙ all-unknown (length l.net.gates) n
 
 -- ---- a sweep ends
 
@@ -378,17 +357,11 @@ row-fits [] n = omega arith
 row-fits (row ∷ rows) zero = omega arith
 row-fits (row ∷ rows) (suc n) = omega (arith, row-fits rows n)
 
-EachBelow-from : (xs ys : List Trit) → length xs ≡ length ys → ((n : ℕ) → Below (value_in xs n) (value_in ys n)) → EachBelow xs ys
-EachBelow-from [] [] e h = tt
-EachBelow-from [] (y ∷ ys) e h = absurd (omega (arith, e))
-EachBelow-from (x ∷ xs) [] e h = absurd (omega (arith, e))
-EachBelow-from (x ∷ xs) (y ∷ ys) e h = (h zero, EachBelow-from xs ys (omega (arith, e)) (λ n. h (suc n)))
-
 -- a state in which an unknown value becomes known has more that are known
 more-known : (values : List Trit) (g : ℕ) (value : Trit) → g < length values → value_in values g ≡ X → value ≢ X → known_count values < known_count (set values g value)
 more-known values g value low unknown known =
     elim (same_or_more values (set values g value)
-    (EachBelow-from values (set values g value) (sym (length-set values g value)) (set-rises values g value low (subst (λ (t : Trit). Below t value) (sym unknown) tt)))) [
+    (EachBelow-from_at values (set values g value) (sym (length-set values g value)) (λ n less. set-rises values g value low (rw unknown tt) n))) [
       | inl same ↦ absurd (known (sym (get_or-set_same values g value X low) ∙ ap (λ (s : List Trit). value_in s g) (sym same) ∙ unknown))
       | inr more ↦ more
     ]

@@ -1,26 +1,31 @@
 -- Formulas over columns, and literals that tell tests of their vectors.
 use Rattle.std.proofs.Common.{◌≡◌, ℕ, zero, suc, ◌*◌, ◌<◌, Bool, true, false, ◌&&◌, List, [], ◌∷◌, ◌++◌, length, map, drop, refl, sym, ap, ap₂, ◌∙◌, subst, arith}
-use Rattle.clause_decision.proofs.Common.{list_all, and_parts, length-map, All-map, Trit, bits, Parts, CareSet, columns, state_of, is_allowed, is_in_invariant, is_care_vector, Formula, Rails, SaysColumns, says, IsModel, HasModelFrom, Grows, ReadsAll, AreWithin, All-within-more, ReadsAll-more, problem, Asks, models-same, SaysTest, IsOver, bit, is_one}
+use Rattle.clause_decision.proofs.Common.{list_all, length-map, All-cons, All-nil, All-map, Trit, bits, Parts, CareSet, columns, state_of, is_allowed, is_in_invariant, is_care_vector, Formula, Rails, SaysColumns, says, IsModel, HasModelFrom, Grows, Reads, ReadsAll, AreWithin, All-within-more, ReadsAll-more, IsWithin, problem, Asks, models-same, SaysTest, IsOver, bit, is_one, Question, IsQuestionOf}
+use Rattle.std.proofs.lemmas.List.{drop-map}
+use Rattle.std.proofs.lemmas.List.Sums.{AllPass-from_list_all, list_all-from_AllPass}
 use Rattle.std.specs.List.{All}
+use Rattle.std.specs.Prelude.{Contains}
+use Rattle.cyc_base.proofs.ListLemmas.{Contains-here, Contains-there}
+use Rattle.cyc_base.proofs.TruthLemmas.{and_with_true}
 use Rattle.ternary_clauses.specs.Formulas.{holds}
 use Rattle.clause_decision.specs.Formulas.{IsCareFormula}
 
 -- ---- readings of lists
 
-pub ReadsAll-drop : (m : List Bool) (n : ℕ) (rs : List Rails) (ts : List Trit) → ReadsAll m rs ts → ReadsAll m (drop n rs) (drop n ts)
+ReadsAll-drop : (m : List Bool) (n : ℕ) (rs : List Rails) (ts : List Trit) → ReadsAll m rs ts → ReadsAll m (drop n rs) (drop n ts)
 ReadsAll-drop m zero rs ts h = h
 ReadsAll-drop m (suc n) [] [] h = tt
 ReadsAll-drop m (suc n) [] (t ∷ ts) h = absurd h
 ReadsAll-drop m (suc n) (r ∷ rs) [] h = absurd h
 ReadsAll-drop m (suc n) (r ∷ rs) (t ∷ ts) h = ReadsAll-drop m n rs ts h.1
 
-bits-drop : (n : ℕ) (v : List Bool) → drop n (bits v) ≡ bits (drop n v)
-bits-drop zero v = refl
-bits-drop (suc n) [] = refl
-bits-drop (suc n) (b ∷ v) = bits-drop n v
-
 pub state-read : (m : List Bool) (n : ℕ) (rs : List Rails) (v : List Bool) → ReadsAll m rs (bits v) → ReadsAll m (drop n rs) (bits (drop n v))
-state-read m n rs v h = subst (ReadsAll m (drop n rs)) (bits-drop n v) (ReadsAll-drop m n rs (bits v) h)
+state-read m n rs v h = subst (ReadsAll m (drop n rs)) (drop-map bit n v) (ReadsAll-drop m n rs (bits v) h)
+
+-- rails that are read one by one
+pub reads-map : {A : Type 0} (m : List Bool) (f : A → Rails) (g : A → Bool) (xs : List A) → ((x : A) → Contains xs x → Reads m (f x) (bit (g x))) → ReadsAll m (map f xs) (bits (map g xs))
+reads-map m f g [] h = tt
+reads-map m f g (x ∷ xs) h = (h x (Contains-here x xs), reads-map m f g xs (λ y there. h y (Contains-there x xs y there)))
 
 -- the literals of the columns read the vector
 one-bit : (b : Bool) → is_one (bit b) ≡ b
@@ -87,56 +92,48 @@ care-formula net care old mid new rails inside allowed over first second = recor
 
 -- ---- what is asked for
 
-pub both : (m : List Bool) (a b : ℕ) → list_all (says m) (a ∷ b ∷ []) ≡ (says m a && says m b)
-both m a b = by (says m a) (says m b)
-  where
-    by : (x y : Bool) → (x && (y && true)) ≡ (x && y)
-    by true true = refl
-    by true false = refl
-    by false y = refl
-
-pub all-says : (m : List Bool) (ls : List ℕ) → All (λ l. says m l ≡ true) ls → list_all (says m) ls ≡ true
-all-says m [] h = refl
-all-says m (l ∷ ls) h = and-true (h 0 l (omega arith)) (all-says m ls (λ k d less. h (suc k) d (omega (arith, less))))
-  where
-    and-true : {x y : Bool} → x ≡ true → y ≡ true → (x && y) ≡ true
-    and-true {x} {y} a b = ap₂ (λ s t. s && t) a b
-
-says-all : (m : List Bool) (ls : List ℕ) → list_all (says m) ls ≡ true → All (λ l. says m l ≡ true) ls
-says-all m [] h k d less = absurd (omega (arith, less))
-says-all m (l ∷ ls) h zero d less = (and_parts (says m l) (list_all (says m) ls) h).0
-says-all m (l ∷ ls) h (suc k) d less = says-all m ls (and_parts (says m l) (list_all (says m) ls) h).1 k d (omega (arith, less))
-
 -- where the literals of a test are all true just at the vectors that pass it, they ask for them
-pub asks-over : (f : Formula) (rails : List Rails) (width : ℕ) (columns_read assumed : List ℕ) (test : List Bool → Bool) → IsOver f rails width → columns_read ≡ map (λ r. r.one) rails →
-    ((m v : List Bool) → IsModel m f → ReadsAll m rails (bits v) → list_all (says m) assumed ≡ test v) → Asks (problem f) columns_read assumed test
-asks-over f rails width columns_read assumed test over are tells = record {
+pub asks-over : (f : Formula) (rails : List Rails) (width : ℕ) (assumed : List ℕ) (test : List Bool → Bool) → IsOver f rails width → ((m v : List Bool) → IsModel m f → ReadsAll m rails (bits v) → list_all (says m) assumed ≡ test v) →
+    Asks (problem f) (map (λ r. r.one) rails) assumed test
+asks-over f rails width assumed test over tells = record {
   sound = λ m under.
       let model : IsModel m f = sym (models-same f m) ∙ under.model in
       let reads = over.sound m model in
       let v : List Bool = map (λ r. says m r.one) rails in
-      ap test (ap (λ (cs : List ℕ). map (says m) cs) are ∙ ones-read m rails v reads) ∙ sym (tells m v model reads) ∙ all-says m assumed under.assumed;
+      ap test (ones-read m rails v reads) ∙ sym (tells m v model reads) ∙ list_all-from_AllPass (says m) assumed under.assumed;
   complete = λ v wide passes.
-      let has = over.complete v (wide ∙ ap (λ (cs : List ℕ). length cs) are ∙ length-map rails (λ (r : Rails). r.one) ∙ over.size) in
+      let has = over.complete v (wide ∙ length-map rails (λ (r : Rails). r.one) ∙ over.size) in
       record {
         model = has.model;
-        under = record { model = models-same f has.model ∙ has.holds; assumed = says-all has.model assumed (tells has.model v has.holds has.reads ∙ passes) };
-        reads = ap (λ (cs : List ℕ). map (says has.model) cs) are ∙ ones-read has.model rails v has.reads;
+        under = record { model = models-same f has.model ∙ has.holds; assumed = AllPass-from_list_all (says has.model) assumed (tells has.model v has.holds has.reads ∙ passes) };
+        reads = ones-read has.model rails v has.reads;
       };
 }
 
 -- the care set's
-pub care-asks : (net : Parts) (care : CareSet) (f : Formula) (rails : List Rails) (inside allowed : ℕ) (columns_read assumed : List ℕ) → IsCareFormula net care f rails inside allowed → columns_read ≡ map (λ r. r.one) rails →
-    assumed ≡ inside ∷ allowed ∷ [] → Asks (problem f) columns_read assumed (is_care_vector net care)
-care-asks net care f rails inside allowed columns_read assumed is are assumed_are =
-    asks-over f rails (columns net) columns_read assumed (is_care_vector net care) is.over are
-    (λ m v model reads. ap (list_all (says m)) assumed_are ∙ both m inside allowed ∙ ap₂ (λ x y. x && y) (is.inside_tells m v model reads) (is.allowed_tells m v model reads))
+pub care-asks : (net : Parts) (care : CareSet) (f : Formula) (rails : List Rails) (inside allowed : ℕ) → IsCareFormula net care f rails inside allowed → Asks (problem f) (map (λ r. r.one) rails) (inside ∷ allowed ∷ []) (is_care_vector net care)
+care-asks net care f rails inside allowed is =
+    asks-over f rails (columns net) (inside ∷ allowed ∷ []) (is_care_vector net care) is.over
+    (λ m v model reads. ap (λ b. says m inside && b) (sym (and_with_true (says m allowed))) ∙ ap₂ (λ x y. x && y) (is.inside_tells m v model reads) (is.allowed_tells m v model reads))
 
 -- the literals are of the formula
 pub ones-within : (f : Formula) (rails : List Rails) → All (AreWithin f.variables) rails → All (λ l. l < 2 * f.variables) (map (λ r. r.one) rails)
 ones-within f rails all = All-map (λ l. l < 2 * f.variables) (λ (r : Rails). r.one) rails (λ k d less. (all k d less).one)
 
 pub two-within : (n a b : ℕ) → a < n → b < n → All (λ l. l < n) (a ∷ b ∷ [])
-two-within n a b first second zero d less = first
-two-within n a b first second (suc zero) d less = second
-two-within n a b first second (suc (suc k)) d less = absurd (omega (arith, less))
+two-within n a b first second = All-cons (λ l. l < n) a (b ∷ []) first (All-cons (λ l. l < n) b [] second (All-nil (λ l. l < n)))
+
+-- ---- questions
+
+-- a question of these literals asks for what they ask for
+pub question-of : {width : ℕ} {test : List Bool → Bool} {f : Formula} {columns_read assumed : List ℕ} (q : Question) → q.formula ≡ f → q.columns.items ≡ columns_read → q.assumed.items ≡ assumed →
+    IsWithin f.variables columns_read → IsWithin f.variables assumed → length columns_read ≡ width → Asks (problem f) columns_read assumed test → IsQuestionOf width test q
+question-of {test = test} {f = f} {columns_read = columns_read} q formula_is columns_is assumed_is columns_in assumed_in wide asks = record {
+  askable = record {
+    columns = subst (λ (g : Formula). IsWithin g.variables q.columns.items) (sym formula_is) (subst (IsWithin f.variables) (sym columns_is) columns_in);
+    assumed = subst (λ (g : Formula). IsWithin g.variables q.assumed.items) (sym formula_is) (subst (IsWithin f.variables) (sym assumed_is) assumed_in);
+  };
+  wide = ap length columns_is ∙ wide;
+  asks = subst (λ (g : Formula). Asks (problem g) q.columns.items q.assumed.items test) (sym formula_is)
+      (subst (λ cs. Asks (problem f) cs q.assumed.items test) (sym columns_is) (subst (λ ls. Asks (problem f) columns_read ls test) (sym assumed_is) asks));
+}

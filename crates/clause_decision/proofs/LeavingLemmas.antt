@@ -1,7 +1,7 @@
 -- The invariant of the next state, as a literal of a cone.
 use Rattle.std.proofs.Common.{◌≡◌, ℕ, ◌<◌, ◌+◌, ◌-◌, ◌*◌, Bool, true, false, not, ◌&&◌, List, [], ◌∷◌, ◌++◌, length, map, get_or, Option, Some, None, IfSome, refl, sym, ap, ap₂, subst, ◌∙◌, arith}
 use Rattle.std.specs.List.{All}
-use Rattle.clause_decision.proofs.Common.{option_map_or, and_parts, length-map, get_or-map, All-take, All-map, All-get_or, Contains-get_or, Trit, X, bit, bits, Sig, Latch, Parts, IsNetlist, count, gate_sig, signal, wire, fix, first_gate, gate_of, CareModel, CareSet, columns, holds_at, state_of, is_allowed, is_in_invariant, is_care_vector, IsCareVector, Formula, Rails, says, negation, IsModel, HasModelFrom, Reads, ReadsAll, AreWithin, no_rails, rails_at, says-negation, ReadsAll-more, All-within-more, IsWithin, problem, Asks, models-same, column_rails, vector_in, ReadsAbove, ReadsFix, IsCone, SaysTest, ReadsWithin}
+use Rattle.clause_decision.proofs.Common.{option_map_or, and_parts, length-map, get_or-map, All-take, All-map, All-get_or, Trit, X, bit, bits, Sig, Latch, Parts, IsNetlist, count, gate_sig, signal, wire, fix, first_gate, gate_of, CareModel, CareSet, columns, holds_at, state_of, is_allowed, is_in_invariant, is_care_vector, IsCareVector, Formula, Rails, says, negation, IsModel, HasModelFrom, Reads, ReadsAll, AreWithin, no_rails, rails_at, says-negation, ReadsAll-more, All-within-more, IsWithin, problem, Asks, models-same, column_rails, vector_in, ReadsAbove, ReadsFix, IsCone, SaysTest, ReadsWithin, All-contains, IsModelUnder, Question, IsQuestionOf}
 use Rattle.std.specs.Option.{option_map}
 use Rattle.std.specs.Prelude.{Contains}
 use Rattle.std.proofs.lemmas.Option.{same_Some}
@@ -10,36 +10,19 @@ use Rattle.care_sets.specs.Binding.{IsCareOf}
 use Rattle.care_sets.specs.Care.{is_one, inputs_at}
 use Rattle.refusals.specs.Refusals.{next_state, leaves}
 use Rattle.refusals.proofs.RefusalLemmas.{known_bit_is}
-use Rattle.ternary_clauses.proofs.ReadingLemmas.{ReadsAll-from}
-use Rattle.clause_queries.specs.Queries.{is_model, IsModelUnder}
+use Rattle.clause_queries.specs.Queries.{is_model}
 use Rattle.clause_queries.specs.Vectors.{HasVector}
 use Rattle.clause_decision.specs.declared.scope.Scope.{Scope}
 use Rattle.clause_decision.specs.Formulas.{accepts}
 use Rattle.clause_decision.specs.Loads.{HasLoads, LoadsAreKnown}
 use Rattle.clause_decision.specs.NextStates.{no_latch, latch_of, load_rails, loads_rails, AreLatchColumns}
-use Rattle.clause_decision.specs.declared.question.Question.{Question}
-use Rattle.clause_decision.specs.Questions.{IsQuestionOf}
 use Rattle.clause_decision.specs.Tests.{is_leaving}
-use Rattle.clause_decision.proofs.FormulaLemmas.{ones-read}
+use Rattle.clause_decision.proofs.FormulaLemmas.{ones-read, question-of, reads-map}
+use Rattle.clause_decision.proofs.ConeLemmas.{care-read}
 use Rattle.clause_decision.proofs.ModelLemmas.{invariant-reads, of-there}
 use Rattle.clause_decision.proofs.SignalLemmas.{negation-within, column_rails-length, ones-within, fix-above, signal-read, three}
 
--- the invariant that is there, of its net and its columns
-pub record IsThere (care : CareSet) (invariant : Parts) (columns_read : List ℕ) : Type 0 where
-  pub model : CareModel
-  pub is : care.invariant ≡ Some model
-  pub net_is : invariant ≡ model.net
-  pub columns_are : columns_read ≡ model.columns
-
-pub there : (care : CareSet) (invariant : Parts) (columns_read : List ℕ) → Some invariant ≡ option_map (λ model. model.net) care.invariant →
-    columns_read ≡ option_map_or (λ model. model.columns) care.invariant [] → IsThere care invariant columns_read
-there care invariant columns_read is are = by care.invariant refl is are
-  where
-    by : (o : Option CareModel) → care.invariant ≡ o → Some invariant ≡ option_map (λ model. model.net) o → columns_read ≡ option_map_or (λ model. model.columns) o [] → IsThere care invariant columns_read
-    by None at e f = cc
-    by (Some model) at e f = record { model = model; is = at; net_is = same_Some invariant model.net e; columns_are = f }
-
--- which read latches alone
+-- the columns of the invariant are those of latches
 pub latch-columns : (net : Parts) (care : CareSet) (columns_read : List ℕ) → IsCareOf net care → columns_read ≡ option_map_or (λ model. model.columns) care.invariant [] → AreLatchColumns net columns_read
 latch-columns net care columns_read bound are = by care.invariant are (invariant-reads net care (length net.latches) bound refl)
   where
@@ -75,39 +58,26 @@ module _ (net : Parts) (care : CareSet) (marks : List Bool) (f g : Formula) (rai
   -- at a care vector the rails of the loads stand for what the model reads of the next state
   loads-read : (m v : List Bool) → ReadsAll m (column_rails net rails) (bits v) → ReadsAbove net marks rails m v → IsCareVector net care v →
       ReadsAll m (loads_rails net rails model.columns) (bits (inputs_at model (next_state net v)))
-  loads-read m v reads above counts = ReadsAll-from m (loads_rails net rails model.columns) (bits (inputs_at model (next_state net v))) no_rails X same each
+  loads-read m v reads above counts = reads-map m (load_rails net rails) (λ column. get_or (next_state net v) (column - model.first) false) model.columns each
     where
-      same : length (loads_rails net rails model.columns) ≡ length (bits (inputs_at model (next_state net v)))
-      same =
-          length-map model.columns (load_rails net rails)
-          ∙ sym (length-map (inputs_at model (next_state net v)) bit ∙ length-map model.columns (λ column. get_or (next_state net v) (column - model.first) false))
-
-      value : (i : ℕ) → i < length model.columns → get_or (bits (inputs_at model (next_state net v))) i X ≡ wire (fix net (bits v)) (latch_of net (get_or model.columns i 0)).from
-      value i less =
-          let column : ℕ = get_or model.columns i 0 in
+      value : (column : ℕ) → column - length net.inputs < length net.latches → bit (get_or (next_state net v) (column - model.first) false) ≡ wire (fix net (bits v)) (latch_of net column).from
+      value column low =
           let place : ℕ = column - length net.inputs in
-          let low : place < length net.latches = latches.within i 0 less in
-          get_or-map bit (inputs_at model (next_state net v)) i false X (let l = length-map model.columns (λ c. get_or (next_state net v) (c - model.first) false) in omega (arith, less, l))
-          ∙ ap bit (get_or-map (λ c. get_or (next_state net v) (c - model.first) false) model.columns i 0 false less)
-          ∙ ap (λ (k : ℕ). bit (get_or (next_state net v) (column - k) false)) start
+          ap (λ (k : ℕ). bit (get_or (next_state net v) (column - k) false)) start
           ∙ ap bit (get_or-map is_one (next net (bits v)) place X false (let l = length-map net.latches (λ (latch : Latch). wire (fix net (bits v)) latch.from) in omega (arith, low, l)))
           ∙ ap (λ (t : Trit). bit (is_one t)) (get_or-map (λ (latch : Latch). wire (fix net (bits v)) latch.from) net.latches place no_latch X low)
           ∙ known_bit_is (wire (fix net (bits v)) (latch_of net column).from) (known v counts place no_latch low)
 
-      each : (i : ℕ) → i < length (loads_rails net rails model.columns) → Reads m (get_or (loads_rails net rails model.columns) i no_rails) (get_or (bits (inputs_at model (next_state net v))) i X)
-      each i below =
-          let less : i < length model.columns = (let l = length-map model.columns (load_rails net rails) in omega (arith, below, l)) in
-          let column : ℕ = get_or model.columns i 0 in
+      each : (column : ℕ) → Contains model.columns column → Reads m (load_rails net rails column) (bit (get_or (next_state net v) (column - model.first) false))
+      each column there =
           let place : ℕ = column - length net.inputs in
-          let low : place < length net.latches = latches.within i 0 less in
+          let low : place < length net.latches = All-contains (λ c. c - length net.inputs < length net.latches) model.columns column latches.within there in
           let from : Sig = (latch_of net column).from in
           let inside_net : from.0 < count net = proper.sources place no_latch low in
-          let read : Reads m (rails_at rails from.0) (wire (fix net (bits v)) from) =
-          signal-read net marks rails m v cone.size counts.width reads above from inside_net
-          (λ high. scoped column (gate_of net from) no_latch (Contains-get_or model.columns i 0 less) (omega (arith, inside_net, high)) (let e : from.0 ≡ first_gate net + gate_of net from = omega (arith, high) in ap signal e))
-          (known v counts place no_latch low) in
-          subst (λ (r : Rails). Reads m r (get_or (bits (inputs_at model (next_state net v))) i X)) (sym (get_or-map (load_rails net rails) model.columns i 0 no_rails less))
-          (subst (λ (t : Trit). Reads m (rails_at rails from.0) t) (sym (value i less)) read)
+          subst (Reads m (rails_at rails from.0)) (sym (value column low))
+          (signal-read net marks rails m v cone.size counts.width reads above from inside_net
+          (λ high. scoped column (gate_of net from) no_latch there (omega (arith, inside_net, high)) (let e : from.0 ≡ first_gate net + gate_of net from = omega (arith, high) in ap signal e))
+          (known v counts place no_latch low))
 
   in-model : (q : List Bool) → holds_at model q ≡ is_in_invariant care q
   in-model q = ap (λ (o : Option CareModel). option_map_or (λ (c : CareModel). holds_at c q) o true) (sym is)
@@ -120,13 +90,11 @@ module _ (net : Parts) (care : CareSet) (marks : List Bool) (f g : Formula) (rai
       let v : List Bool = vector_in net rails m in
       let model_g : IsModel m g = under-model m under.model in
       let model_f : IsModel m f = said.grows.sound m model_g in
-      let in_invariant : is_in_invariant care (state_of net v) ≡ true = sym (cone.inside_tells m model_f) ∙ under.assumed 0 0 (omega arith) in
-      let may : is_allowed care v ≡ true = sym (cone.allowed_tells m model_f) ∙ under.assumed 1 0 (omega arith) in
-      let counts : IsCareVector net care v = record { width = length-map (column_rails net rails) (λ (r : Rails). says m r.one) ∙ column_rails-length net rails cone.size; state = in_invariant; allowed = may } in
+      let counts : IsCareVector net care v = care-read cone m model_f (under.assumed 0 0 (omega arith)) (under.assumed 1 0 (omega arith)) in
       let tells : says m literal ≡ is_in_invariant care (next_state net v) =
       said.says_it m (inputs_at model (next_state net v)) model_g (loads-read m v (cone.sound m model_f) (cone.above m model_f) counts) ∙ in-model (next_state net v) in
       let out : leaves net care v ≡ true = ap not (sym tells) ∙ sym (says-negation m literal) ∙ under.assumed 2 0 (omega arith) in
-      ap₂ (λ (a b : Bool). a && b) (ap₂ (λ (a b : Bool). a && b) in_invariant may) out
+      ap₂ (λ (a b : Bool). a && b) (ap₂ (λ (a b : Bool). a && b) counts.state counts.allowed) out
 
   complete : (v : List Bool) → length v ≡ columns net → is_leaving net care v ≡ true → HasVector (problem g) (map (λ r. r.one) (column_rails net rails)) (inside ∷ allowed ∷ negation literal ∷ []) v
   complete v wide passes =
@@ -165,29 +133,22 @@ pub leaving-question : (net : Parts) (care : CareSet) (scope : Scope) (f g : For
     Some invariant ≡ option_map (λ model. model.net) care.invariant → columns_read ≡ option_map_or (λ model. model.columns) care.invariant [] →
     list ≡ loads_rails net rails columns_read → SaysTest f g list (accepts invariant) literal →
     q.formula ≡ g → q.columns.items ≡ map (λ r. r.one) (column_rails net rails) → q.assumed.items ≡ inside ∷ allowed ∷ negation literal ∷ [] → IsQuestionOf (columns net) (is_leaving net care) q
-leaving-question net care scope f g rails list inside allowed literal invariant columns_read q proper bound cone loads known is are list_is said formula_is columns_is assumed_is =
-    let it : IsThere care invariant columns_read = there care invariant columns_read is are in
-    let start : it.model.first ≡ length net.inputs = (of-there care.invariant it.model (ReadsWithin (length net.inputs) (length net.latches)) it.is (invariant-reads net care (length net.latches) bound refl)).start in
-    let list_here : list ≡ loads_rails net rails it.model.columns = list_is ∙ ap (loads_rails net rails) it.columns_are in
-    let said_here : SaysTest f g (loads_rails net rails it.model.columns) (accepts it.model.net) literal =
-    subst (λ (rs : List Rails). SaysTest f g rs (accepts it.model.net) literal) list_here (subst (λ (n : Parts). SaysTest f g list (accepts n) literal) it.net_is said) in
-    let asked : Asks (problem g) (map (λ r. r.one) (column_rails net rails)) (inside ∷ allowed ∷ negation literal ∷ []) (is_leaving net care) =
-    asks net care scope.gates f g rails inside allowed literal cone it.model it.is start (subst (AreLatchColumns net) it.columns_are (latch-columns net care columns_read bound are)) proper
-    (of-there care.invariant it.model (λ model. (column n : ℕ) (none : Latch) → Contains model.columns column → n < length net.gates → (get_or net.latches (column - length net.inputs) none).from ≡ gate_sig net n → get_or scope.gates n false ≡ true) it.is loads)
-    known said_here in
-    let of_g : IsWithin g.variables (map (λ r. r.one) (column_rails net rails)) = ones-within net rails g.variables (All-within-more f.variables g.variables rails said.grows.more cone.within) in
-    let care_of_g : IsWithin g.variables (inside ∷ allowed ∷ negation literal ∷ []) =
-    three (λ l. l < 2 * g.variables) inside allowed (negation literal)
-    (let w = cone.inside_within in let m = said.grows.more in omega (arith, w, m))
-    (let w = cone.allowed_within in let m = said.grows.more in omega (arith, w, m))
-    (negation-within literal g.variables said.within) in
-    record {
-      askable = record {
-        columns = subst (λ (h : Formula). IsWithin h.variables q.columns.items) (sym formula_is) (subst (IsWithin g.variables) (sym columns_is) of_g);
-        assumed = subst (λ (h : Formula). IsWithin h.variables q.assumed.items) (sym formula_is) (subst (IsWithin g.variables) (sym assumed_is) care_of_g);
-      };
-      wide = ap length columns_is ∙ length-map (column_rails net rails) (λ (r : Rails). r.one) ∙ column_rails-length net rails cone.size;
-      asks = subst (λ (h : Formula). Asks (problem h) q.columns.items q.assumed.items (is_leaving net care)) (sym formula_is)
-          (subst (λ (cs : List ℕ). Asks (problem g) cs q.assumed.items (is_leaving net care)) (sym columns_is)
-          (subst (λ (ls : List ℕ). Asks (problem g) (map (λ r. r.one) (column_rails net rails)) ls (is_leaving net care)) (sym assumed_is) asked));
-    }
+leaving-question net care scope f g rails list inside allowed literal invariant columns_read q proper bound cone loads known is are list_is said formula_is columns_is assumed_is = by care.invariant refl is are
+  where
+    by : (o : Option CareModel) → care.invariant ≡ o → Some invariant ≡ option_map (λ model. model.net) o → columns_read ≡ option_map_or (λ model. model.columns) o [] → IsQuestionOf (columns net) (is_leaving net care) q
+    by None at e h = absurd (cc)
+    by (Some model) at e h =
+        let start : model.first ≡ length net.inputs = (of-there care.invariant model (ReadsWithin (length net.inputs) (length net.latches)) at (invariant-reads net care (length net.latches) bound refl)).start in
+        let said_here : SaysTest f g (loads_rails net rails model.columns) (accepts model.net) literal =
+        subst (λ (rs : List Rails). SaysTest f g rs (accepts model.net) literal) (list_is ∙ ap (loads_rails net rails) h) (subst (λ (n : Parts). SaysTest f g list (accepts n) literal) (same_Some invariant model.net e) said) in
+        let asked : Asks (problem g) (map (λ r. r.one) (column_rails net rails)) (inside ∷ allowed ∷ negation literal ∷ []) (is_leaving net care) =
+        asks net care scope.gates f g rails inside allowed literal cone model at start (subst (AreLatchColumns net) h (latch-columns net care columns_read bound are)) proper
+        (of-there care.invariant model (λ model. (column n : ℕ) (none : Latch) → Contains model.columns column → n < length net.gates → (get_or net.latches (column - length net.inputs) none).from ≡ gate_sig net n → get_or scope.gates n false ≡ true) at loads)
+        known said_here in
+        let of_g : IsWithin g.variables (map (λ r. r.one) (column_rails net rails)) = ones-within net rails g.variables (All-within-more f.variables g.variables rails said.grows.more cone.within) in
+        let care_of_g : IsWithin g.variables (inside ∷ allowed ∷ negation literal ∷ []) =
+        three (λ l. l < 2 * g.variables) inside allowed (negation literal)
+        (let w = cone.inside_within in let m = said.grows.more in omega (arith, w, m))
+        (let w = cone.allowed_within in let m = said.grows.more in omega (arith, w, m))
+        (negation-within literal g.variables said.within) in
+        question-of q formula_is columns_is assumed_is of_g care_of_g (length-map (column_rails net rails) (λ (r : Rails). r.one) ∙ column_rails-length net rails cone.size) asked

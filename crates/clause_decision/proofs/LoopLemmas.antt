@@ -1,7 +1,7 @@
 -- A loop at its place among the blocks, and its cut wires.
-use Rattle.std.proofs.Common.{◌≡◌, inl, inr, ℕ, ◌<◌, ◌≤◌, ◌+◌, ◌==◌, Bool, true, false, ◌&&◌, cond, List, [], ◌∷◌, ◌++◌, length, filter, take, get_or, Contains, suc, sym, ap, ap₂, subst, refl, ◌∙◌, arith, true≢false, append-nil}
+use Rattle.std.proofs.Common.{◌≡◌, ◌≢◌, inl, inr, ℕ, ◌<◌, ◌≤◌, ◌+◌, ◌==◌, Bool, true, false, ◌&&◌, cond, List, [], ◌∷◌, ◌++◌, length, filter, take, get_or, Contains, suc, sym, ap, ap₂, subst, refl, ◌∙◌, arith, true≢false, append-nil}
 use Rattle.std.specs.List.{All, range_with_len}
-use Rattle.clause_decision.proofs.Common.{cases_lt, and_parts, eq-eqb, length-map, take_all, All-push, All-weaker, Contains-get_or, Contains-append_left, Contains-push, bit, bits, Parts, block_at, home_of, Loops, is_cut, CutsAreFixed, cuts_of, gate_home, columns, AreCutPlacesBelow, LoopAt, IsLoopAt, gates_in, loops_in}
+use Rattle.clause_decision.proofs.Common.{cases_lt, and_parts, eq-eqb, length-map, take_all, All-push, All-weaker, Contains-get_or, Contains-append_left, Contains-push, Trit, bit, bits, Parts, fix_gates, block_at, home_of, Loops, is_cut, CutsAreFixed, cuts_of, first_gate, sweeps, value_in, map_agree, cut_values_agree, fixed_cuts_give_fix, gate_home, columns, AreCutPlacesBelow, LoopAt, IsLoopAt, gates_in, loops_in}
 use Rattle.std.proofs.lemmas.List.{length_push}
 use Rattle.std.proofs.lemmas.List.FromFn.{length-range_with_len}
 use Rattle.std.proofs.lemmas.List.Elements.{filter_more}
@@ -10,7 +10,8 @@ use Rattle.cyc_base.proofs.TruthLemmas.{same_truth}
 use Rattle.loops.specs.Cuts.{AreLoopsOf}
 use Rattle.loops.specs.Orders.{AreGatesOfLoop}
 use Rattle.loops.proofs.Reading.{Contains-filter_from, Contains-range_from}
-use Rattle.loops.proofs.Sweeps.{few_sweeps_are_enough}
+use Rattle.loops.specs.Sweeps.{cuts}
+use Rattle.loops.proofs.Sweeps.{few_sweeps_are_enough, still_is_fix}
 use Rattle.loops.proofs.Told.{blocks_have_loops, blocks_tell_loops}
 
 -- ---- the places of cut wires
@@ -117,3 +118,33 @@ module _ (l : LoopAt) (is_loop : IsLoopAt l) where
       let sixth = is_loop.blocks.homes in
       let seventh = is_loop.net.fits in
       omega (arith, first, second, third, fourth, fifth, sixth, seventh)
+
+-- ---- whether a loop is at the fixpoint
+
+module _ (l : LoopAt) (is_loop : IsLoopAt l) (v : List Trit) (wide : length v ≡ first_gate l.net) (k : ℕ) where
+  -- where a sweep changes no cut wire, it was
+  pub unmoved-fixed : ((n : ℕ) → Contains (gates_in l) n → is_cut l.cut.wires n ≡ true → value_in (sweeps l.net (loops_in l) v (suc k)) n ≡ value_in (sweeps l.net (loops_in l) v k) n) →
+      (a : ℕ) → Contains (gates_in l) a → CutsAreFixed l.net (loops_in l) v a k
+  unmoved-fixed same a inside =
+      map_agree (value_in (sweeps l.net (loops_in l) v k)) (value_in (fix_gates l.net v)) (cuts_of l.net (loops_in l) a)
+      (λ j d low. sym (still-at j d low) ∙ still_is_fix l.net (loops_in l) (are-loops l is_loop) v wide a k still (get_or (cuts_of l.net (loops_in l) a) j d) (cut-of l.net (loops_in l) a j d low).0)
+    where
+      still-at : (j d : ℕ) → j < length (cuts_of l.net (loops_in l) a) →
+          value_in (sweeps l.net (loops_in l) v (suc k)) (get_or (cuts_of l.net (loops_in l) a) j d) ≡ value_in (sweeps l.net (loops_in l) v k) (get_or (cuts_of l.net (loops_in l) a) j d)
+      still-at j d low =
+          let n : ℕ = get_or (cuts_of l.net (loops_in l) a) j d in
+          let is = cut-of l.net (loops_in l) a j d low in
+          same n ((of-loop l is_loop a inside).0 n is.0) is.1
+
+      still : cuts l.net (loops_in l) v a (suc k) ≡ cuts l.net (loops_in l) v a k
+      still = map_agree (value_in (sweeps l.net (loops_in l) v (suc k))) (value_in (sweeps l.net (loops_in l) v k)) (cuts_of l.net (loops_in l) a) still-at
+
+  -- and where it changes one, it wasn't
+  pub moved-unfixed : (wire : ℕ) → Contains (gates_in l) wire → is_cut l.cut.wires wire ≡ true → value_in (sweeps l.net (loops_in l) v k) wire ≢ value_in (sweeps l.net (loops_in l) v (suc k)) wire →
+      (a : ℕ) → Contains (gates_in l) a → ¬ CutsAreFixed l.net (loops_in l) v a k
+  moved-unfixed wire there is moves a inside fixed =
+      let same = (of-loop l is_loop a inside).1 wire there in
+      let later = (fixed_cuts_give_fix l.net (loops_in l) (are-loops l is_loop) v wide a k fixed).0 in
+      moves
+      (cut_values_agree l.net (loops_in l) (are-loops l is_loop) a (sweeps l.net (loops_in l) v k) (fix_gates l.net v) fixed wire same is
+      ∙ sym (cut_values_agree l.net (loops_in l) (are-loops l is_loop) a (sweeps l.net (loops_in l) v (suc k)) (fix_gates l.net v) later wire same is))

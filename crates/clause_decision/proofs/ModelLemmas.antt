@@ -1,11 +1,12 @@
 -- The literals of care models.
-use Rattle.std.proofs.Common.{◌≡◌, inl, inr, ℕ, zero, suc, ◌+◌, ◌-◌, ◌<◌, Bool, true, false, List, [], ◌∷◌, length, map, get_or, Option, Some, None, IfSome, refl, sym, ap, ap₂, ◌∙◌, subst, arith}
+use Rattle.std.proofs.Common.{◌≡◌, inl, inr, ℕ, ◌+◌, ◌-◌, ◌<◌, Bool, true, false, List, [], length, map, get_or, Option, Some, None, IfSome, refl, sym, ap, ap₂, ◌∙◌, subst, arith}
 use Rattle.std.specs.Prelude.{replicate}
 use Rattle.std.specs.List.{All}
-use Rattle.clause_decision.proofs.Common.{option_map_or, cases_lt, get_or-map, length-map, All-map, All-get_or, Sig, Trit, Zero, One, X, bit, bits, Parts, IsNetlist, count, gate_at, no_gate, wire, fix, fix_gates, first_gate, gate_of, value_in, CareModel, CareSet, columns, holds_at, Formula, Rails, IsWanted, IsClosed, SaysNetlist, says, IsModel, Reads, ReadsAll, AreWithin, rails_at, no_rails, ReadsAll-at, SaysTest, ReadsWithin}
+use Rattle.clause_decision.proofs.Common.{option_map_or, cases_lt, get_or-map, length-map, All-map, All-nil, All-get_or, Sig, Trit, Zero, One, X, bit, bits, Parts, IsNetlist, count, gate_at, no_gate, wire, fix, fix_gates, first_gate, gate_of, value_in, CareModel, CareSet, columns, holds_at, Formula, Rails, IsWanted, IsClosed, SaysNetlist, says, IsModel, Reads, ReadsAll, AreWithin, rails_at, no_rails, ReadsAll-at, SaysTest, ReadsWithin, All-contains}
 use Rattle.std.specs.Option.{option_map}
-use Rattle.std.proofs.lemmas.List.{get_or-replicate, get_or_append_left}
+use Rattle.std.proofs.lemmas.List.{get_or-replicate, get_or_append_left, length-replicate}
 use Rattle.std.proofs.lemmas.Option.{same_Some}
+use Rattle.cyc_base.proofs.OrderLemmas.{bits-at}
 use Rattle.netlist.specs.Walks.{IsLoopFree}
 use Rattle.loops.proofs.Determined.{loop_free_is_determined}
 use Rattle.loops.proofs.Reading.{wire_of_gate}
@@ -15,8 +16,9 @@ use Rattle.care_sets.proofs.CareLemmas.{vectors_serve_assume, states_serve_invar
 use Rattle.ternary_clauses.specs.Encoding.{AreNeverUnknown}
 use Rattle.ternary_clauses.specs.Rails.{is_one as is_one_rail}
 use Rattle.ternary_clauses.proofs.LawLemmas.{still_is_fix_without_loops}
-use Rattle.ternary_clauses.proofs.ReadingLemmas.{ReadsAll-from, ReadsAll-length}
+use Rattle.ternary_clauses.proofs.ReadingLemmas.{ReadsAll-length}
 use Rattle.clause_decision.specs.Formulas.{accepts}
+use Rattle.clause_decision.proofs.FormulaLemmas.{reads-map}
 
 -- ---- all gates are wanted
 
@@ -82,29 +84,15 @@ module _ (net : Parts) (valid : IsNetlist net) (free : IsLoopFree net) (given : 
 pub inputs-read : (model : CareModel) (m : List Bool) (rails list : List Rails) (values : List Bool) → All (λ column. column - model.first < length rails) model.columns →
     list ≡ map (λ column. rails_at rails (column - model.first)) model.columns → ReadsAll m rails (bits values) → ReadsAll m list (bits (inputs_at model values))
 inputs-read model m rails list values within is reads =
+    let long : length rails ≡ length values = ReadsAll-length m rails (bits values) reads ∙ length-map values bit in
     subst (λ (rs : List Rails). ReadsAll m rs (bits (inputs_at model values))) (sym is)
-    (ReadsAll-from m (map (λ column. rails_at rails (column - model.first)) model.columns) (bits (inputs_at model values)) no_rails X same each)
-  where
-    same : length (map (λ column. rails_at rails (column - model.first)) model.columns) ≡ length (bits (inputs_at model values))
-    same =
-        length-map model.columns (λ column. rails_at rails (column - model.first))
-        ∙ sym (length-map (inputs_at model values) bit ∙ length-map model.columns (λ column. get_or values (column - model.first) false))
+    (reads-map m (λ column. rails_at rails (column - model.first)) (λ column. get_or values (column - model.first) false) model.columns (λ column there.
+    let place : ℕ = column - model.first in
+    let low : place < length rails = All-contains (λ c. c - model.first < length rails) model.columns column within there in
+    subst (Reads m (rails_at rails place)) (bits-at values place (omega (arith, low, long))) (ReadsAll-at m rails (bits values) place no_rails X low reads)))
 
-    each : (i : ℕ) → i < length (map (λ column. rails_at rails (column - model.first)) model.columns) →
-        Reads m (get_or (map (λ column. rails_at rails (column - model.first)) model.columns) i no_rails) (get_or (bits (inputs_at model values)) i X)
-    each i less =
-        let inside : i < length model.columns = (let l = length-map model.columns (λ column. rails_at rails (column - model.first)) in omega (arith, less, l)) in
-        let place : ℕ = get_or model.columns i 0 - model.first in
-        let low : place < length rails = within i 0 inside in
-        let long : length rails ≡ length values = ReadsAll-length m rails (bits values) reads ∙ length-map values bit in
-        subst (λ (r : Rails). Reads m r (get_or (bits (inputs_at model values)) i X)) (sym (get_or-map (λ column. rails_at rails (column - model.first)) model.columns i 0 no_rails inside))
-        (subst (λ (t : Trit). Reads m (rails_at rails place) t)
-        (get_or-map bit values place false X (omega (arith, low, long))
-        ∙ sym (get_or-map bit (inputs_at model values) i false X (let l = length-map model.columns (λ column. get_or values (column - model.first) false) in omega (arith, inside, l)) ∙ ap bit (get_or-map (λ column. get_or values (column - model.first) false) model.columns i 0 false inside)))
-        (ReadsAll-at m rails (bits values) place no_rails X low reads))
-
--- so a literal for a model's inputs is one for the columns
-pub model-says : (old new : Formula) (model : CareModel) (rails list : List Rails) (literal : ℕ) → All (λ column. column - model.first < length rails) model.columns → list ≡ map (λ column. rails_at rails (column - model.first)) model.columns →
+-- so a literal for its inputs is one for the columns
+model-says : (old new : Formula) (model : CareModel) (rails list : List Rails) (literal : ℕ) → All (λ column. column - model.first < length rails) model.columns → list ≡ map (λ column. rails_at rails (column - model.first)) model.columns →
     SaysTest old new list (accepts model.net) literal → SaysTest old new rails (holds_at model) literal
 model-says old new model rails list literal within is said = record {
   grows = said.grows;
@@ -113,52 +101,49 @@ model-says old new model rails list literal within is said = record {
   complete = λ m values long holds reads. said.complete m (inputs_at model values) long holds (inputs-read model m rails list values within is reads);
 }
 
--- a model that is there, of its parts
-pub there : (o : Option CareModel) (net : Parts) (columns_read : List ℕ) → Some net ≡ option_map (λ model. model.net) o → columns_read ≡ option_map_or (λ model. model.columns) o [] → (first width : ℕ) → IfSome o (ReadsWithin first width) →
-    o ≡ Some (record { net = net; first = first; columns = columns_read })
-there None net columns_read is are first width reads = cc
-there (Some model) net columns_read is are first width reads =
-    ap₂ (λ (n : Parts) (cs : List ℕ). Some (record { net = n; first = model.first; columns = cs })) (sym (same_Some net model.net is)) (sym are)
-    ∙ ap (λ (f : ℕ). Some (record { net = net; first = f; columns = columns_read })) reads.start
+-- a model that may be there, of its parts, with rails for what it reads
+module _ (o : Option CareModel) (net : Parts) (columns_read : List ℕ) (first : ℕ) (rails given : List Rails) (is : Some net ≡ option_map (λ model. model.net) o) (are : columns_read ≡ option_map_or (λ model. model.columns) o [])
+    (reads : IfSome o (ReadsWithin first (length rails))) (given_is : given ≡ map (λ column. rails_at rails (column - first)) columns_read) where
+  pub held-within : (k : ℕ) → All (AreWithin k) rails → All (AreWithin k) given
+  held-within k all = by o are reads
+    where
+      by : (o : Option CareModel) → columns_read ≡ option_map_or (λ model. model.columns) o [] → IfSome o (ReadsWithin first (length rails)) → All (AreWithin k) given
+      by None e h = subst (All (AreWithin k)) (sym (given_is ∙ ap (map (λ column. rails_at rails (column - first))) e)) (All-nil (AreWithin k))
+      by (Some model) e h =
+          subst (All (AreWithin k)) (sym (given_is ∙ ap (map (λ column. rails_at rails (column - first))) e)) (All-map (AreWithin k) (λ column. rails_at rails (column - first)) model.columns
+          (λ j d less. All-get_or (AreWithin k) rails (get_or model.columns j d - first) no_rails (h.within j d less) all))
+
+  -- a literal for its inputs says whether it holds
+  pub held-says : (old new : Formula) (literal : ℕ) → SaysTest old new given (accepts net) literal → SaysTest old new rails (λ v. option_map_or (λ model. holds_at model v) o true) literal
+  held-says old new literal said = by o is are reads
+    where
+      by : (o : Option CareModel) → Some net ≡ option_map (λ model. model.net) o → columns_read ≡ option_map_or (λ model. model.columns) o [] → IfSome o (ReadsWithin first (length rails)) →
+          SaysTest old new rails (λ v. option_map_or (λ model. holds_at model v) o true) literal
+      by None e f h = absurd (cc)
+      by (Some model) e f h =
+          model-says old new model rails given literal (subst (λ k. All (λ column. column - k < length rails) model.columns) (sym h.start) h.within)
+          (given_is ∙ ap₂ (λ (k : ℕ) (cs : List ℕ). map (λ column. rails_at rails (column - k)) cs) (sym h.start) f)
+          (subst (λ (n : Parts). SaysTest old new given (accepts n) literal) (same_Some net model.net e) said)
 
 pub of-there : (o : Option CareModel) (model : CareModel) (P : CareModel → Type 0) → o ≡ Some model → IfSome o P → P model
 of-there o model P is holds = subst (λ (p : Option CareModel). IfSome p P) is holds
 
 -- ---- which columns they read
 
-vector : ℕ → List Bool
-vector zero = []
-vector (suc n) = false ∷ vector n
-
-wide-vector : (n : ℕ) → length (vector n) ≡ n
-unfolding vector
-wide-vector zero = refl
-wide-vector (suc n) = ap suc (wide-vector n)
+model-reads : (net : Parts) (first n width : ℕ) (o : Option CareModel) → IfSome o (IsBoundTo net first) → IfSome o (HasValues (replicate n false)) → width ≡ n → IfSome o (ReadsWithin first width)
+model-reads net first n width None b h is = tt
+model-reads net first n width (Some model) b h is = record {
+  start = b.start;
+  late = b.late;
+  within = λ k d inside. let low = h.each k d inside in let long = length-replicate n false in let start = b.start in omega (arith, low, long, is, start);
+}
 
 pub invariant-reads : (net : Parts) (care : CareSet) (width : ℕ) → IsCareOf net care → width ≡ length net.latches → IfSome care.invariant (ReadsWithin (length net.inputs) width)
-invariant-reads net care width bound is = by care.invariant bound.invariant (states_serve_invariant net care (vector (length net.latches)) bound (wide-vector (length net.latches)))
-  where
-    by : (o : Option CareModel) → IfSome o (IsBoundTo net (length net.inputs)) → IfSome o (HasValues (vector (length net.latches))) → IfSome o (ReadsWithin (length net.inputs) width)
-    by None b h = tt
-    by (Some model) b h = record {
-      start = b.start;
-      late = b.late;
-      within = λ k d inside. let low = h.each k d inside in let long = wide-vector (length net.latches) in let start = b.start in omega (arith, low, long, is, start);
-    }
+invariant-reads net care width bound is =
+    let n = length net.latches in
+    model-reads net (length net.inputs) n width care.invariant bound.invariant (states_serve_invariant net care (replicate n false) bound (length-replicate n false)) is
 
 pub assume-reads : (net : Parts) (care : CareSet) (width : ℕ) → IsCareOf net care → width ≡ columns net → IfSome care.assume (ReadsWithin 0 width)
-assume-reads net care width bound is = by care.assume bound.assume (vectors_serve_assume net care (vector (columns net)) bound (wide-vector (columns net)))
-  where
-    by : (o : Option CareModel) → IfSome o (IsBoundTo net 0) → IfSome o (HasValues (vector (columns net))) → IfSome o (ReadsWithin 0 width)
-    by None b h = tt
-    by (Some model) b h = record {
-      start = b.start;
-      late = b.late;
-      within = λ k d inside. let low = h.each k d inside in let long = wide-vector (columns net) in let start = b.start in omega (arith, low, long, is, start);
-    }
-
--- rails of columns are of the formula
-pub rails-within : (k : ℕ) (columns_read : List ℕ) (first : ℕ) (rails list : List Rails) → All (AreWithin k) rails → All (λ column. column - first < length rails) columns_read → list ≡ map (λ column. rails_at rails (column - first)) columns_read → All (AreWithin k) list
-rails-within k columns_read first rails list all within is =
-    subst (All (AreWithin k)) (sym is) (All-map (AreWithin k) (λ column. rails_at rails (column - first)) columns_read
-    (λ j d less. All-get_or (AreWithin k) rails (get_or columns_read j d - first) no_rails (within j d less) all))
+assume-reads net care width bound is =
+    let n = columns net in
+    model-reads net 0 n width care.assume bound.assume (vectors_serve_assume net care (replicate n false) bound (length-replicate n false)) is

@@ -1,9 +1,9 @@
 -- What signals stand for in a cone, where they are known at the fixpoint.
-use Rattle.std.proofs.Common.{◌≡◌, ◌≢◌, inl, inr, ℕ, zero, suc, ◌==◌, if◌then◌else◌, ◌<◌, ◌≤◌, ◌+◌, ◌-◌, ◌*◌, Bool, true, List, [], ◌∷◌, length, map, get_or, sym, ap, subst, ◌∙◌, arith}
+use Rattle.std.proofs.Common.{◌≡◌, ◌≢◌, inl, inr, ℕ, ◌==◌, if◌then◌else◌, ◌<◌, ◌≤◌, ◌+◌, ◌-◌, ◌*◌, Bool, true, List, [], ◌∷◌, length, map, get_or, sym, ap, subst, ◌∙◌, arith}
 use Rattle.std.specs.List.{All}
-use Rattle.clause_decision.proofs.Common.{cases_lt, length-map, length-take-le, get_or-take, All-map, All-take, All-get_or, Sig, Trit, X, bit, bits, Parts, count, wire, fix, fix_gates, first_gate, gate_of, value_in, columns, Rails, IsWanted, gate_rails, negation, Reads, ReadsAll, AreWithin, no_rails, rails_at, ReadsAll-at, IsWithin, column_rails, ReadsAbove, is_marked}
+use Rattle.clause_decision.proofs.Common.{cases_lt, length-map, length-take-le, get_or-take, All-cons, All-nil, All-map, All-take, All-get_or, Sig, Trit, X, bit, bits, Parts, count, wire, fix, fix_gates, first_gate, gate_of, value_in, columns, Rails, IsWanted, gate_rails, negation, Reads, ReadsAll, AreWithin, no_rails, rails_at, ReadsAll-at, IsWithin, column_rails, ReadsAbove, is_marked, Below-known}
 use Rattle.std.proofs.lemmas.List.{get_or_append_left}
-use Rattle.cyc_base.proofs.OrderLemmas.{Below-refl, Below-known}
+use Rattle.cyc_base.proofs.OrderLemmas.{Below-refl}
 use Rattle.cyc_base.proofs.ListLemmas.{parity}
 use Rattle.loops.proofs.Reading.{wire_of_gate}
 use Rattle.ternary_clauses.specs.Encoding.{ReadsGates}
@@ -15,10 +15,7 @@ negation-within l k less = elim (parity l) [
 ]
 
 pub three : (P : ℕ → Type 0) (a b c : ℕ) → P a → P b → P c → All P (a ∷ b ∷ c ∷ [])
-three P a b c x y z zero d less = x
-three P a b c x y z (suc zero) d less = y
-three P a b c x y z (suc (suc zero)) d less = z
-three P a b c x y z (suc (suc (suc k))) d less = absurd (omega (arith, less))
+three P a b c x y z = All-cons P a (b ∷ c ∷ []) x (All-cons P b (c ∷ []) y (All-cons P c [] z (All-nil P)))
 
 pub column_rails-length : (net : Parts) (rails : List Rails) → length rails ≡ count net → length (column_rails net rails) ≡ columns net
 column_rails-length net rails size = length-take-le (columns net) rails (omega (arith, size))

@@ -1,16 +1,16 @@
 -- A loop at one vector, sweep by sweep.
-use Rattle.std.proofs.Common.{◌≡◌, ◌≢◌, inl, inr, ℕ, suc, ◌<◌, ◌+◌, ◌==◌, Bool, true, false, ◌&&◌, leb, if◌then◌else◌, List, [], length, map, replicate, get_or, Contains, refl, sym, ap, ◌∙◌, arith}
+use Rattle.std.proofs.Common.{◌≡◌, ◌≢◌, inl, inr, ℕ, suc, ◌<◌, ◌+◌, ◌==◌, Bool, true, false, ◌&&◌, leb, if◌then◌else◌, List, [], length, map, get_or, Contains, refl, sym, ap, subst, ◌∙◌, arith}
+use Rattle.std.specs.List.{All}
 use Rattle.std.proofs.lemmas.Bool.{leb-true}
-use Rattle.clause_decision.proofs.Common.{Sig, Trit, X, bits, Parts, count, gate_at, no_gate, wire, fix, fix_gates, home_of, Loops, is_cut, CutsAreFixed, cuts_of, first_gate, gate_of, sweeps, value_in, map_agree, cut_values_agree, fixed_cuts_give_fix, IsSweeping, LoopAt, IsLoopAt, gates_in, loops_in}
+use Rattle.clause_decision.proofs.Common.{Contains-get_or, Sig, Trit, bits, count, gate_at, no_gate, wire, fix, home_of, is_cut, CutsAreFixed, first_gate, gate_of, sweeps, value_in, map_agree, IsSweeping, LoopAt, IsLoopAt, gates_in, loops_in}
 use Rattle.cover_logic.specs.Extensions.{ext}
 use Rattle.loops.specs.Cuts.{in_one_loop}
-use Rattle.loops.specs.Sweeps.{cuts, gate_in, in_loop_of, pin_in, sweep}
+use Rattle.loops.specs.Sweeps.{gate_in, in_loop_of, pin_in}
 use Rattle.loops.proofs.OrderedSweeps.{sweep_of_one_loop}
 use Rattle.loops.proofs.Reading.{choice, in_loop_from}
-use Rattle.loops.proofs.Sweeps.{still_is_fix}
-use Rattle.clause_decision.specs.Events.{cover_value}
+use Rattle.clause_decision.specs.Events.{cover_value, IsSwept}
 use Rattle.clause_decision.specs.Simulations.{seen_of}
-use Rattle.clause_decision.proofs.LoopLemmas.{are-loops, cut-of, gate-fits, of-loop, same-home}
+use Rattle.clause_decision.proofs.LoopLemmas.{are-loops, gate-fits, moved-unfixed, of-loop, same-home, unmoved-fixed}
 
 first-same : (b d : Bool) (x y z w : Trit) → (b ≡ true → d ≡ true → x ≡ w) → choice b d x y z ≡ choice b d w y z
 first-same true true x y z w h = h refl refl
@@ -82,37 +82,19 @@ module _ (l : LoopAt) (is_loop : IsLoopAt l) where
 
     -- where a cut wire changes in a sweep, the loop wasn't at the fixpoint
     pub changed-needs : (wire : ℕ) → Contains (gates_in l) wire → is_cut l.cut.wires wire ≡ true → value_in before wire ≢ value_in after wire → (a : ℕ) → Contains (gates_in l) a → ¬ CutsAreFixed l.net (loops_in l) (bits v) a k
-    changed-needs wire there is differs a inside fixed =
-        let are_loops = are-loops l is_loop in
-        let same = (of-loop l is_loop a inside).1 wire there in
-        let later = (fixed_cuts_give_fix l.net (loops_in l) are_loops (bits v) wide a k fixed).0 in
-        differs
-        (at_before wire there is
-        ∙ cut_values_agree l.net (loops_in l) are_loops a (sweeps l.net (loops_in l) (bits v) k) (fix_gates l.net (bits v)) fixed wire same is
-        ∙ sym (cut_values_agree l.net (loops_in l) are_loops a (sweeps l.net (loops_in l) (bits v) (suc k)) (fix_gates l.net (bits v)) later wire same is)
-        ∙ sym (at-next wire there))
+    changed-needs wire there is differs = moved-unfixed l is_loop (bits v) wide k wire there is (λ e. differs (at_before wire there is ∙ e ∙ sym (at-next wire there)))
 
     -- and where none does, it was
     pub still-fixed : ((n : ℕ) → Contains (gates_in l) n → is_cut l.cut.wires n ≡ true → value_in before n ≡ value_in after n) → (a : ℕ) → Contains (gates_in l) a →
         CutsAreFixed l.net (loops_in l) (bits v) a k
-    still-fixed same a inside =
-        map_agree (value_in (sweeps l.net (loops_in l) (bits v) k)) (value_in (fix_gates l.net (bits v))) (cuts_of l.net (loops_in l) a)
-        (λ j d low.
-        let n : ℕ = get_or (cuts_of l.net (loops_in l) a) j d in
-        let is = cut-of l.net (loops_in l) a j d low in
-        sym (still-at n is.0 is.1)
-        ∙ still_is_fix l.net (loops_in l) (are-loops l is_loop) (bits v) wide a k still n is.0)
-      where
-        still-at : (n : ℕ) → (loops_in l).same a n ≡ true → (loops_in l).cut n ≡ true → value_in (sweeps l.net (loops_in l) (bits v) (suc k)) n ≡ value_in (sweeps l.net (loops_in l) (bits v) k) n
-        still-at n one is_cut =
-            let there : Contains (gates_in l) n = (of-loop l is_loop a inside).0 n one in
-            sym (at-next n there) ∙ sym (same n there is_cut) ∙ at_before n there is_cut
+    still-fixed same = unmoved-fixed l is_loop (bits v) wide k (λ n there is. sym (at-next n there) ∙ sym (same n there is) ∙ at_before n there is)
 
-        still : cuts l.net (loops_in l) (bits v) a (suc k) ≡ cuts l.net (loops_in l) (bits v) a k
-        still =
-            map_agree (value_in (sweeps l.net (loops_in l) (bits v) (suc k))) (value_in (sweeps l.net (loops_in l) (bits v) k)) (cuts_of l.net (loops_in l) a)
-            (λ j d low. let is = cut-of l.net (loops_in l) a j d low in still-at (get_or (cuts_of l.net (loops_in l) a) j d) is.0 is.1)
+-- a sweep of values that are those of the fixpoint
+pub swept_at : (l : LoopAt) (read outside seen before after : List Trit) (changed : List ℕ) → read ≡ outside → seen ≡ before → IsSwept l read seen after changed → IsSwept l outside before after changed
+swept_at l read outside seen before after changed first second h =
+    subst (λ (s : List Trit). IsSwept l s before after changed) first (subst (λ (s : List Trit). IsSwept l read s after changed) second h)
 
--- before the first sweep all is unknown
-pub unknown-first : (net : Parts) (loops : Loops) (v before : List Trit) → before ≡ replicate (length net.gates) X → (n : ℕ) → value_in before n ≡ value_in (sweeps net loops v 0) n
-unknown-first net loops v before is n = ap (λ (s : List Trit). value_in s n) is
+-- the cut wires that have changed are gates
+pub changed-fits : (l : LoopAt) → IsLoopAt l → (outside before after : List Trit) (changed read : List ℕ) → read ≡ changed → IsSwept l outside before after changed → All (λ n. n < length l.net.gates) read
+changed-fits l is outside before after changed read same swept =
+    subst (All (λ n. n < length l.net.gates)) (sym same) (λ k d low. gate-fits l is (get_or changed k d) (swept.unseen.inside (get_or changed k d) (Contains-get_or changed k d low)))

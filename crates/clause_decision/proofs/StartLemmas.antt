@@ -1,5 +1,5 @@
 -- What inits ask of a state.
-use Rattle.std.proofs.Common.{◌≡◌, inl, inr, ℕ, zero, suc, ◌+◌, ◌-◌, ◌*◌, ◌==◌, if◌then◌else◌, ◌<◌, Bool, true, false, not, ◌&&◌, List, [], ◌∷◌, ◌++◌, length, take, get_or, refl, sym, ap, ap₂, ◌∙◌, subst, arith}
+use Rattle.std.proofs.Common.{◌≡◌, ℕ, zero, suc, ◌+◌, ◌*◌, ◌<◌, Bool, true, false, not, ◌&&◌, List, [], ◌∷◌, ◌++◌, length, take, get_or, refl, sym, ap, ap₂, ◌∙◌, arith}
 use Rattle.std.specs.Prelude.{zip}
 use Rattle.clause_decision.proofs.Common.{list_all, All-nil, bit, bits, Latch, Parts, CareSet, is_in_invariant, Rails, says, negation, Reads, ReadsAll, AreWithin, is_one, says-negation, asked_starts}
 use Rattle.std.specs.List.{All}
@@ -7,7 +7,6 @@ use Rattle.std.proofs.lemmas.List.{append_assoc, append-nil}
 use Rattle.std.proofs.lemmas.List.Elements.{All-append}
 use Rattle.std.proofs.lemmas.List.Folds.{list_all-append}
 use Rattle.cyc_base.proofs.TruthLemmas.{and_comm}
-use Rattle.cyc_base.proofs.ListLemmas.{parity}
 use Rattle.netlist.specs.declared.parts.Init.{Init}
 use Rattle.netlist.specs.declared.parts.Init.TheVariants.{Zero, One, Either}
 use Rattle.refusals.specs.Refusals.{is_initial, may_start}
@@ -73,13 +72,3 @@ starts-within n [] rails all = All-nil (λ l. l < 2 * n)
 starts-within n (l ∷ latches) [] all = All-nil (λ l. l < 2 * n)
 starts-within n (l ∷ latches) (r ∷ rails) all =
     All-append (λ x. x < 2 * n) (asked_of l.init r) (asked_starts latches rails) (asked-within n l.init r (all 0 r (omega arith))) (starts-within n latches rails (λ k d less. all (suc k) d (omega (arith, less))))
-
-pub negation-within : (n l : ℕ) → l < 2 * n → negation l < 2 * n
-negation-within n l less = elim (parity l) [
-  | inl even ↦ subst (λ (x : ℕ). x < 2 * n) (sym (ap (λ (r : ℕ). if r == 0 then l + 1 else l - 1) even)) (omega (arith, less, even))
-  | inr odd ↦ subst (λ (x : ℕ). x < 2 * n) (sym (ap (λ (r : ℕ). if r == 0 then l + 1 else l - 1) odd)) (omega (arith, less))
-]
-
-pub cons-within : (n l : ℕ) (ls : List ℕ) → l < n → All (λ x. x < n) ls → All (λ x. x < n) (l ∷ ls)
-cons-within n l ls first rest zero d less = first
-cons-within n l ls first rest (suc k) d less = rest k d (omega (arith, less))

@@ -1,32 +1,31 @@
 -- Sweeps of a loop on top of a cone, and how many are needed.
-use Rattle.std.proofs.Common.{◌≡◌, inl, inr, ℕ, zero, suc, ◌<◌, ◌≤◌, ◌+◌, ◌-◌, ◌*◌, Bool, true, false, not, ◌&&◌, ◌||◌, List, [], ◌∷◌, length, map, get_or, leb, Contains, refl, sym, ap, subst, ◌∙◌, arith, true≢false}
-use Rattle.std.specs.List.{All, list_any, range_with_len}
-use Rattle.clause_decision.proofs.Common.{cases_lt, and_parts, length-map, get_or_default, take_all, All-map, All-get_or, Contains-get_or, Sig, Trit, X, bit, bits, Parts, IsNetlist, count, gate_at, no_gate, signal, fix_gates, block_at, Loops, is_cut, CutsAreFixed, cuts_of, first_gate, gate_of, sweeps, value_in, map_agree, cut_values_agree, fixed_cuts_give_fix, gate_home, CareSet, columns, state_of, is_allowed, is_in_invariant, IsCareVector, Formula, Rails, IsWanted, gate_rails, says, negation, IsModel, HasModelFrom, Grows, Reads, ReadsAll, AreWithin, no_rails, rails_at, is_known, SaysAny, ReadsPlaces, says-negation, All-within-more, problem, HasNoModelUnder, models-same, column_rails, vector_in, ReadsFix, IsCone, first_number, AreTooFewAt, NeedAtLeast, TellsTooFew, AreCutPlaces, LoopAt, IsLoopAt, gates_in, loops_in, is_marked, AreClosed, IsCountAt, IsLeastCount, IsSwept}
+use Rattle.std.proofs.Common.{◌≡◌, inl, inr, ℕ, zero, suc, ◌<◌, ◌≤◌, ◌+◌, ◌-◌, ◌*◌, Bool, true, false, not, List, [], ◌∷◌, length, map, get_or, leb, Contains, refl, sym, ap, subst, ◌∙◌, arith, true≢false}
+use Rattle.std.specs.List.{All, list_any}
+use Rattle.clause_decision.proofs.Common.{cases_lt, length-map, get_or_default, take_all, All-map, All-get_or, Contains-get_or, Sig, Trit, X, bit, bits, Parts, IsNetlist, count, gate_at, no_gate, signal, fix_gates, block_at, Loops, CutsAreFixed, cuts_of, first_gate, gate_of, sweeps, value_in, map_agree, cut_values_agree, fixed_cuts_give_fix, gate_home, CareSet, columns, IsCareVector, Formula, Rails, IsWanted, gate_rails, says, negation, IsModel, HasModelFrom, Grows, Reads, ReadsAll, AreWithin, no_rails, rails_at, is_known, SaysAny, ReadsPlaces, says-negation, All-within-more, problem, HasNoModelUnder, models-same, column_rails, vector_in, ReadsFix, IsCone, first_number, AreTooFewAt, NeedAtLeast, TellsTooFew, AreCutPlaces, LoopAt, IsLoopAt, gates_in, loops_in, is_marked, AreClosed, IsCountAt, IsLeastCount, IsSwept, All-contains, Below-known, IsModelUnder}
 use Rattle.std.proofs.lemmas.Bool.{and_from, le-leb}
-use Rattle.std.proofs.lemmas.List.{get_or-replicate}
-use Rattle.std.proofs.lemmas.List.Elements.{All-contains}
-use Rattle.cyc_base.proofs.OrderLemmas.{EachBelow-at, Below-known}
+use Rattle.std.proofs.lemmas.List.{get_or-replicate, get_or_past}
+use Rattle.std.proofs.lemmas.List.Folds.{Any-from_list_any, list_any_at}
+use Rattle.cyc_base.proofs.ListLemmas.{list_any-map}
+use Rattle.cyc_base.proofs.OrderLemmas.{EachBelow-at}
 use Rattle.netlist.specs.Walks.{Feeds}
 use Rattle.loops.specs.Cuts.{AreLoopsOf}
 use Rattle.loops.specs.Sweeps.{in_loop_of}
 use Rattle.loops.proofs.LoopCuts.{has-cut}
-use Rattle.loops.proofs.Reading.{Contains-filter_from}
 use Rattle.loops.proofs.Sweeps.{sweeps_stay_below_fix}
 use Rattle.refusals.specs.Acceptance.{SomeCareVector}
 use Rattle.ternary_clauses.specs.Sweeps.{ReadsOutside, SaysSweep}
 use Rattle.clause_queries.specs.declared.query.Reply.{Reply}
 use Rattle.clause_queries.specs.declared.query.Reply.TheVariants as replies
-use Rattle.clause_queries.specs.Queries.{IsModelUnder, IsReply}
+use Rattle.clause_queries.specs.Queries.{IsReply}
 use Rattle.clause_decision.specs.declared.counting.Sign.{Sign}
 use Rattle.clause_decision.specs.declared.counting.Sign.TheVariants as signs
 use Rattle.clause_decision.specs.declared.sweeping.Swept.{Swept}
 use Rattle.clause_decision.specs.Countings.{AreEnough, Serves}
 use Rattle.clause_decision.specs.Scopes.{AreKnownOnCare}
 use Rattle.clause_decision.specs.Sweepings.{open_literals, AreKnownAfter, IsOpenAt, SaysOpen, TellsOpen}
-use Rattle.clause_decision.proofs.FormulaLemmas.{ones-read}
-use Rattle.clause_decision.proofs.ConeLemmas.{cone-grows}
-use Rattle.clause_decision.proofs.LoopLemmas.{are-loops, cuts-enough, gate-fits, of-loop}
-use Rattle.clause_decision.proofs.SignalLemmas.{negation-within, column_rails-length, signal-at, gate-read, three}
+use Rattle.clause_decision.proofs.ConeLemmas.{care-read, care-under, cone-grows}
+use Rattle.clause_decision.proofs.LoopLemmas.{are-loops, cut-of, cuts-enough, gate-fits, of-loop}
+use Rattle.clause_decision.proofs.SignalLemmas.{negation-within, signal-at, gate-read}
 use Rattle.clause_decision.proofs.UnknownLemmas.{unknown-value}
 
 -- ---- a literal for the cut wires that are unknown
@@ -61,21 +60,12 @@ pub record AnyAt (p : ℕ → Bool) (xs : List ℕ) : Type 0 where
   pub passes : p (get_or xs place 0) ≡ true
 
 pub any-at : (f : ℕ → ℕ) (p : ℕ → Bool) (xs : List ℕ) → list_any p (map f xs) ≡ true → AnyAt (λ x. p (f x)) xs
-any-at f p [] e = absurd (true≢false (sym e))
-any-at f p (x ∷ xs) e = by (p (f x)) refl e (any-at f p xs)
-  where
-    by : (b : Bool) → p (f x) ≡ b → (b || list_any p (map f xs)) ≡ true → (list_any p (map f xs) ≡ true → AnyAt (λ y. p (f y)) xs) → AnyAt (λ y. p (f y)) (x ∷ xs)
-    by true is h after = record { place = 0; less = omega arith; passes = is }
-    by false is h after = let rest = after h in record { place = suc rest.place; less = (let l = rest.less in omega (arith, l)); passes = rest.passes }
+any-at f p xs e =
+    let found = Any-from_list_any (λ x. p (f x)) xs (sym (list_any-map p f xs) ∙ e) in
+    record { place = found.0; less = found.2; passes = ap (λ x. p (f x)) (get_or_default xs found.0 0 found.1 found.2 ∙ found.3) ∙ found.4 }
 
 pub any-from : (f : ℕ → ℕ) (p : ℕ → Bool) (xs : List ℕ) (k : ℕ) → k < length xs → p (f (get_or xs k 0)) ≡ true → list_any p (map f xs) ≡ true
-any-from f p [] k less e = absurd (omega (arith, less))
-any-from f p (x ∷ xs) zero less e = ap (λ b. b || list_any p (map f xs)) e
-any-from f p (x ∷ xs) (suc k) less e = ap (λ b. p (f x) || b) (any-from f p xs k (omega (arith, less)) e) ∙ or-true (p (f x))
-  where
-    or-true : (b : Bool) → (b || true) ≡ true
-    or-true true = refl
-    or-true false = refl
+any-from f p xs k less e = list_any-map p f xs ∙ list_any_at (λ x. p (f x)) xs k 0 less e
 
 -- ---- a swept loop whose clauses grow
 
@@ -94,13 +84,8 @@ module _ (net : Parts) (marks : List Bool) (loops : Loops) (gates : List ℕ) (p
   gate-within : (n : ℕ) → is_marked marks n ≡ true → n < length net.gates
   gate-within n is = elim (cases_lt n (length net.gates)) [
     | inl less ↦ less
-    | inr high ↦ absurd (true≢false (sym is ∙ past marks n (omega (arith, high, width))))
+    | inr high ↦ absurd (true≢false (sym is ∙ get_or_past marks n false (omega (arith, high, width))))
   ]
-    where
-      past : (bs : List Bool) (k : ℕ) → length bs ≤ k → get_or bs k false ≡ false
-      past [] k l = refl
-      past (b ∷ bs) zero l = absurd (omega (arith, l))
-      past (b ∷ bs) (suc k) l = past bs k (omega (arith, l))
 
   -- it stands for the fixpoint where the gates of the scope do that feed the loop
   pub fed-read : (rails : List Rails) (m v : List Bool) → length rails ≡ count net → length v ≡ columns net → ReadsAll m (column_rails net rails) (bits v) →
@@ -166,11 +151,7 @@ module _ (net : Parts) (care : CareSet) (marks : List Bool) (loops : Loops) (gat
   open-at m under =
       let is : IsModel m f = sym (models-same f m) ∙ under.model in
       let v : List Bool = vector_in net rails m in
-      let counts : IsCareVector net care v = record {
-        width = length-map (column_rails net rails) (λ (r : Rails). says m r.one) ∙ column_rails-length net rails cone.size;
-        state = sym (cone.inside_tells m is) ∙ under.assumed 0 0 (omega arith);
-        allowed = sym (cone.allowed_tells m is) ∙ under.assumed 1 0 (omega arith);
-      } in
+      let counts : IsCareVector net care v = care-read cone m is (under.assumed 0 0 (omega arith)) (under.assumed 1 0 (omega arith)) in
       let any : AnyAt (λ i. says m (negation (rails_at copies i).known)) places =
       any-at (λ i. negation (rails_at copies i).known) (says m) places (sym (tells m is) ∙ under.assumed 2 0 (omega arith)) in
       let i : ℕ = get_or places any.place 0 in
@@ -189,7 +170,6 @@ module _ (net : Parts) (care : CareSet) (marks : List Bool) (loops : Loops) (gat
   known-after none v counts n in_gates cut unknown =
       let has : ReadsFix net marks f rails v = cone.complete v counts.width in
       let m : List Bool = has.model in
-      let vector : vector_in net rails m ≡ v = sym (ones-read m (column_rails net rails) (vector_in net rails m) (cone.sound m has.holds)) ∙ ones-read m (column_rails net rails) v has.columns in
       let i : ℕ = in_gates.0 in
       let at : get_or gates i 0 ≡ n = get_or_default gates i 0 n in_gates.1 ∙ in_gates.2 in
       let placed : Contains places i = wires.each i in_gates.1 (ap loops.cut at ∙ cut) in
@@ -201,13 +181,7 @@ module _ (net : Parts) (care : CareSet) (marks : List Bool) (loops : Loops) (gat
       let literal_holds : says m literal ≡ true =
       tells m has.holds
       ∙ any-from (λ j. negation (rails_at copies j).known) (says m) places placed.0 placed.1 (ap (λ j. says m (negation (rails_at copies j).known)) at_place ∙ open_here) in
-      none m (record {
-        model = models-same f m ∙ has.holds;
-        assumed = three (λ l. says m l ≡ true) inside allowed literal
-            (cone.inside_tells m has.holds ∙ ap (λ u. is_in_invariant care (state_of net u)) vector ∙ counts.state)
-            (cone.allowed_tells m has.holds ∙ ap (is_allowed care) vector ∙ counts.allowed)
-            literal_holds;
-      })
+      none m (care-under cone v has counts literal literal_holds)
 
   pub tells-open : (reply : Reply) → IsReply (problem f) (inside ∷ allowed ∷ literal ∷ []) reply → TellsOpen net loops care gates rails k reply
   tells-open (replies.Model m) h = open-at m.items h.0
@@ -236,8 +210,7 @@ module _ (l : LoopAt) (is_loop : IsLoopAt l) where
       map_agree (value_in (sweeps l.net (loops_in l) (bits v) k)) (value_in (fix_gates l.net (bits v))) (cuts_of l.net (loops_in l) a)
       (λ j d low.
       let n : ℕ = get_or (cuts_of l.net (loops_in l) a) j d in
-      let kept = Contains-filter_from (λ g. (loops_in l).same a g && (loops_in l).cut g) (range_with_len 0 (length l.net.gates)) n (Contains-get_or (cuts_of l.net (loops_in l) a) j d low) in
-      let both = and_parts ((loops_in l).same a n) ((loops_in l).cut n) kept.0 in
+      let both = cut-of l.net (loops_in l) a j d low in
       sym (Below-known (value_in (sweeps l.net (loops_in l) (bits v) k) n) (value_in (fix_gates l.net (bits v)) n)
       (EachBelow-at (sweeps l.net (loops_in l) (bits v) k) (fix_gates l.net (bits v)) n (sweeps_stay_below_fix l.net (loops_in l) (bits v) (length-map v bit ∙ counts.width) k))
       (known v counts n ((of-loop l is_loop a inside).0 n both.0) both.1)))

@@ -1,10 +1,12 @@
 -- Which gates the models of a cone leave unknown.
-use Rattle.std.proofs.Common.{◌≡◌, inl, inr, ℕ, zero, suc, ◌<◌, ◌+◌, ◌*◌, Bool, true, false, not, ◌&&◌, ◌||◌, List, [], ◌∷◌, length, map, take, get_or, Option, Some, None, refl, sym, ap, ap₂, subst, ◌∙◌, arith, true≢false}
+use Rattle.std.proofs.Common.{◌≡◌, inl, inr, ℕ, ◌<◌, ◌+◌, ◌*◌, Bool, true, false, not, ◌&&◌, List, [], ◌∷◌, length, map, take, get_or, min, Option, Some, None, refl, sym, ap, ap₂, subst, ◌∙◌, arith, true≢false}
 use Rattle.std.specs.Prelude.{find, is_some}
 use Rattle.std.specs.List.{All, list_any}
-use Rattle.clause_decision.proofs.Common.{cases_lt, length-map, length-take-le, get_or-map, All-nil, All-cons, All-get_or, All-map, All-weaker, All-take, Trit, Zero, One, X, bits, Parts, wire, fix, fix_gates, count, gate_sig, first_gate, value_in, CareSet, columns, is_allowed, is_in_invariant, is_care_vector, state_of, Formula, Rails, IsWanted, gate_rails, says, negation, IsModel, ReadsAll, AreWithin, is_known, no_rails, SaysAny, says-negation, IsWithin, problem, HasNoModelUnder, Asks, models-same, column_rails, vector_in, ReadsAbove, ReadsFix, IsCone, is_marked, unknown_literals}
+use Rattle.clause_decision.proofs.Common.{cases_lt, length-map, length-take-le, get_or-map, get_or-take, get_or_default, All-get_or, All-map, All-weaker, Trit, Zero, One, X, bits, Parts, wire, fix, fix_gates, count, gate_sig, first_gate, value_in, CareSet, columns, is_allowed, is_in_invariant, is_care_vector, state_of, Formula, Rails, IsWanted, gate_rails, says, negation, IsModel, AreWithin, is_known, no_rails, SaysAny, says-negation, IsWithin, problem, HasNoModelUnder, Asks, models-same, column_rails, vector_in, ReadsAbove, ReadsFix, IsCone, is_marked, unknown_literals, IsModelUnder, Question, IsQuestionOf}
+use Rattle.std.proofs.lemmas.List.{length-take}
+use Rattle.std.proofs.lemmas.List.Folds.{Any-from_list_any, list_any_at}
 use Rattle.std.proofs.lemmas.Simd.{map-map}
-use Rattle.std.proofs.lemmas.Bool.{or_right, and_parts}
+use Rattle.std.proofs.lemmas.Bool.{and_parts}
 use Rattle.cyc_base.specs.Vectors.{vectors}
 use Rattle.cyc_base.proofs.OrderLemmas.{Below-unknown}
 use Rattle.cyc_base.proofs.VectorLemmas.{find-none}
@@ -12,18 +14,15 @@ use Rattle.refusals.specs.Refusals.{is_x, is_undetermined}
 use Rattle.refusals.proofs.FirstLemmas.{none_passes}
 use Rattle.refusals.proofs.RefusalLemmas.{gate_wire}
 use Rattle.refusals.proofs.ShowingLemmas.{is_x_decides}
-use Rattle.clause_decision.proofs.SignalLemmas.{negation-within, three}
+use Rattle.clause_decision.proofs.SignalLemmas.{negation-within, ones-within, three}
 use Rattle.clause_queries.specs.Each.{CanBe, CannotBe, TellEach}
 use Rattle.clause_queries.specs.Queries.{HasModelUnder, AreRising, IsFirst, IsFirstAt}
-use Rattle.clause_queries.specs.Vectors.{HasVector}
 use Rattle.clause_queries.specs.declared.first.First.{First}
 use Rattle.clause_queries.specs.declared.first.First.TheVariants as firsts
-use Rattle.clause_decision.specs.declared.question.Question.{Question}
-use Rattle.clause_decision.specs.Questions.{IsQuestionOf}
 use Rattle.clause_decision.specs.Tests.{is_unknown_at, is_unknown, IsFirstUnknown, TellsFirstUnknown, TellEachUnknown}
 use Rattle.clause_decision.specs.Unknowns.{TellUnknowns}
-use Rattle.clause_decision.proofs.ConeLemmas.{cone-kept}
-use Rattle.clause_decision.proofs.FormulaLemmas.{ones-read}
+use Rattle.clause_decision.proofs.ConeLemmas.{care-under, cone-kept, vector-read}
+use Rattle.clause_decision.proofs.FormulaLemmas.{question-of, two-within}
 
 -- ---- the first so many of a list
 
@@ -35,23 +34,19 @@ pub record Passes (p : ℕ → Bool) (xs : List ℕ) (many : ℕ) : Type 0 where
   pub passes : p (get_or xs place 0) ≡ true
 
 passes-of_any : (p : ℕ → Bool) (xs : List ℕ) (many : ℕ) → list_any p (take many xs) ≡ true → Passes p xs many
-passes-of_any p xs zero h = absurd (true≢false (sym h))
-passes-of_any p [] (suc many) h = absurd (true≢false (sym h))
-passes-of_any p (x ∷ xs) (suc many) h = by_test (passes-of_any p xs many) (p x) refl h
-  where
-    by_test : (list_any p (take many xs) ≡ true → Passes p xs many) → (t : Bool) → p x ≡ t → (t || list_any p (take many xs)) ≡ true → Passes p (x ∷ xs) (suc many)
-    by_test rest true here e = record { place = 0; early = omega arith; inside = omega arith; passes = here }
-    by_test rest false here e =
-        let later : Passes p xs many = rest e in
-        let early : later.place < many = later.early in
-        let inside : later.place < length xs = later.inside in
-        record { place = suc later.place; early = omega (arith, early); inside = omega (arith, inside); passes = later.passes }
+passes-of_any p xs many h =
+    let found = Any-from_list_any p (take many xs) h in
+    let low : found.0 < min many (length xs) = (let less = found.2 in let size = length-take many xs in omega (arith, less, size)) in
+    record {
+      place = found.0;
+      early = omega (arith, low);
+      inside = omega (arith, low);
+      passes = ap p (sym (get_or-take many xs found.0 0 (omega (arith, low))) ∙ get_or_default (take many xs) found.0 0 found.1 found.2 ∙ found.3) ∙ found.4;
+    }
 
 any-of_passes : (p : ℕ → Bool) (xs : List ℕ) (many j : ℕ) → j < many → j < length xs → p (get_or xs j 0) ≡ true → list_any p (take many xs) ≡ true
-any-of_passes p xs zero j early inside h = absurd (omega (arith, early))
-any-of_passes p [] (suc many) j early inside h = absurd (omega (arith, inside))
-any-of_passes p (x ∷ xs) (suc many) zero early inside h = ap (λ t. t || list_any p (take many xs)) h
-any-of_passes p (x ∷ xs) (suc many) (suc j) early inside h = or_right (p x) (list_any p (take many xs)) (any-of_passes p xs many j (omega (arith, early)) (omega (arith, inside)) h)
+any-of_passes p xs many j early inside h =
+    list_any_at p (take many xs) j 0 (let size = length-take many xs in omega (arith, early, inside, size)) (ap p (get_or-take many xs j 0 early) ∙ h)
 
 -- ---- values
 
@@ -59,9 +54,6 @@ pub unknown-value : (t : Trit) → not (is_known t) ≡ true → t ≡ X
 unknown-value X e = refl
 unknown-value Zero e = absurd (true≢false (sym e))
 unknown-value One e = absurd (true≢false (sym e))
-
-pub vector-read : (m : List Bool) (rs : List Rails) (v : List Bool) → ReadsAll m rs (bits v) → map (λ r. says m r.one) rs ≡ v
-vector-read m rs v h = sym (map-map (says m) (λ r. r.one) rs) ∙ ones-read m rs v h
 
 -- ---- a gate that is unknown at some care vector
 
@@ -106,14 +98,11 @@ unknowns-told net care marks old new rails inside allowed gates sums cone any =
 
 -- ---- the gates that a cone's models leave unknown
 
--- a model in which the columns read the vector, the care literals are true, and so is one more
+-- a model in which the columns read the vector, and the care literals are true and one more
 pub record HasUnknown (net : Parts) (f : Formula) (rails : List Rails) (inside allowed unknown : ℕ) (v : List Bool) : Type 0 where
   pub model : List Bool
-  pub holds : IsModel model f
   pub vector : vector_in net rails model ≡ v
-  pub inside_holds : says model inside ≡ true
-  pub allowed_holds : says model allowed ≡ true
-  pub unknown_holds : says model unknown ≡ true
+  pub under : IsModelUnder (problem f) (inside ∷ allowed ∷ unknown ∷ []) model
 
 module _ (net : Parts) (care : CareSet) (marks : List Bool) (f : Formula) (rails : List Rails) (inside allowed : ℕ) (cone : IsCone net care marks f rails inside allowed) where
   width : length (column_rails net rails) ≡ columns net
@@ -140,61 +129,34 @@ module _ (net : Parts) (care : CareSet) (marks : List Bool) (f : Formula) (rails
   unknown-read n within marked v wide h =
       let has : ReadsFix net marks f rails v = cone.complete v wide in
       let split = and_parts (is_care_vector net care v) (is_undetermined net (gate_sig net n) v) h in
-      let counts = and_parts (is_in_invariant care (state_of net v)) (is_allowed care v) split.0 in
+      let both = and_parts (is_in_invariant care (state_of net v)) (is_allowed care v) split.0 in
       let at : value_in (fix_gates net (bits v)) n ≡ X = sym (gate_wire net v n wide) ∙ is_x_decides (wire (fix net (bits v)) (gate_sig net n)) split.1 in
-      let vector : vector_in net rails has.model ≡ v = vector-read has.model (column_rails net rails) v has.columns in
       record {
         model = has.model;
-        holds = has.holds;
-        vector = vector;
-        inside_holds = cone.inside_tells has.model has.holds ∙ ap (λ w. is_in_invariant care (state_of net w)) vector ∙ counts.0;
-        allowed_holds = cone.allowed_tells has.model has.holds ∙ ap (is_allowed care) vector ∙ counts.1;
-        unknown_holds = says-negation has.model (gate_rails net rails n).known ∙ ap not ((has.fixpoint n (record { within = within; marked = marked })).known ∙ ap is_known at);
+        vector = vector-read cone v has;
+        under = care-under cone v has (record { width = wide; state = both.0; allowed = both.1 }) (negation (gate_rails net rails n).known)
+            (says-negation has.model (gate_rails net rails n).known ∙ ap not ((has.fixpoint n (record { within = within; marked = marked })).known ∙ ap is_known at));
       }
 
   -- ---- the question at which care vectors a gate is unknown
 
   module _ (n : ℕ) (within : n < length net.gates) (marked : is_marked marks n ≡ true) where
-    unknown-under : (v : List Bool) → HasUnknown net f rails inside allowed (negation (gate_rails net rails n).known) v →
-        HasVector (problem f) (map (λ r. r.one) (column_rails net rails)) (inside ∷ allowed ∷ negation (gate_rails net rails n).known ∷ []) v
-    unknown-under v has = record {
-      model = has.model;
-      under = record {
-        model = models-same f has.model ∙ has.holds;
-        assumed = All-cons (λ l. says has.model l ≡ true) inside (allowed ∷ negation (gate_rails net rails n).known ∷ []) has.inside_holds
-            (All-cons (λ l. says has.model l ≡ true) allowed (negation (gate_rails net rails n).known ∷ []) has.allowed_holds
-            (All-cons (λ l. says has.model l ≡ true) (negation (gate_rails net rails n).known) [] has.unknown_holds (All-nil (λ l. says has.model l ≡ true))));
-      };
-      reads = map-map (says has.model) (λ (r : Rails). r.one) (column_rails net rails) ∙ has.vector;
-    }
-
     asks-unknown : Asks (problem f) (map (λ r. r.one) (column_rails net rails)) (inside ∷ allowed ∷ negation (gate_rails net rails n).known ∷ []) (is_unknown_at net care n)
     asks-unknown = record {
       sound = λ m under.
           ap (is_unknown_at net care n) (map-map (says m) (λ (r : Rails). r.one) (column_rails net rails))
           ∙ unknown-there n within marked m (sym (models-same f m) ∙ under.model) (under.assumed 0 0 (omega arith)) (under.assumed 1 0 (omega arith)) (under.assumed 2 0 (omega arith));
-      complete = λ v wide h. unknown-under v (unknown-read n within marked v (wide ∙ length-map (column_rails net rails) (λ (r : Rails). r.one) ∙ width) h);
+      complete = λ v wide h.
+          let has : HasUnknown net f rails inside allowed (negation (gate_rails net rails n).known) v = unknown-read n within marked v (wide ∙ length-map (column_rails net rails) (λ (r : Rails). r.one) ∙ width) h in
+          record { model = has.model; under = has.under; reads = map-map (says has.model) (λ (r : Rails). r.one) (column_rails net rails) ∙ has.vector };
     }
 
     pub unknown-question : (q : Question) → q.formula ≡ f → q.columns.items ≡ map (λ r. r.one) (column_rails net rails) → q.assumed.items ≡ (inside ∷ allowed ∷ negation (gate_rails net rails n).known ∷ []) →
         IsQuestionOf (columns net) (is_unknown_at net care n) q
-    unknown-question q formula_is columns_are assumed_are = record {
-      askable = record {
-        columns = subst (λ (g : Formula). IsWithin g.variables q.columns.items) (sym formula_is)
-            (subst (IsWithin f.variables) (sym columns_are)
-            (All-map (λ l. l < 2 * f.variables) (λ (r : Rails). r.one) (column_rails net rails)
-            (All-weaker (AreWithin f.variables) (λ r. r.one < 2 * f.variables) (λ r is. is.one) (column_rails net rails) (All-take (AreWithin f.variables) (columns net) rails cone.within))));
-        assumed = subst (λ (g : Formula). IsWithin g.variables q.assumed.items) (sym formula_is)
-            (subst (IsWithin f.variables) (sym assumed_are)
-            (All-cons (λ l. l < 2 * f.variables) inside (allowed ∷ negation (gate_rails net rails n).known ∷ []) cone.inside_within
-            (All-cons (λ l. l < 2 * f.variables) allowed (negation (gate_rails net rails n).known ∷ []) cone.allowed_within
-            (All-cons (λ l. l < 2 * f.variables) (negation (gate_rails net rails n).known) [] (known-within net rails f.variables n cone.size cone.within within) (All-nil (λ l. l < 2 * f.variables))))));
-      };
-      wide = ap length columns_are ∙ length-map (column_rails net rails) (λ (r : Rails). r.one) ∙ width;
-      asks = subst (λ (g : Formula). Asks (problem g) q.columns.items q.assumed.items (is_unknown_at net care n)) (sym formula_is)
-          (subst (λ cs. Asks (problem f) cs q.assumed.items (is_unknown_at net care n)) (sym columns_are)
-          (subst (λ ls. Asks (problem f) (map (λ r. r.one) (column_rails net rails)) ls (is_unknown_at net care n)) (sym assumed_are) asks-unknown));
-    }
+    unknown-question q formula_is columns_are assumed_are =
+        question-of q formula_is columns_are assumed_are (ones-within net rails f.variables cone.within)
+        (three (λ l. l < 2 * f.variables) inside allowed (negation (gate_rails net rails n).known) cone.inside_within cone.allowed_within (known-within net rails f.variables n cone.size cone.within within))
+        (length-map (column_rails net rails) (λ (r : Rails). r.one) ∙ width) asks-unknown
 
 -- ---- for each gate whether it is unknown
 
@@ -212,14 +174,8 @@ module _ (net : Parts) (care : CareSet) (marks : List Bool) (f : Formula) (rails
 
   cannot-be : (i : ℕ) → i < length gates → CannotBe (problem f) literals (inside ∷ allowed ∷ []) i → is_unknown net care (get_or gates i 0) ≡ false
   cannot-be i less none = never-unknown net care (get_or gates i 0) (λ v wide h.
-      no_model (unknown-read net care marks f rails inside allowed cone (get_or gates i 0) (within i 0 less) (marked i 0 less) v wide h))
-    where
-      no_model : {v : List Bool} → HasUnknown net f rails inside allowed (negation (gate_rails net rails (get_or gates i 0)).known) v → ⊥
-      no_model {v} has =
-          none has.model (record {
-            model = models-same f has.model ∙ has.holds;
-            assumed = three (λ l. says has.model l ≡ true) inside allowed (get_or literals i 0) has.inside_holds has.allowed_holds (ap (says has.model) (each-literal i less) ∙ has.unknown_holds);
-          })
+      let has : HasUnknown net f rails inside allowed (negation (gate_rails net rails (get_or gates i 0)).known) v = unknown-read net care marks f rails inside allowed cone (get_or gates i 0) (within i 0 less) (marked i 0 less) v wide h in
+      none has.model (subst (λ l. IsModelUnder (problem f) (inside ∷ allowed ∷ l ∷ []) has.model) (sym (each-literal i less)) has.under))
 
   pub each-told : (found : List Bool) → TellEach (problem f) literals (inside ∷ allowed ∷ []) found → TellEachUnknown net care gates found
   each-told found told = record {
@@ -254,9 +210,7 @@ module _ (net : Parts) (care : CareSet) (marks : List Bool) (f : Formula) (rails
       told.says_each m model (i + 1) (omega (arith, next, size)) ∙ any-of_passes (says m) (unknown_literals net rails gates) (i + 1 + 1) some.place (omega (arith, early)) some.inside some.passes
 
   pub care-within : IsWithin f.variables (inside ∷ allowed ∷ [])
-  care-within =
-      All-cons (λ l. l < 2 * f.variables) inside (allowed ∷ []) told.cone.inside_within
-      (All-cons (λ l. l < 2 * f.variables) allowed [] told.cone.allowed_within (All-nil (λ l. l < 2 * f.variables)))
+  care-within = two-within (2 * f.variables) inside allowed told.cone.inside_within told.cone.allowed_within
 
   module _ (within : All (λ n. n < length net.gates) gates) (marked : All (λ n. is_marked marks n ≡ true) gates) where
     -- one of the first so many gates is unknown at a care vector
@@ -284,19 +238,12 @@ module _ (net : Parts) (care : CareSet) (marks : List Bool) (f : Formula) (rails
 
     known-of_sum : (j : ℕ) → j < length gates → HasNoModelUnder (problem f) (inside ∷ allowed ∷ get_or sums j 0 ∷ []) → is_unknown net care (get_or gates j 0) ≡ false
     known-of_sum j less none = never-unknown net care (get_or gates j 0) (λ v wide h.
-        no_model (unknown-read net care marks f rails inside allowed told.cone (get_or gates j 0) (within j 0 less) (marked j 0 less) v wide h))
-      where
-        no_model : {v : List Bool} → HasUnknown net f rails inside allowed (negation (gate_rails net rails (get_or gates j 0)).known) v → ⊥
-        no_model {v} has =
-            let sum : says has.model (get_or sums j 0) ≡ true =
-            told.says_each has.model has.holds j less
-            ∙ any-of_passes (says has.model) (unknown_literals net rails gates) (j + 1) j (omega arith) (omega (arith, less, literals-size)) (ap (says has.model) (literal-at j less) ∙ has.unknown_holds) in
-            none has.model (record {
-              model = models-same f has.model ∙ has.holds;
-              assumed = All-cons (λ l. says has.model l ≡ true) inside (allowed ∷ get_or sums j 0 ∷ []) has.inside_holds
-                  (All-cons (λ l. says has.model l ≡ true) allowed (get_or sums j 0 ∷ []) has.allowed_holds
-                  (All-cons (λ l. says has.model l ≡ true) (get_or sums j 0) [] sum (All-nil (λ l. says has.model l ≡ true))));
-            })
+        let has : HasUnknown net f rails inside allowed (negation (gate_rails net rails (get_or gates j 0)).known) v = unknown-read net care marks f rails inside allowed told.cone (get_or gates j 0) (within j 0 less) (marked j 0 less) v wide h in
+        let m = has.model in
+        let sum : says has.model (get_or sums j 0) ≡ true =
+        told.says_each m (sym (models-same f m) ∙ has.under.model) j less
+        ∙ any-of_passes (says m) (unknown_literals net rails gates) (j + 1) j (omega arith) (omega (arith, less, literals-size)) (ap (says m) (literal-at j less) ∙ has.under.assumed 2 0 (omega arith)) in
+        none m (record { model = has.under.model; assumed = three (λ l. says m l ≡ true) inside allowed (get_or sums j 0) (has.under.assumed 0 0 (omega arith)) (has.under.assumed 1 0 (omega arith)) sum }))
 
     first-at : (place : ℕ) → IsFirstAt (problem f) sums (inside ∷ allowed ∷ []) place → IsFirstUnknown net care gates place
     first-at place is =

@@ -27,13 +27,6 @@ abbrev pub SaysPair : List Bool → List Rails → Pair → ℕ → Type 0
 SaysPair m rails pair l = (s t : Trit) → Reads m (rails_at rails pair.here.0) s → Reads m (rails_at rails pair.there.0) t →
     says m l ≡ not (is_known (agreed s t))
 
--- The new formula says nothing but that each of these literals is true unless the wires of its pair are known and equal.
-pub record SayPairs (old new : Formula) (rails : List Rails) (pairs : List Pair) (literals : List ℕ) : Type 0 where
-  pub grows : Grows old new
-  pub within : IsWithin new.variables literals
-  pub says_each : (m : List Bool) → IsModel m new → AllZip (SaysPair m rails) pairs literals
-  pub complete : (m : List Bool) → length m ≡ old.variables → IsModel m old → HasModelFrom new m
-
 -- The new formula says nothing of the old one's variables that the old one doesn't, and this is a literal of it.
 pub record AddsLiteral (old new : Formula) (l : ℕ) : Type 0 where
   pub grows : Grows old new
@@ -45,6 +38,11 @@ pub record AddLiterals (old new : Formula) (literals : List ℕ) : Type 0 where
   pub grows : Grows old new
   pub within : IsWithin new.variables literals
   pub complete : (m : List Bool) → length m ≡ old.variables → IsModel m old → HasModelFrom new m
+
+-- The new formula says nothing but that each of these literals is true unless the wires of its pair are known and equal.
+pub record SayPairs (old new : Formula) (rails : List Rails) (pairs : List Pair) (literals : List ℕ) : Type 0 where
+  pub adds : AddLiterals old new literals
+  pub says_each : (m : List Bool) → IsModel m new → AllZip (SaysPair m rails) pairs literals
 
 -- these literals can be asked for: they are of the formula's variables
 pub record AreAskable (asked : Asked) : Type 0 where

@@ -49,68 +49,25 @@ module _ (graph : List (List ℕ)) (s : State) (group : Group) (marks : List Mar
     is : get_or s.path place 0 ≡ a
 
   of_group : (a : ℕ) → Contains (drop group.nodes s.path) a → IsOfGroup a
-  of_group a c =
-      let len = length-drop group.nodes s.path in
-      let l = c.1 in
-      record {
-        place = group.nodes + c.0;
-        from = omega arith;
-        within = omega arith;
-        is = sym (get_or-drop group.nodes s.path c.0 0) ∙ get_or_default (drop group.nodes s.path) c.0 0 a c.1 ∙ c.2;
-      }
+  of_group a c = grind (arith, length-drop, get_or-drop, get_or_default)
 
   open_of_group : (a : ℕ) (m : IsOfGroup a) → mark_of s.marks a ≡ Open m.place
   open_of_group a m = subst (λ (x : ℕ). mark_of s.marks x ≡ Open m.place) m.is (searching.sound.places m.place m.within)
 
   closed_now : (place : ℕ) → group.nodes ≤ place → place < length s.path → mark_of marks (get_or s.path place 0) ≡ Closed s.count
-  closed_now place from within =
-      let len = length-drop group.nodes s.path in
-      let at : get_or (drop group.nodes s.path) (place - group.nodes) 0 ≡ get_or s.path place 0 =
-      get_or-drop group.nodes s.path (place - group.nodes) 0 ∙ ap (λ n. get_or s.path n 0) (omega arith) in
-      rw at at (marked.inside (place - group.nodes) (omega arith))
+  closed_now place from within = grind (arith, length-drop group.nodes s.path, get_or-drop group.nodes s.path (place - group.nodes) 0)
 
   closed_still : (a component : ℕ) → mark_of s.marks a ≡ Closed component → mark_of marks a ≡ Closed component
-  closed_still a component h =
-      elim (marked.others a) [
-        | inl same ↦ same ∙ h
-        | inr c ↦ (let is_open = open_of_group a (of_group a c.0) in cc)
-      ]
+  closed_still a component h = grind (arith, open_of_group a, of_group a)
 
   closed_before : (a component : ℕ) → mark_of marks a ≡ Closed component → (mark_of s.marks a ≡ Closed component) ⊎ (IsOfGroup a × (component ≡ s.count))
-  closed_before a component h =
-      elim (marked.others a) [
-        | inl same ↦ inl (sym same ∙ h)
-        | inr c ↦ (let is = c.1 in inr (of_group a c.0, cc))
-      ]
+  closed_before a component h = grind (arith, of_group)
 
   open_before : (a place : ℕ) → mark_of marks a ≡ Open place → (mark_of s.marks a ≡ Open place) × (place < group.nodes)
-  open_before a place h =
-      elim (marked.others a) [
-        | inr c ↦ (let is = c.1 in cc)
-        | inl same ↦
-            let old : mark_of s.marks a ≡ Open place = sym same ∙ h in (
-              old,
-              elim (cases_lt place group.nodes) [
-                | inl before ↦ before
-                | inr past ↦
-                    let is = searching.sound.open_is a place old in
-                    let now = closed_now place past (searching.sound.open_within a place old) in
-                    cc
-              ],
-            )
-      ]
+  open_before a place h = grind (arith, cases_lt place group.nodes, closed_now place)
 
   open_still : (place : ℕ) → place < group.nodes → (a : ℕ) → mark_of s.marks a ≡ Open place → mark_of marks a ≡ Open place
-  open_still place before a h =
-      elim (marked.others a) [
-        | inl same ↦ same ∙ h
-        | inr c ↦
-            let m = of_group a c.0 in
-            let is_open = open_of_group a m in
-            let e : m.place ≡ place = cc in
-            let from = m.from in
-            absurd (omega arith)
-      ]
+  open_still place before a h = grind (arith, of_group a, open_of_group a)
 
   old_at : (place : ℕ) → place < group.nodes → get_or (take group.nodes s.path) place 0 ≡ get_or s.path place 0
   old_at place l = get_or-take group.nodes s.path place 0 l
@@ -142,9 +99,7 @@ module _ (graph : List (List ℕ)) (s : State) (group : Group) (marks : List Mar
       ]
     where
       followed : (place : ℕ) → group.nodes ≤ place → place < length s.path → component ≡ s.count → IsFollowed s place b → IsClosedBy marks b component
-      followed place from within e (closed number is) =
-          let below = searching.sound.closed_below b number is in
-          record { number = number; is = closed_still b number is; below = omega arith }
+      followed place from within e (closed number is) = grind arith
       followed place from within e (on_path later is all) =
           let at = searching.sound.open_is b later is in
           record {
@@ -153,40 +108,15 @@ module _ (graph : List (List ℕ)) (s : State) (group : Group) (marks : List Mar
                 (closed_now later (at_last (IsNoEarlier place later) all from) (searching.sound.open_within b later is));
             below = omega arith;
           }
-      followed place from within e (waits i inside is all) =
-          let beyond = at_last (WaitsNoEarlier place i) all from in
-          absurd (omega arith)
+      followed place from within e (waits i inside is all) = grind (arith, at_last)
 
   leads : (a b component : ℕ) → mark_of marks a ≡ Closed component → mark_of marks b ≡ Closed component → Leads graph a b
-  leads a b component h k =
-      elim (closed_before a component h) [
-        | inl one ↦
-            elim (closed_before b component k) [
-              | inl two ↦ searching.sound.closed_leads a b component one two
-              | inr two ↦ (let below = searching.sound.closed_below a component one in let e = two.1 in absurd (omega arith))
-            ]
-        | inr one ↦
-            elim (closed_before b component k) [
-              | inl two ↦ (let below = searching.sound.closed_below b component two in let e = one.1 in absurd (omega arith))
-              | inr two ↦ around a b one.0 two.0
-            ]
-      ]
+  leads a b component h k = grind (arith, closed_before, around)
 
   leaving : (i : ℕ) → i < length s.waiting → Leaves graph after i
   leaving i l =
       let old = searching.sound.leaves i l in
-      let len = front in
-      let before : old.place < group.nodes = elim (cases_lt old.place group.nodes) [
-        | inl before ↦ before
-        | inr past ↦ (let beyond = at_last (WaitsNoEarlier old.place i) old.before past in absurd (omega arith))
-      ] in
-      record {
-        place = old.place;
-        on_path = omega arith;
-        listed = rw (old_at old.place before) old.listed;
-        after = kept (StandsNoEarlier i old.place) old.after;
-        before = kept (WaitsNoEarlier old.place i) old.before;
-      }
+      grind (arith, front, cases_lt old.place group.nodes, at_last (WaitsNoEarlier old.place i) old.before, old_at old.place, kept (StandsNoEarlier i old.place) old.after, kept (WaitsNoEarlier old.place i) old.before)
 
   still : (place b : ℕ) → place < group.nodes → IsFollowed s place b → IsFollowed after place b
   still place b l (closed component is) = closed component (closed_still b component is)
@@ -201,17 +131,7 @@ module _ (graph : List (List ℕ)) (s : State) (group : Group) (marks : List Mar
       ]
 
   bottoms : (d : Group) → 0 < length (take group.nodes s.path) → (0 < length rest) × ((get_or rest 0 d).nodes ≡ 0)
-  bottoms d l =
-      let len = front in
-      let within = begins in
-      let old = searching.sound.bottom d (omega arith) in
-      let at : (get_or (rest ++ group ∷ []) 0 d).nodes ≡ 0 = rw last at old.1 in
-      elim (cases_lt 0 (length rest)) [
-        | inl some ↦ (some, sym (ap (λ (g : Group). g.nodes) (get_or_append_left rest (group ∷ []) d 0 some)) ∙ at)
-        | inr none ↦
-            let first : (get_or (rest ++ group ∷ []) 0 d).nodes ≡ group.nodes = ap (λ (g : Group). g.nodes) (get_or_push rest group d 0 (omega arith)) in
-            absurd (omega arith)
-      ]
+  bottoms d l = grind (arith, front, begins, last, cases_lt, get_or_append_left, get_or_push)
 
   pub closed_seen : StaysSeen s after
   closed_seen a h = elim (marked.others a) [ inl same ↦ sym same ∙ h | inr c ↦ (let is = c.1 in cc) ]
@@ -254,7 +174,4 @@ module _ (graph : List (List ℕ)) (s : State) (group : Group) (marks : List Mar
       }
 
   pub closed_left : steps_left graph after + 1 ≤ steps_left graph s
-  closed_left =
-      let len : length s.groups ≡ length rest + 1 = ap (λ (gs : List Group). length gs) last ∙ length_push rest group in
-      let fewer = new_cost-le (λ edges. length edges + 2) graph s.marks marks marked.size closed_seen in
-      omega arith
+  closed_left = grind (arith, last, length_push, new_cost-le, closed_seen)

@@ -12,40 +12,10 @@ use Rattle.components.proofs.WalkLemmas.{connected}
 use Rattle.components.proofs.OpenLemmas.{opened_sound, opened_follows, opened_seen}
 
 mark-replicate : (n a : ℕ) → mark_of (replicate n New) a ≡ New
-mark-replicate n a =
-    let len = length-replicate n New in
-    elim (cases_lt a n) [
-      | inl l ↦ get_or-replicate n a New New l
-      | inr past ↦ get_or_past (replicate n New) a New (omega arith)
-    ]
+mark-replicate n a = grind (arith, length-replicate, cases_lt, get_or-replicate, get_or_past)
 
 pub started_rests : (graph : List (List ℕ)) → Rests graph (started (length graph))
-started_rests graph =
-    let n = length graph in
-    record {
-      searching = record {
-        sound = record {
-          size = length-replicate (length graph) New;
-          room = (let cost = new_cost-start graph in omega arith);
-          closed_below = λ a component h. (let new = mark-replicate (length graph) a in cc);
-          closed_used = λ component l. absurd (omega arith);
-          closed_edges = λ a b component h edge. (let new = mark-replicate (length graph) a in cc);
-          closed_leads = λ a b component h k. (let new = mark-replicate (length graph) a in cc);
-          places = λ place l. absurd (omega arith);
-          open_within = λ a place h. (let new = mark-replicate (length graph) a in cc);
-          open_is = λ a place h. (let new = mark-replicate (length graph) a in cc);
-          forward = λ p q le l. absurd (omega arith);
-          backward = λ p q le l all. absurd (omega arith);
-          group_nodes = λ k d l. absurd (omega arith);
-          group_edges = λ k d l. absurd (omega arith);
-          rising = λ i j d l within. absurd (omega arith);
-          bottom = λ d l. absurd (omega arith);
-          leaves = λ i l. absurd (omega arith);
-        };
-        follows = λ place b l edge. absurd (omega arith);
-      };
-      path = refl;
-    }
+started_rests graph = grind (arith, length-replicate, new_cost-start, mark-replicate)
 
 module _ (graph : List (List ℕ)) (s : State) (root : ℕ) (rests : Rests graph s) (node : root < length graph) (new : mark_of s.marks root ≡ New) where
   empty : length s.path ≡ 0
@@ -85,27 +55,10 @@ module _ (graph : List (List ℕ)) (s : State) (done : HasExplored graph s (leng
   sound = done.rests.searching.sound
 
   is_closed : (a : ℕ) → a < length graph → mark_of s.marks a ≡ Closed (get_or home a 0)
-  is_closed a l = by_mark (mark_of s.marks a) refl
-    where
-      by_mark : (mark : Mark) → mark_of s.marks a ≡ mark → mark_of s.marks a ≡ Closed (get_or home a 0)
-      by_mark New e = absurd (done.seen a l e)
-      by_mark (Open place) e =
-          let within = sound.open_within a place e in
-          let empty = ap (λ (xs : List ℕ). length xs) done.rests.path in
-          absurd (omega arith)
-      by_mark (Closed component) e =
-          let size = sound.size in
-          let at = get_or-map component_of s.marks a New 0 (omega arith) in
-          let is : get_or home a 0 ≡ component = at ∙ ap component_of e in
-          e ∙ ap (λ n. Closed n) (sym is)
+  is_closed a l = grind (arith, get_or-map)
 
   home_of : (a component : ℕ) → mark_of s.marks a ≡ Closed component → (a < length graph) × (get_or home a 0 ≡ component)
-  home_of a component h =
-      let size = sound.size in
-      let within = marked_within s.marks a (Closed component) h (λ e. cc) in
-      let l : a < length graph = omega arith in
-      let is = is_closed a l in
-      (l, cc)
+  home_of a component h = grind (arith, marked_within, is_closed)
 
   order : (a b : ℕ) → Edge graph a b → get_or home b 0 ≤ get_or home a 0
   order a b edge =
@@ -116,17 +69,10 @@ module _ (graph : List (List ℕ)) (s : State) (done : HasExplored graph s (leng
 
   falls : (a b : ℕ) (via : List ℕ) → Walk graph a via b → get_or home b 0 ≤ get_or home a 0
   falls a b [] walk = order a b walk
-  falls a b (x ∷ via) walk =
-      let first = order a x walk.0 in
-      let others = falls x b via walk.1 in
-      omega arith
+  falls a b (x ∷ via) walk = grind (arith, order, falls x b via walk.1)
 
   one_home : (a b : ℕ) → AreStronglyConnected graph a b → get_or home a 0 ≡ get_or home b 0
-  one_home a b (inl e) = ap (λ n. get_or home n 0) e
-  one_home a b (inr both) =
-      let there = falls a b both.0.via both.0.walk in
-      let back = falls b a both.1.via both.1.walk in
-      omega arith
+  one_home a b h = grind (arith, falls)
 
   pub found : (made : Components) → made.count ≡ s.count → made.home ≡ map component_of s.marks → AreComponentsOf graph made
   found made count homes =

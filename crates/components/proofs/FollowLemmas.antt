@@ -13,24 +13,11 @@ use Rattle.components.proofs.WalkLemmas.{Leads-edge, Leads-trans}
 
 module _ (graph : List (List ℕ)) (s : State) where
   path_within : IsSound graph s → (place : ℕ) → place < length s.path → get_or s.path place 0 < length graph
-  path_within sound place l =
-      let size = sound.size in
-      let within = marked_within s.marks (get_or s.path place 0) (Open place) (sound.places place l) (λ e. cc) in
-      omega arith
+  path_within sound place l = grind (arith, marked_within)
 
   -- every node of the path leads to a node that an edge of the last group leads to
   pub path_leads : (target : ℕ) → IsSound graph s → LeavesTop graph s target → target < length graph → (p : ℕ) → p < length s.path → Leads graph (get_or s.path p 0) target
-  path_leads target sound edge node p l =
-      let at = edge.on_path in
-      let source = path_within sound edge.place at in
-      Leads-trans graph (get_or s.path p 0) (get_or s.path edge.place 0) target
-      (elim (cases_lt edge.place p) [
-        | inr before ↦ sound.forward p edge.place before at
-        | inl past ↦
-            sound.backward edge.place p (omega arith) l
-            (All-weaker (λ g. g.nodes ≤ edge.place) (IsNoEarlier p edge.place) (λ g h k. h) s.groups edge.top)
-      ])
-      (Leads-edge graph (get_or s.path edge.place 0) target (record { source = source; target = node; listed = edge.listed }))
+  path_leads target sound edge node p l = grind (arith, path_within sound edge.place, Leads-trans graph (get_or s.path p 0) (get_or s.path edge.place 0) target, cases_lt edge.place p, All-weaker, Leads-edge graph (get_or s.path edge.place 0) target)
 
   -- the last waiting edge leaves the last group, where that has its edges from before it on
   pub taken : (rest : List ℕ) (groups : List Group) (group : Group) (target : ℕ) → Searching graph s → s.waiting ≡ rest ++ target ∷ [] → s.groups ≡ groups ++ group ∷ [] → group.edges ≤ length rest →
@@ -119,14 +106,7 @@ module _ (graph : List (List ℕ)) (s : State) where
     pairs = AllPairs-left Begins new merged.cut.gone (rw merged.cut.is at following.sound.rising)
 
     low : All (λ g. g.nodes ≤ place) new
-    low k d l =
-        elim (cases_eq (k + 1) (length new)) [
-          | inl e ↦ merged.last d k e
-          | inr ne ↦
-              let before = pairs k (length new - 1) d (omega arith) (omega arith) in
-              let last = merged.last d (length new - 1) (omega arith) in
-              omega arith
-        ]
+    low k d l = grind (arith, cases_eq (k + 1) (length new), pairs k (length new - 1) d)
 
     backwards : (p r : ℕ) → p ≤ r → r < length s.path → All (IsNoEarlier r p) new → Leads graph (get_or s.path r 0) (get_or s.path p 0)
     backwards p r le l all =
@@ -156,14 +136,7 @@ module _ (graph : List (List ℕ)) (s : State) where
         let old = following.sound.bottom d l in
         let len : length s.groups ≡ length new + length merged.cut.gone = ap (λ (xs : List Group). length xs) merged.cut.is ∙ length-append new merged.cut.gone in
         let at : (get_or (new ++ merged.cut.gone) 0 d).nodes ≡ 0 = rw merged.cut.is at old.1 in
-        elim (cases_lt 0 (length new)) [
-          | inl some ↦ (some, sym (ap (λ (g : Group). g.nodes) (get_or_append_left new merged.cut.gone d 0 some)) ∙ at)
-          | inr none ↦
-              let first : (get_or (new ++ merged.cut.gone) 0 d).nodes ≡ (get_or merged.cut.gone 0 d).nodes =
-              ap (λ (g : Group). g.nodes) (get_or-append_right new merged.cut.gone 0 0 d (omega arith) (omega arith)) in
-              let past = merged.cut.past 0 d (omega arith) in
-              absurd (omega arith)
-        ]
+        grind (arith, cases_lt 0 (length new), get_or_append_left new merged.cut.gone d 0, get_or-append_right new merged.cut.gone 0 0 d)
 
     -- an edge to a node of the path is followed, once the groups from its own on are merged
     pub merged_searching : Searching graph (record s { groups = new })

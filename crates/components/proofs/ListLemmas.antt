@@ -15,31 +15,22 @@ module _ {X : Type 0} (P : X → Type 0) (xs ys : List X) where
       subst P (get_or_append_left xs ys d k l) (all k d (omega arith))
 
 pub All-last : {X : Type 0} (P : X → Type 0) (xs : List X) (y : X) → All P (xs ++ y ∷ []) → P y
-All-last {X} P xs y all =
-    let len = length_push xs y in
-    subst P (get_or_push xs y y (length xs) refl) (all (length xs) y (omega arith))
+All-last {X} P xs y all = grind (arith, length_push, get_or_push)
 
 -- the relation of a list's last element to the others
 pub AllPairs-last : {X : Type 0} (R : X → X → Type 0) (xs : List X) (y : X) → AllPairs R (xs ++ y ∷ []) → All (λ x. R x y) xs
-AllPairs-last {X} R xs y pairs k d l =
-    let len = length_push xs y in
-    let last : get_or (xs ++ y ∷ []) (length xs) d ≡ y = get_or_push xs y d (length xs) refl in
-    let first : get_or (xs ++ y ∷ []) k d ≡ get_or xs k d = get_or_append_left xs (y ∷ []) d k l in
-    subst (λ (x : X). R x y) first (subst (λ (z : X). R (get_or (xs ++ y ∷ []) k d) z) last (pairs k (length xs) d l (omega arith)))
+AllPairs-last {X} R xs y pairs k d l = grind (arith, length_push, get_or_push, get_or_append_left)
 
 pub AllPairs-left : {X : Type 0} (R : X → X → Type 0) (xs ys : List X) → AllPairs R (xs ++ ys) → AllPairs R xs
 AllPairs-left {X} R xs ys pairs i j d l within =
     let len = length-append xs ys in
     let before : i < length xs = omega arith in
-    subst (λ (x : X). R x (get_or xs j d)) (get_or_append_left xs ys d i before)
-    (subst (λ (z : X). R (get_or (xs ++ ys) i d) z) (get_or_append_left xs ys d j within) (pairs i j d l (omega arith)))
+    grind (arith, get_or_append_left xs ys d i before, get_or_append_left xs ys d j within)
 
 slice_get-get_or : {X : Type 0} (xs : List X) (i : ℕ) (x d : X) → slice_get xs i ≡ Some x → (i < length xs) × (get_or xs i d ≡ x)
 slice_get-get_or {X} [] i x d e = cc
 slice_get-get_or {X} (y ∷ ys) zero x d e = (omega arith, cc)
-slice_get-get_or {X} (y ∷ ys) (suc i) x d e =
-    let rest = slice_get-get_or ys i x d e in
-    (omega arith, rest.1)
+slice_get-get_or {X} (y ∷ ys) (suc i) x d e = grind (arith, slice_get-get_or ys i x d e)
 
 slice_get-none : {X : Type 0} (xs : List X) (i : ℕ) → slice_get xs i ≡ None → length xs ≤ i
 slice_get-none {X} [] i e = omega arith
@@ -69,8 +60,7 @@ mark-set_other marks v a mark ne = get_or-set_other marks v a mark New ne
 
 -- a node that isn't new is among those that have marks
 pub marked_within : (marks : List Mark) (a : ℕ) (mark : Mark) → mark_of marks a ≡ mark → (mark ≡ New → ⊥) → a < length marks
-marked_within marks a mark h old =
-    elim (cases_lt a (length marks)) [ inl l ↦ l | inr past ↦ absurd (old (sym h ∙ get_or_past marks a New past)) ]
+marked_within marks a mark h old = grind (arith, cases_lt, get_or_past)
 
 module _ (cost : List ℕ → ℕ) where
   -- a new node that is opened no longer counts
@@ -81,9 +71,7 @@ module _ (cost : List ℕ → ℕ) where
   new_cost-set (edges ∷ graph) (New ∷ marks) zero place g m e = omega arith
   new_cost-set (edges ∷ graph) (Open p ∷ marks) zero place g m e = cc
   new_cost-set (edges ∷ graph) (Closed c ∷ marks) zero place g m e = cc
-  new_cost-set (edges ∷ graph) (New ∷ marks) (suc v) place g m e =
-      let rest = new_cost-set graph marks v place (omega arith) (omega arith) e in
-      omega arith
+  new_cost-set (edges ∷ graph) (New ∷ marks) (suc v) place g m e = grind (arith, new_cost-set graph marks v place)
   new_cost-set (edges ∷ graph) (Open p ∷ marks) (suc v) place g m e = new_cost-set graph marks v place (omega arith) (omega arith) e
   new_cost-set (edges ∷ graph) (Closed c ∷ marks) (suc v) place g m e = new_cost-set graph marks v place (omega arith) (omega arith) e
 
@@ -100,15 +88,7 @@ module _ (cost : List ℕ → ℕ) where
     where
       by_heads : (m n : Mark) → (n ≡ New → m ≡ New) → new_cost cost graph new ≤ new_cost cost graph old →
           new_cost cost (edges ∷ graph) (n ∷ new) ≤ new_cost cost (edges ∷ graph) (m ∷ old)
-      by_heads New New h rest = omega arith
-      by_heads New (Open p) h rest = omega arith
-      by_heads New (Closed c) h rest = omega arith
-      by_heads (Open q) New h rest = let e = h refl in cc
-      by_heads (Open q) (Open p) h rest = omega arith
-      by_heads (Open q) (Closed c) h rest = omega arith
-      by_heads (Closed q) New h rest = let e = h refl in cc
-      by_heads (Closed q) (Open p) h rest = omega arith
-      by_heads (Closed q) (Closed c) h rest = omega arith
+      by_heads m n h rest = grind arith
 
 -- each node is new at first
 pub new_cost-start : (graph : List (List ℕ)) → new_cost (λ _. 1) graph (replicate (length graph) New) ≡ length graph

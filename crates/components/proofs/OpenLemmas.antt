@@ -15,27 +15,13 @@ use Rattle.components.proofs.ListLemmas.{All-left, All-last, mark-set_same, mark
 module _ (graph : List (List ℕ)) (s : State) (v : ℕ) (sound : IsSound graph s) (node : v < length graph) (new : mark_of s.marks v ≡ New) where
   -- marks after the node's is set
   closed_before : (a component : ℕ) → mark_of (set s.marks v (Open (length s.path))) a ≡ Closed component → mark_of s.marks a ≡ Closed component
-  closed_before a component h =
-      let size = sound.size in
-      elim (cases_eq a v) [
-        | inl e ↦ (let here = mark-set_same s.marks v (Open (length s.path)) (omega arith) in cc)
-        | inr ne ↦ sym (mark-set_other s.marks v a (Open (length s.path)) ne) ∙ h
-      ]
+  closed_before a component h = grind (arith, cases_eq, mark-set_same, mark-set_other)
 
   kept : (a : ℕ) (mark : Mark) → mark_of s.marks a ≡ mark → (mark ≡ New → ⊥) → mark_of (set s.marks v (Open (length s.path))) a ≡ mark
-  kept a mark h old =
-      elim (cases_eq a v) [
-        | inl e ↦ absurd (old (cc))
-        | inr ne ↦ mark-set_other s.marks v a (Open (length s.path)) ne ∙ h
-      ]
+  kept a mark h old = grind (arith, cases_eq, mark-set_other)
 
   open_before : (a place : ℕ) → mark_of (set s.marks v (Open (length s.path))) a ≡ Open place → ((a ≡ v) × (place ≡ length s.path)) ⊎ (mark_of s.marks a ≡ Open place)
-  open_before a place h =
-      let size = sound.size in
-      elim (cases_eq a v) [
-        | inl e ↦ (let here = mark-set_same s.marks v (Open (length s.path)) (omega arith) in inl (e, cc))
-        | inr ne ↦ inr (sym (mark-set_other s.marks v a (Open (length s.path)) ne) ∙ h)
-      ]
+  open_before a place h = grind (arith, cases_eq, mark-set_same, mark-set_other)
 
   old_at : (p : ℕ) → p < length s.path → get_or (s.path ++ v ∷ []) p 0 ≡ get_or s.path p 0
   old_at p l = get_or_append_left s.path (v ∷ []) 0 p l
@@ -48,33 +34,11 @@ module _ (graph : List (List ℕ)) (s : State) (v : ℕ) (sound : IsSound graph 
 
   forwards : ((p : ℕ) → p < length s.path → Leads graph (get_or s.path p 0) v) → (p q : ℕ) → p ≤ q → q < length (s.path ++ v ∷ []) →
       Leads graph (get_or (s.path ++ v ∷ []) p 0) (get_or (s.path ++ v ∷ []) q 0)
-  forwards led p q le l =
-      let len = length_push s.path v in
-      elim (cases_lt q (length s.path)) [
-        | inl before ↦
-            let first : p < length s.path = omega arith in
-            rw (old_at p first, old_at q before) (sound.forward p q le before)
-        | inr past ↦
-            let last : q ≡ length s.path = omega arith in
-            elim (cases_lt p (length s.path)) [
-              | inl before ↦ rw (old_at p before, new_at q last) (led p before)
-              | inr also ↦ inl (ap (λ n. get_or (s.path ++ v ∷ []) n 0) (omega arith))
-            ]
-      ]
+  forwards led p q le l = grind (arith, length_push, cases_lt, old_at, new_at)
 
   backwards : (p q : ℕ) → p ≤ q → q < length (s.path ++ v ∷ []) → All (IsNoEarlier q p) (s.groups ++ group ∷ []) →
       Leads graph (get_or (s.path ++ v ∷ []) q 0) (get_or (s.path ++ v ∷ []) p 0)
-  backwards p q le l all =
-      let len = length_push s.path v in
-      elim (cases_lt q (length s.path)) [
-        | inl before ↦
-            let first : p < length s.path = omega arith in
-            rw (old_at p first, old_at q before) (sound.backward p q le before (All-left (IsNoEarlier q p) s.groups (group ∷ []) all))
-        | inr past ↦
-            let last = All-last (IsNoEarlier q p) s.groups group all in
-            let begins = last past in
-            inl (ap (λ n. get_or (s.path ++ v ∷ []) n 0) (omega arith))
-      ]
+  backwards p q le l all = grind (arith, length_push s.path v, cases_lt q (length s.path), old_at p, old_at q, All-left (IsNoEarlier q p) s.groups (group ∷ []) all, All-last (IsNoEarlier q p) s.groups group all)
 
   pub opened_sound : ((p : ℕ) → p < length s.path → Leads graph (get_or s.path p 0) v) → IsSound graph (opened graph v s)
   opened_sound led =
@@ -208,9 +172,4 @@ module _ (graph : List (List ℕ)) (s : State) (v : ℕ) (sound : IsSound graph 
       omega arith
 
   pub opened_seen : StaysSeen s (opened graph v s)
-  opened_seen a h =
-      let size = sound.size in
-      elim (cases_eq a v) [
-        | inl e ↦ (let here = mark-set_same s.marks v (Open (length s.path)) (omega arith) in cc)
-        | inr ne ↦ sym (mark-set_other s.marks v a (Open (length s.path)) ne) ∙ h
-      ]
+  opened_seen a h = grind (arith, cases_eq, mark-set_same, mark-set_other)

@@ -26,21 +26,7 @@ all_marked (false ∷ seen) all = absurd (true≢false (sym (all 0 (omega arith)
 all_marked (true ∷ seen) all = (let rest = all_marked seen (λ v l. all (suc v) (omega arith)) in omega arith)
 
 pub seen_none : (numbers : List ℕ) (count : ℕ) → HasSeen numbers (replicate count false) count 0
-seen_none numbers count = record {
-  size = length-replicate count false;
-  marks = marked-replicate count;
-  once = λ i j l m e. absurd (omega arith);
-  seen_at = λ k l. absurd (omega arith);
-  only = λ number h. absurd (true≢false (sym h ∙ none number));
-}
-  where
-    none : (number : ℕ) → get_or (replicate count false) number false ≡ false
-    none number =
-        let len = length-replicate count false in
-        elim (cases_lt number count) [
-          | inl l ↦ get_or-replicate count number false false l
-          | inr past ↦ get_or_past (replicate count false) number false (omega arith)
-        ]
+seen_none numbers count = grind (arith, length-replicate, marked-replicate, true≢false, cases_lt, get_or-replicate, get_or_past)
 
 module _ (numbers : List ℕ) (seen : List Bool) (count i : ℕ) (has : HasSeen numbers seen count i) (within : i < length numbers) where
   pub seen_more : get_or numbers i 0 < length seen → get_or seen (get_or numbers i 0) false ≡ false → HasSeen numbers (set seen (get_or numbers i 0) true) count (i + 1)
@@ -83,18 +69,7 @@ module _ (numbers : List ℕ) (seen : List Bool) (count i : ℕ) (has : HasSeen 
       fresh k l e = true≢false (sym (has.seen_at k l) ∙ ap (λ n. get_or seen n false) e ∙ unseen)
 
   pub seen_pair : get_or seen (get_or numbers i 0) false ≡ true → HasPair numbers
-  seen_pair is =
-      let found = has.only (get_or numbers i 0) is in
-      let len = length-take-le i numbers (omega arith) in
-      let before : found.0 < i = (let l = found.1 in omega arith) in
-      record {
-        first = found.0;
-        second = i;
-        first_within = omega arith;
-        second_within = within;
-        apart = omega arith;
-        same = sym (get_or-take i numbers found.0 0 before) ∙ get_or_default (take i numbers) found.0 0 (get_or numbers i 0) found.1 ∙ found.2;
-      }
+  seen_pair is = grind (arith, length-take-le, get_or-take, get_or_default)
 
 pub all_seen : (numbers : List ℕ) (seen : List Bool) (count : ℕ) → HasSeen numbers seen count (length numbers) → AllDiffer numbers count
 all_seen numbers seen count has = record {
@@ -107,9 +82,7 @@ all_seen numbers seen count has = record {
 }
   where
     found : (v : ℕ) → Contains numbers v → get_or seen v false ≡ true
-    found v c =
-        let at : get_or numbers c.0 0 ≡ v = get_or_default numbers c.0 0 v c.1 ∙ c.2 in
-        subst (λ n. get_or seen n false ≡ true) at (has.seen_at c.0 c.1)
+    found v c = grind (arith, get_or_default)
 
 -- a node that stands at a place of the order, which is its component
 record At (homes order : List ℕ) (i : ℕ) : Type 0 where
@@ -120,19 +93,10 @@ record At (homes order : List ℕ) (i : ℕ) : Type 0 where
 
 module _ (graph : List (List ℕ)) (found : Components) (are : AreComponentsOf graph found) (no_self : (a : ℕ) → Edge graph a a → ⊥) where
   pub pair_cycle : HasPair found.home → HasCycle graph
-  pair_cycle pair =
-      let nodes = are.nodes in
-      let one = pair.first_within in
-      let two = pair.second_within in
-      elim (are.connected pair.first pair.second (omega arith) (omega arith) pair.same) [
-        | inl e ↦ absurd (pair.apart e)
-        | inr both ↦ record { node = pair.first; walk = Reaches-trans graph pair.first pair.second pair.first both.0 both.1 }
-      ]
+  pair_cycle pair = grind (arith, Reaches-trans graph pair.first pair.second pair.first)
 
   pub homes_within : All (λ home. home < found.count) found.home
-  homes_within k d l =
-      let nodes = are.nodes in
-      subst (λ n. n < found.count) (get_or_default found.home k 0 d l) (are.within k (omega arith))
+  homes_within k d l = grind (arith, get_or_default)
 
   module _ (differ : AllDiffer found.home found.count) where
     below : (a b : ℕ) → Edge graph a b → get_or found.home b 0 < get_or found.home a 0
@@ -148,10 +112,7 @@ module _ (graph : List (List ℕ)) (found : Components) (are : AreComponentsOf g
 
     falls : (a b : ℕ) (via : List ℕ) → Walk graph a via b → get_or found.home b 0 < get_or found.home a 0
     falls a b [] walk = below a b walk
-    falls a b (x ∷ via) walk =
-        let first = below a x walk.0 in
-        let others = falls x b via walk.1 in
-        omega arith
+    falls a b (x ∷ via) walk = grind (arith, below, falls x b via walk.1)
 
     pub acyclic : IsAcyclic graph
     acyclic a reaches = (let down = falls a a reaches.via reaches.walk in omega arith)

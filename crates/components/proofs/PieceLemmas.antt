@@ -14,19 +14,11 @@ EndAt-push start (end ∷ ends) len more e l = (e.0, EndAt-push end ends len mor
 -- a piece lies within the list to which more is appended
 piece-append : (start end : ℕ) (items more : List ℕ) → start ≤ end → end ≤ length items →
     take (end - start) (drop start (items ++ more)) ≡ take (end - start) (drop start items)
-piece-append start end items more l within =
-    let inside : start ≤ length items = omega arith in
-    let rest = length-drop start items in
-    let fits : end - start ≤ length (drop start items) = omega arith in
-    rw drop-append-le (take-append-le (end - start) (drop start items) more fits)
+piece-append start end items more l within = grind (arith, length-drop, drop-append-le, take-append-le)
 
 pub pieces-append : (start : ℕ) (ends items more : List ℕ) → EndAt start ends (length items) → pieces start ends (items ++ more) ≡ pieces start ends items
 pieces-append start [] items more e = refl
-pieces-append start (end ∷ ends) items more e =
-    let below = EndAt-below end ends (length items) e.1 in
-    let first = piece-append start end items more e.0 below in
-    let rest = pieces-append end ends items more e.1 in
-    cc
+pieces-append start (end ∷ ends) items more e = grind (arith, EndAt-below, piece-append, pieces-append end ends items more e.1)
 
 pub pieces-push : (start : ℕ) (ends items more : List ℕ) → EndAt start ends (length items) →
     pieces start (ends ++ length (items ++ more) ∷ []) (items ++ more) ≡ pieces start ends items ++ more ∷ []
@@ -35,11 +27,7 @@ pieces-push start [] items more e =
     let len = length-append items more in
     let whole = take_all (length (items ++ more) - start) more (omega arith) in
     rw last (ap (λ (xs : List ℕ). xs ∷ []) whole)
-pieces-push start (end ∷ ends) items more e =
-    let below = EndAt-below end ends (length items) e.1 in
-    let first = piece-append start end items more e.0 below in
-    let rest = pieces-push end ends items more e.1 in
-    cc
+pieces-push start (end ∷ ends) items more e = grind (arith, EndAt-below, piece-append, pieces-push end ends items more e.1)
 
 pub length-pieces : (start : ℕ) (ends items : List ℕ) → length (pieces start ends items) ≡ length ends
 length-pieces start [] items = refl
@@ -68,8 +56,4 @@ pub adds : (ends items new_ends new_items more : List ℕ) → EndAt 0 ends (len
 adds ends items new_ends new_items more e appended pushed =
     let len = length-append items more in
     let pushed : new_ends ≡ ends ++ length (items ++ more) ∷ [] = rw (← appended) pushed in
-    record {
-      ending = rw (pushed, appended) (EndAt-push 0 ends (length items) (length (items ++ more)) e (omega arith));
-      count = rw pushed (length_push ends (length (items ++ more)));
-      added = rw (pushed, appended) (pieces-push 0 ends items more e);
-    }
+    grind (arith, EndAt-push 0 ends (length items) (length (items ++ more)) e, length_push ends (length (items ++ more)), pieces-push 0 ends items more e)

@@ -1,5 +1,5 @@
 -- Walks one after another.
-use Rattle.std.proofs.Common.{inl, inr, ℕ, List, [], ◌∷◌, ◌++◌, sym, subst}
+use Rattle.std.proofs.Common.{inl, inr, ℕ, List, [], ◌∷◌, ◌++◌, sym, subst, arith}
 use Rattle.components.specs.Graphs.{Edge, Walk, Reaches, AreStronglyConnected}
 use Rattle.components.specs.Search.{Leads}
 
@@ -9,10 +9,7 @@ module _ (graph : List (List ℕ)) where
   Walk-append a b c (x ∷ via) on first second = (first.0, Walk-append x b c via on first.1 second)
 
   pub Reaches-trans : (a b c : ℕ) → Reaches graph a b → Reaches graph b c → Reaches graph a c
-  Reaches-trans a b c first second = record {
-    via = first.via ++ b ∷ second.via;
-    walk = Walk-append a b c first.via second.via first.walk second.walk;
-  }
+  Reaches-trans a b c first second = grind (arith, Walk-append)
 
   pub Leads-edge : (a b : ℕ) → Edge graph a b → Leads graph a b
   Leads-edge a b edge = inr (record { via = []; walk = edge })
@@ -23,6 +20,4 @@ module _ (graph : List (List ℕ)) where
   Leads-trans a b c (inr first) (inr second) = inr (Reaches-trans a b c first second)
 
   pub connected : (a b : ℕ) → Leads graph a b → Leads graph b a → AreStronglyConnected graph a b
-  connected a b (inl e) back = inl e
-  connected a b (inr there) (inl e) = inl (sym e)
-  connected a b (inr there) (inr back) = inr (there, back)
+  connected a b h back = grind arith

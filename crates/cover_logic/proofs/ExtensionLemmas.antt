@@ -1,5 +1,5 @@
 -- The exact extension is what all completions agree on, and so it keeps the order.
-use Rattle.std.proofs.Common.{◌≡◌, Bool, true, false, not, cond, ◌&&◌, List, [], ◌∷◌, ◌++◌, map, refl, ap, sym, ◌∙◌, true≢false, ℕ, zero, suc, set, get_or, ◌↔◌}
+use Rattle.std.proofs.Common.{◌≡◌, Bool, true, false, not, cond, ◌&&◌, List, [], ◌∷◌, ◌++◌, map, refl, ap, sym, ◌∙◌, true≢false, ℕ, zero, suc, set, get_or, ◌↔◌, arith}
 use Rattle.std.specs.List.{list_all}
 use Rattle.std.proofs.lemmas.Bool.{and_parts, and_from, not-true, not_from_false}
 use Rattle.std.proofs.lemmas.List.Folds.{list_all-append, list_all-map}
@@ -53,27 +53,19 @@ some_completion (One ∷ trits) = (true ∷ (some_completion trits).0, (refl, (s
 some_completion (X ∷ trits) = (true ∷ (some_completion trits).0, (tt, (some_completion trits).1))
 
 at_one : (a b : Bool) → cond a One (cond b Zero X) ≡ One → a ≡ true
-at_one true b e = refl
-at_one false true e = cc
-at_one false false e = cc
+at_one a b e = grind arith
 
 at_zero : (a b : Bool) → cond a One (cond b Zero X) ≡ Zero → b ≡ true
-at_zero a true e = refl
-at_zero true false e = cc
-at_zero false false e = cc
+at_zero a b e = grind arith
 
 gives_one : (a b : Bool) → a ≡ true → cond a One (cond b Zero X) ≡ One
-gives_one true b e = refl
-gives_one false b e = cc
+gives_one a b e = grind arith
 
 gives_zero : (a b : Bool) → (a ≡ true → ⊥) → b ≡ true → cond a One (cond b Zero X) ≡ Zero
-gives_zero true b n e = absurd (n refl)
-gives_zero false true n e = refl
-gives_zero false false n e = cc
+gives_zero a b n e = grind arith
 
 pub exact_says : (f : List Bool → Bool) (trits : List Trit) (b : Bool) → exact f trits ≡ bit b → (bs : List Bool) → Completes trits bs → f bs ≡ b
-exact_says f trits true e bs c = passes_above f trits (at_one _ _ e) bs c
-exact_says f trits false e bs c = not-true (f bs) (passes_above (λ r. not (f r)) trits (at_zero _ _ e) bs c)
+exact_says f trits b e bs c = grind (arith, passes_above, at_one, not-true, at_zero)
 
 pub exact_from : (f : List Bool → Bool) (trits : List Trit) (b : Bool) → ((bs : List Bool) → Completes trits bs → f bs ≡ b) → exact f trits ≡ bit b
 exact_from f trits true h = gives_one _ _ (passes_listed f trits h)
@@ -100,9 +92,7 @@ exact_below f trits bs c =
 
 -- a value that is below the function at each completion is below the extension
 pub exact_above : (f : List Bool → Bool) (trits : List Trit) (x : Trit) → ((bs : List Bool) → Completes trits bs → Below x (bit (f bs))) → Below x (exact f trits)
-exact_above f trits x h =
-    Below-from x (exact f trits)
-    (λ b e. exact_from f trits b (λ bs c. same_bit (f bs) b (Below-at x (bit (f bs)) b (h bs c) e)))
+exact_above f trits x h = grind (arith, Below-from, exact_from, same_bit, Below-at)
 
 -- ---- the cofactors at an unknown place
 
@@ -159,5 +149,4 @@ ext_is_most_informative cover = record {
 }
 
 pub value_is_monotone : ValueIsMonotone
-value_is_monotone cover low high h =
-    rw (above_bits low high h) (Below-refl (bit (value cover low)))
+value_is_monotone cover low high h = grind (arith, above_bits, Below-refl)

@@ -1,5 +1,5 @@
 -- What is left of rows over the pins that are unknown.
-use Rattle.std.proofs.Common.{◌≡◌, Bool, true, false, ◌&&◌, ◌||◌, cond, List, [], ◌∷◌, map, refl, ap, sym, ◌∙◌, subst, suc}
+use Rattle.std.proofs.Common.{◌≡◌, Bool, true, false, ◌&&◌, ◌||◌, cond, List, [], ◌∷◌, map, refl, ap, sym, ◌∙◌, subst, suc, arith}
 use Rattle.std.specs.List.{list_any, filter}
 use Rattle.cyc_base.specs.declared.trit.Trit.{Trit}
 use Rattle.cyc_base.specs.declared.trit.Trit.TheVariants.{Zero, One, X}
@@ -58,26 +58,16 @@ open-completes (X ∷ trits) (b ∷ bs) c = (tt, open-completes trits bs c.1)
 -- ---- a row matches where it may, and what it asks of the unknown pins matches
 
 and_swap : (a b c : Bool) → (a && (b && c)) ≡ (b && (a && c))
-and_swap true b c = refl
-and_swap false true c = refl
-and_swap false false c = refl
+and_swap a b c = grind arith
 
 known_zero : (l : Lit) (b : Bool) → Below Zero (bit b) → allows l b ≡ may_allow l Zero
-known_zero lit.Zero false c = refl
-known_zero lit.One false c = refl
-known_zero lit.Any false c = refl
-known_zero l true c = cc
+known_zero l b c = grind arith
 
 known_one : (l : Lit) (b : Bool) → Below One (bit b) → allows l b ≡ may_allow l One
-known_one lit.Zero true c = refl
-known_one lit.One true c = refl
-known_one lit.Any true c = refl
-known_one l false c = cc
+known_one l b c = grind arith
 
 may_allow-X : (l : Lit) → may_allow l X ≡ true
-may_allow-X lit.Zero = refl
-may_allow-X lit.One = refl
-may_allow-X lit.Any = refl
+may_allow-X l = grind arith
 
 matches-open : (lits : List Lit) (trits : List Trit) (bs : List Bool) → Completes trits bs → matches lits bs ≡ (may_match lits trits && matches (open_lits lits trits) (open_bits trits bs))
 unfolding open_bits
@@ -87,34 +77,19 @@ matches-open (l ∷ lits) [] (b ∷ bs) c = absurd c
 matches-open (l ∷ lits) (Zero ∷ trits) [] c = absurd c
 matches-open (l ∷ lits) (One ∷ trits) [] c = absurd c
 matches-open (l ∷ lits) (X ∷ trits) [] c = absurd c
-matches-open (l ∷ lits) (Zero ∷ trits) (b ∷ bs) c =
-    ap (λ a. a && matches lits bs) (known_zero l b c.0)
-    ∙ ap (λ m. may_allow l Zero && m) (matches-open lits trits bs c.1)
-    ∙ sym (and_assoc (may_allow l Zero) (may_match lits trits) (matches (open_lits lits trits) (open_bits trits bs)))
-matches-open (l ∷ lits) (One ∷ trits) (b ∷ bs) c =
-    ap (λ a. a && matches lits bs) (known_one l b c.0)
-    ∙ ap (λ m. may_allow l One && m) (matches-open lits trits bs c.1)
-    ∙ sym (and_assoc (may_allow l One) (may_match lits trits) (matches (open_lits lits trits) (open_bits trits bs)))
-matches-open (l ∷ lits) (X ∷ trits) (b ∷ bs) c =
-    ap (λ m. allows l b && m) (matches-open lits trits bs c.1)
-    ∙ and_swap (allows l b) (may_match lits trits) (matches (open_lits lits trits) (open_bits trits bs))
-    ∙ sym (ap (λ a. (a && may_match lits trits) && (allows l b && matches (open_lits lits trits) (open_bits trits bs))) (may_allow-X l))
+matches-open (l ∷ lits) (Zero ∷ trits) (b ∷ bs) c = grind (arith, known_zero, matches-open lits trits bs c.1, and_assoc)
+matches-open (l ∷ lits) (One ∷ trits) (b ∷ bs) c = grind (arith, known_one, matches-open lits trits bs c.1, and_assoc)
+matches-open (l ∷ lits) (X ∷ trits) (b ∷ bs) c = grind (arith, matches-open lits trits bs c.1, and_swap, may_allow-X)
 
 any_kept : {A B : Type 0} (g : B → Bool) (h : A → B) (x : A) (xs : List A) (kept : Bool) → list_any g (map h (cond kept (x ∷ xs) xs)) ≡ ((kept && g (h x)) || list_any g (map h xs))
-any_kept g h x xs true = refl
-any_kept g h x xs false = refl
+any_kept g h x xs kept = grind arith
 
 any_filtered : {A B : Type 0} (f m : A → Bool) (g : B → Bool) (h : A → B) → ((x : A) → f x ≡ (m x && g (h x))) → (xs : List A) → list_any f xs ≡ list_any g (map h (filter m xs))
 any_filtered f m g h e [] = refl
-any_filtered f m g h e (x ∷ xs) =
-    ap (λ b. b || list_any f xs) (e x)
-    ∙ ap (λ b. (m x && g (h x)) || b) (any_filtered f m g h e xs)
-    ∙ sym (any_kept g h x (filter m xs) (m x))
+any_filtered f m g h e (x ∷ xs) = grind (arith, any_filtered f m g h e xs, any_kept)
 
 some-open : (rows : List Row) (trits : List Trit) (bs : List Bool) → Completes trits bs → some_row_matches rows bs ≡ some_row_matches (open_rows rows trits) (open_bits trits bs)
-some-open rows trits bs c =
-    any_filtered (λ row. matches row.lits bs) (λ row. may_match row.lits trits) (λ row. matches row.lits (open_bits trits bs)) (open_row trits)
-    (λ row. matches-open row.lits trits bs c) rows
+some-open rows trits bs c = grind (arith, any_filtered, matches-open)
 
 -- so they are a tautology where all rows are one
 pub same_open : (rows : List Row) (trits : List Trit) → is_tautology (open_rows rows trits) (open_pins trits) ≡ is_tautology rows trits

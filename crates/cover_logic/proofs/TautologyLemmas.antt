@@ -22,52 +22,26 @@ use Rattle.cover_logic.proofs.ExtensionLemmas.{passes_above, passes_listed, some
 -- ---- one literal, one row
 
 allows_must : (l : Lit) (trit : Trit) (b : Bool) → Below trit (bit b) → must_allow l trit ≡ true → allows l b ≡ true
-allows_must lit.Any trit b c h = refl
-allows_must lit.Zero Zero false c h = refl
-allows_must lit.Zero Zero true c h = cc
-allows_must lit.Zero One b c h = cc
-allows_must lit.Zero X b c h = cc
-allows_must lit.One One true c h = refl
-allows_must lit.One One false c h = cc
-allows_must lit.One Zero b c h = cc
-allows_must lit.One X b c h = cc
+allows_must l trit b c h = grind arith
 
 allows_may : (l : Lit) (trit : Trit) (b : Bool) → Below trit (bit b) → allows l b ≡ true → may_allow l trit ≡ true
-allows_may lit.Any trit b c h = refl
-allows_may lit.Zero Zero b c h = refl
-allows_may lit.Zero X b c h = refl
-allows_may lit.Zero One true c h = cc
-allows_may lit.Zero One false c h = cc
-allows_may lit.One One b c h = refl
-allows_may lit.One X b c h = refl
-allows_may lit.One Zero false c h = cc
-allows_may lit.One Zero true c h = cc
+allows_may l trit b c h = grind arith
 
 known_allow : (l : Lit) (trit : Trit) → trit ≢ X → may_allow l trit ≡ true → must_allow l trit ≡ true
-known_allow l X n h = absurd (n refl)
-known_allow lit.Any Zero n h = refl
-known_allow lit.Any One n h = refl
-known_allow lit.Zero Zero n h = refl
-known_allow lit.Zero One n h = cc
-known_allow lit.One One n h = refl
-known_allow lit.One Zero n h = cc
+known_allow l trit n h = grind arith
 
 matches_must : (lits : List Lit) (trits : List Trit) (bs : List Bool) → Completes trits bs → must_match lits trits ≡ true → matches lits bs ≡ true
 matches_must [] trits bs c h = refl
 matches_must (l ∷ lits) [] [] c h = refl
 matches_must (l ∷ lits) [] (b ∷ bs) c h = absurd c
 matches_must (l ∷ lits) (t ∷ trits) [] c h = refl
-matches_must (l ∷ lits) (t ∷ trits) (b ∷ bs) c h =
-    let p = and_parts (must_allow l t) (must_match lits trits) h in
-    and_from (allows l b) (matches lits bs) (allows_must l t b c.0 p.0) (matches_must lits trits bs c.1 p.1)
+matches_must (l ∷ lits) (t ∷ trits) (b ∷ bs) c h = grind (arith, and_parts, and_from, allows_must, matches_must lits trits bs c.1)
 
 matches_may : (lits : List Lit) (trits : List Trit) (bs : List Bool) → Completes trits bs → matches lits bs ≡ true → may_match lits trits ≡ true
 matches_may [] trits bs c h = refl
 matches_may (l ∷ lits) [] bs c h = refl
 matches_may (l ∷ lits) (t ∷ trits) [] c h = absurd c
-matches_may (l ∷ lits) (t ∷ trits) (b ∷ bs) c h =
-    let p = and_parts (allows l b) (matches lits bs) h in
-    and_from (may_allow l t) (may_match lits trits) (allows_may l t b c.0 p.0) (matches_may lits trits bs c.1 p.1)
+matches_may (l ∷ lits) (t ∷ trits) (b ∷ bs) c h = grind (arith, and_parts, and_from, allows_may, matches_may lits trits bs c.1)
 
 known_match : (lits : List Lit) (trits : List Trit) → All (λ trit. trit ≢ X) trits → may_match lits trits ≡ true → must_match lits trits ≡ true
 known_match [] trits n h = refl
@@ -113,35 +87,25 @@ may_completion (l ∷ lits) (t ∷ trits) h =
 
 -- a row that does not ask for b at a pin, and matches where the pin is b, matches at the other value too
 pub allows_other : (l : Lit) (b : Bool) → not (allows l (not b)) ≡ false → allows l (not b) ≡ true
-allows_other l true h = not-false (allows l false) h
-allows_other l false h = not-false (allows l true) h
+allows_other l b h = grind arith
 
 pub matches_other : (lits : List Lit) (bs : List Bool) (pin : ℕ) (b : Bool) → asks lits pin b ≡ false → matches lits (set bs pin b) ≡ true → matches lits (set bs pin (not b)) ≡ true
 matches_other [] bs pin b n h = refl
 matches_other (l ∷ lits) [] pin b n h = refl
-matches_other (l ∷ lits) (d ∷ bs) zero b n h =
-    let p = and_parts (allows l b) (matches lits bs) h in
-    and_from (allows l (not b)) (matches lits bs) (allows_other l b n) p.1
-matches_other (l ∷ lits) (d ∷ bs) (suc pin) b n h =
-    let p = and_parts (allows l d) (matches lits (set bs pin b)) h in
-    and_from (allows l d) (matches lits (set bs pin (not b))) p.0 (matches_other lits bs pin b n p.1)
+matches_other (l ∷ lits) (d ∷ bs) zero b n h = grind arith
+matches_other (l ∷ lits) (d ∷ bs) (suc pin) b n h = grind (arith, and_parts, and_from, matches_other lits bs pin b n)
 
 -- ---- all rows
 
 -- one test passing more often than another, of some row
 any_weaker : {A : Type 0} (f g : A → Bool) → ((x : A) → f x ≡ true → g x ≡ true) → (xs : List A) → list_any f xs ≡ true → list_any g xs ≡ true
 any_weaker f g w [] h = h
-any_weaker f g w (x ∷ xs) h =
-    elim (or_cases (f x) (list_any f xs) h)
-    [ inl e ↦ or_left (g x) (list_any g xs) (w x e) | inr e ↦ or_right (g x) (list_any g xs) (any_weaker f g w xs e) ]
+any_weaker f g w (x ∷ xs) h = grind (arith, or_cases, or_left, or_right, any_weaker f g w xs)
 
 -- a test passing where a second one fails for each element
 any_unless : {A : Type 0} (f g h : A → Bool) → ((x : A) → f x ≡ true → h x ≡ false → g x ≡ true) → (xs : List A) → list_any h xs ≡ false → list_any f xs ≡ true → list_any g xs ≡ true
 any_unless f g h w [] n e = e
-any_unless f g h w (x ∷ xs) n e =
-    let q = or_parts (h x) (list_any h xs) n in
-    elim (or_cases (f x) (list_any f xs) e)
-    [ inl k ↦ or_left (g x) (list_any g xs) (w x k q.0) | inr k ↦ or_right (g x) (list_any g xs) (any_unless f g h w xs q.1 k) ]
+any_unless f g h w (x ∷ xs) n e = grind (arith, or_parts, or_cases, or_left, or_right, any_unless f g h w xs)
 
 some_match : (rows : List Row) (trits : List Trit) → some_row_may_match rows trits ≡ true → (bs : List Bool) × Completes trits bs × (some_row_matches rows bs ≡ true)
 some_match [] trits h = absurd (true≢false (sym h))
@@ -152,25 +116,17 @@ some_match (row ∷ rows) trits h =
     ]
 
 none_matches : (rows : List Row) (trits : List Trit) (bs : List Bool) → Completes trits bs → some_row_may_match rows trits ≡ false → some_row_matches rows bs ≡ false
-none_matches rows trits bs c h =
-    false_from_ne_true (some_row_matches rows bs)
-    (λ e. true≢false (sym (any_weaker (λ row. matches row.lits bs) (λ row. may_match row.lits trits) (λ row m. matches_may row.lits trits bs c m) rows e) ∙ h))
+none_matches rows trits bs c h = grind (arith, false_from_ne_true, true≢false, any_weaker, matches_may)
 
 pub sure : (rows : List Row) (trits : List Trit) → some_row_must_match rows trits ≡ true → is_tautology rows trits ≡ true
-sure rows trits h =
-    passes_listed (some_row_matches rows) trits
-    (λ bs c. any_weaker (λ row. must_match row.lits trits) (λ row. matches row.lits bs) (λ row e. matches_must row.lits trits bs c e) rows h)
+sure rows trits h = grind (arith, passes_listed, any_weaker, matches_must)
 
 pub never : (rows : List Row) (trits : List Trit) → some_row_may_match rows trits ≡ false → is_tautology rows trits ≡ false
-never rows trits h =
-    let some = some_completion trits in
-    false_from_ne_true (is_tautology rows trits)
-    (λ e. true≢false (sym (passes_above (some_row_matches rows) trits e some.0 some.1) ∙ none_matches rows trits some.0 some.1 h))
+never rows trits h = grind (arith, some_completion trits, false_from_ne_true (is_tautology rows trits), true≢false, passes_above (some_row_matches rows) trits, none_matches rows trits)
 
 -- where no pin is X, one of the two has decided
 pub decided : (rows : List Row) (trits : List Trit) → All (λ trit. trit ≢ X) trits → some_row_may_match rows trits ≡ true → some_row_must_match rows trits ≡ true
-decided rows trits n h =
-    any_weaker (λ row. may_match row.lits trits) (λ row. must_match row.lits trits) (λ row m. known_match row.lits trits n m) rows h
+decided rows trits n h = grind (arith, any_weaker, known_match)
 
 -- ---- the cofactors at an unknown pin
 
@@ -191,8 +147,7 @@ set-completes (t ∷ trits) (e ∷ bs) zero d c = ap (λ b. b ∷ bs) (sym (same
 set-completes (t ∷ trits) (e ∷ bs) (suc pin) d c = ap (λ r. e ∷ r) (set-completes trits bs pin d c.1)
 
 at_bit : (rows : List Row) (trits : List Trit) (pin : ℕ) → is_tautology rows (set trits pin Zero) ≡ true → is_tautology rows (set trits pin One) ≡ true → (bs : List Bool) (b : Bool) → Completes (set trits pin (bit b)) bs → some_row_matches rows bs ≡ true
-at_bit rows trits pin low high bs false c = passes_above (some_row_matches rows) (set trits pin Zero) low bs c
-at_bit rows trits pin low high bs true c = passes_above (some_row_matches rows) (set trits pin One) high bs c
+at_bit rows trits pin low high bs h c = grind (arith, passes_above)
 
 cofactor : (rows : List Row) (trits : List Trit) (pin : ℕ) (b : Bool) → get_or trits pin X ≡ X → is_tautology rows trits ≡ true → is_tautology rows (set trits pin (bit b)) ≡ true
 cofactor rows trits pin b x h =
@@ -210,16 +165,13 @@ both_cofactors rows trits pin x =
 
 -- by the two cofactors, of which the second one is asked only where the first one holds
 pub first_fails : (rows : List Row) (trits : List Trit) (pin : ℕ) → get_or trits pin X ≡ X → is_tautology rows (set trits pin Zero) ≡ false → is_tautology rows trits ≡ false
-first_fails rows trits pin x low =
-    sym (both_cofactors rows trits pin x) ∙ ap (λ b. b && is_tautology rows (set trits pin One)) low
+first_fails rows trits pin x low = grind (arith, both_cofactors rows trits pin x)
 
 pub first_holds : (rows : List Row) (trits : List Trit) (pin : ℕ) → get_or trits pin X ≡ X → is_tautology rows (set trits pin Zero) ≡ true → is_tautology rows (set trits pin One) ≡ is_tautology rows trits
-first_holds rows trits pin x low =
-    sym (ap (λ b. b && is_tautology rows (set trits pin One)) low) ∙ both_cofactors rows trits pin x
+first_holds rows trits pin x low = grind (arith, both_cofactors rows trits pin x)
 
 asks_not : (a m : Bool) → (a && m) ≡ false → m ≡ true → a ≡ false
-asks_not false m e h = refl
-asks_not true m e h = absurd (true≢false (sym h ∙ e))
+asks_not a m e h = grind arith
 
 -- a cofactor at a value that no row asks for is the harder one
 harder : (rows : List Row) (trits : List Trit) (pin : ℕ) (b : Bool) → get_or trits pin X ≡ X → some_row_asks rows trits pin b ≡ false → is_tautology rows (set trits pin (bit b)) ≡ true → is_tautology rows (set trits pin (bit (not b))) ≡ true
@@ -236,21 +188,13 @@ harder rows trits pin b x n h =
 
 pub one_cofactor : (rows : List Row) (trits : List Trit) (pin : ℕ) (b : Bool) → get_or trits pin X ≡ X → some_row_asks rows trits pin b ≡ false → is_tautology rows (set trits pin (bit b)) ≡ is_tautology rows trits
 one_cofactor rows trits pin false x n =
-    same_truth (is_tautology rows (set trits pin Zero)) (is_tautology rows trits)
-    (λ e. sym (both_cofactors rows trits pin x) ∙ and_from (is_tautology rows (set trits pin Zero)) (is_tautology rows (set trits pin One)) e (harder rows trits pin false x n e))
-    (cofactor rows trits pin false x)
+    grind (arith, same_truth (is_tautology rows (set trits pin Zero)) (is_tautology rows trits), both_cofactors rows trits pin x, and_from (is_tautology rows (set trits pin Zero)) (is_tautology rows (set trits pin One)), harder rows trits pin false x n, cofactor rows trits pin false x)
 one_cofactor rows trits pin true x n =
-    same_truth (is_tautology rows (set trits pin One)) (is_tautology rows trits)
-    (λ e. sym (both_cofactors rows trits pin x) ∙ and_from (is_tautology rows (set trits pin Zero)) (is_tautology rows (set trits pin One)) (harder rows trits pin true x n e) e)
-    (cofactor rows trits pin true x)
+    grind (arith, same_truth (is_tautology rows (set trits pin One)) (is_tautology rows trits), both_cofactors rows trits pin x, and_from (is_tautology rows (set trits pin Zero)) (is_tautology rows (set trits pin One)), harder rows trits pin true x n, cofactor rows trits pin true x)
 
 -- where one cofactor is a tautology, the other one decides
 pub other_decides : (rows : List Row) (trits : List Trit) (pin : ℕ) (b : Bool) → get_or trits pin X ≡ X → is_tautology rows (set trits pin (bit b)) ≡ true → is_tautology rows (set trits pin (bit (not b))) ≡ is_tautology rows trits
-other_decides rows trits pin false x h = first_holds rows trits pin x h
-other_decides rows trits pin true x h =
-    same_truth (is_tautology rows (set trits pin Zero)) (is_tautology rows trits)
-    (λ e. sym (both_cofactors rows trits pin x) ∙ and_from (is_tautology rows (set trits pin Zero)) (is_tautology rows (set trits pin One)) e h)
-    (cofactor rows trits pin false x)
+other_decides rows trits pin b x h = grind (arith, first_holds, same_truth, both_cofactors, and_from, cofactor)
 
 -- ---- a step makes one unknown pin fewer
 
@@ -266,30 +210,15 @@ unknown_count-set (One ∷ trits) (suc pin) b e = unknown_count-set trits pin b 
 
 -- a step of the walk that gives pins their harder values
 pub reduced : (rows : List Row) (before now after : List Trit) (pin : ℕ) (b : Bool) (t d : Trit) → pin < length now → get_or now pin d ≡ X → some_row_asks rows now pin b ≡ false → t ≡ bit b → after ≡ set now pin t → (is_tautology rows now ≡ is_tautology rows before) × (unknown_count now ≤ unknown_count before) → (is_tautology rows after ≡ is_tautology rows before) × (unknown_count after ≤ unknown_count before)
-reduced rows before now after pin b t d l x n e k h =
-    let is_set : after ≡ set now pin (bit b) = k ∙ ap (set now pin) e in
-    let fewer : unknown_count now ≡ suc (unknown_count (set now pin (bit b))) = unknown_count-set now pin b (get_or_default now pin Zero d l ∙ x) in
-    let same = ap (is_tautology rows) is_set ∙ one_cofactor rows now pin b (get_or_default now pin X d l ∙ x) n ∙ h.0 in
-    let least : unknown_count now ≤ unknown_count before = h.1 in
-    (same, subst (λ ts. unknown_count ts ≤ unknown_count before) (sym is_set) (omega arith))
+reduced rows before now after pin b t d l x n e k h = grind (arith, unknown_count-set, get_or_default, one_cofactor)
 
 -- a row that surely matches where an unknown pin has one value gives the pin the other one
 pub propagated : (rows : List Row) (row : ℕ) (d : Row) (lits : List Lit) (trits : List Trit) (pin : ℕ) (b : Bool) (tried left : Trit) → row < length rows → lits ≡ (get_or rows row d).lits → slice_get trits pin ≡ Some X → tried ≡ bit b → left ≡ bit (not b) → must_match lits (set trits pin tried) ≡ true → (is_tautology rows (set (set trits pin tried) pin left) ≡ is_tautology rows trits) × (unknown_count (set (set trits pin tried) pin left) + 1 ≤ unknown_count trits)
-propagated rows row d lits trits pin b tried left l is x t k m =
-    let again : set (set trits pin tried) pin left ≡ set trits pin (bit (not b)) = set-set trits pin tried left ∙ ap (set trits pin) k in
-    let matched : must_match (get_or rows row d).lits (set trits pin (bit b)) ≡ true = subst (λ ls. must_match ls (set trits pin (bit b)) ≡ true) is (subst (λ v. must_match lits (set trits pin v) ≡ true) t m) in
-    let certain = sure rows (set trits pin (bit b)) (list_any_at (λ r. must_match r.lits (set trits pin (bit b))) rows row d l matched) in
-    let fewer : unknown_count trits ≡ suc (unknown_count (set trits pin (bit (not b)))) = unknown_count-set trits pin (not b) (get_or_from_slice_get trits pin X Zero x) in (
-      ap (is_tautology rows) again ∙ other_decides rows trits pin b (get_or_from_slice_get trits pin X X x) certain,
-      subst (λ ts. unknown_count ts + 1 ≤ unknown_count trits) (sym again) (omega arith),
-    )
+propagated rows row d lits trits pin b tried left l is x t k m = grind (arith, set-set, sure, list_any_at, unknown_count-set, get_or_from_slice_get, other_decides)
 
 -- and else the pin is left as it was
 pub set_back : (trits : List Trit) (pin : ℕ) (tried left : Trit) → slice_get trits pin ≡ Some X → left ≡ X → set (set trits pin tried) pin left ≡ trits
-set_back trits pin tried left x k =
-    set-set trits pin tried left
-    ∙ ap (set trits pin) (k ∙ sym (get_or_from_slice_get trits pin X X x))
-    ∙ set-get_or trits pin X
+set_back trits pin tried left x k = grind (arith, set-set trits pin tried left, get_or_from_slice_get trits pin X X x, set-get_or trits pin X)
 
 -- ---- the extension, by what was found of the rows
 

@@ -18,8 +18,7 @@ pub Contains-there : {A : Type 0} (x : A) (xs : List A) (y : A) → Contains xs 
 Contains-there x xs y h = Contains-append_right (x ∷ []) xs y h
 
 pub Contains-cases : {A : Type 0} (x : A) (xs : List A) (y : A) → Contains (x ∷ xs) y → (x ≡ y) ⊎ Contains xs y
-Contains-cases x xs y (zero, l, e) = inl e
-Contains-cases x xs y (suc k, l, e) = inr (k, omega arith, e)
+Contains-cases x xs y h = grind arith
 
 pub Contains-nothing : {A : Type 0} (x : A) → ¬ Contains [] x
 Contains-nothing x (k, within, e) = omega arith
@@ -29,11 +28,7 @@ Contains-map f xs x (k, within, e) = (k, rw (length-map xs f) within, get_or-map
 
 pub Contains-filter : {A : Type 0} (p : A → Bool) (xs : List A) (x : A) → p x ≡ true → Contains xs x → Contains (filter p xs) x
 Contains-filter p [] x h c = absurd (let l = c.1 in omega arith)
-Contains-filter p (y ∷ ys) x h (zero, l, e) = by (p y) refl
-  where
-    by : (b : Bool) → p y ≡ b → Contains (filter p (y ∷ ys)) x
-    by true is = rw is (zero, omega arith, e)
-    by false is = absurd (true≢false (sym h ∙ ap p (sym e) ∙ is))
+Contains-filter p (y ∷ ys) x h (zero, l, e) = grind arith
 Contains-filter p (y ∷ ys) x h (suc k, l, e) = by (p y) refl (Contains-filter p ys x h (k, omega arith, e))
   where
     by : (b : Bool) → p y ≡ b → Contains (filter p ys) x → Contains (filter p (y ∷ ys)) x
@@ -42,9 +37,7 @@ Contains-filter p (y ∷ ys) x h (suc k, l, e) = by (p y) refl (Contains-filter 
 
 pub All-but_last : {A : Type 0} (P : A → Type 0) (xs : List A) (x : A) → All P (xs ++ x ∷ []) → All P xs × P x
 All-but_last P [] x all = (All-nil P, All-head P x [] all)
-All-but_last P (y ∷ xs) x all =
-    let rest = All-but_last P xs x (All-tail P y (xs ++ x ∷ []) all) in
-    (All-cons P y xs (All-head P y (xs ++ x ∷ []) all) rest.0, rest.1)
+All-but_last P (y ∷ xs) x all = grind (arith, All-but_last P xs x (All-tail P y (xs ++ x ∷ []) all), All-tail, All-cons, All-head)
 
 pub All-weaker : {A : Type 0} (P Q : A → Type 0) (xs : List A) → ((x : A) → P x → Q x) → All P xs → All Q xs
 All-weaker {A} P Q xs f h k d l = f (get_or xs k d) (h k d l)
@@ -63,11 +56,7 @@ all_weaker P Q (x ∷ xs) w h = (w x h.0, all_weaker P Q xs w h.1)
 
 pub all_filter : (P : ℕ → Type 0) (p : ℕ → Bool) (xs : List ℕ) → AllByRecursion P xs → AllByRecursion P (filter p xs)
 all_filter P p [] h = tt
-all_filter P p (x ∷ xs) h = by (p x) (all_filter P p xs h.1)
-  where
-    by : (b : Bool) → AllByRecursion P (filter p xs) → AllByRecursion P (cond b (x ∷ filter p xs) (filter p xs))
-    by true rest = (h.0, rest)
-    by false rest = rest
+all_filter P p (x ∷ xs) h = grind (arith, all_filter P p xs h.1)
 
 pub list_any-map : {A B : Type 0} (p : B → Bool) (f : A → B) (xs : List A) → list_any p (map f xs) ≡ list_any (λ x. p (f x)) xs
 list_any-map p f [] = refl
@@ -75,11 +64,7 @@ list_any-map p f (x ∷ xs) = ap (λ t. p (f x) || t) (list_any-map p f xs)
 
 pub find-map : {A B : Type 0} (p : B → Bool) (f : A → B) (xs : List A) → find p (map f xs) ≡ option_map f (find (λ x. p (f x)) xs)
 find-map p f [] = refl
-find-map p f (x ∷ xs) = by (p (f x)) (find-map p f xs)
-  where
-    by : (t : Bool) → find p (map f xs) ≡ option_map f (find (λ y. p (f y)) xs) → cond t (Some (f x)) (find p (map f xs)) ≡ option_map f (cond t (Some x) (find (λ y. p (f y)) xs))
-    by true rest = refl
-    by false rest = rest
+find-map p f (x ∷ xs) = grind (arith, find-map p f xs)
 
 -- lengths and places
 
@@ -89,11 +74,7 @@ map-map g f (x ∷ xs) = ap (λ rest. g (f x) ∷ rest) (map-map g f xs)
 
 pub filter-no_longer : {A : Type 0} (p : A → Bool) (xs : List A) → length (filter p xs) ≤ length xs
 filter-no_longer p [] = omega arith
-filter-no_longer p (x ∷ xs) = by (p x) (filter-no_longer p xs)
-  where
-    by : (b : Bool) → length (filter p xs) ≤ length xs → length (cond b (x ∷ filter p xs) (filter p xs)) ≤ suc (length xs)
-    by true h = omega (arith, h)
-    by false h = omega (arith, h)
+filter-no_longer p (x ∷ xs) = grind (arith, filter-no_longer p xs)
 
 pub empty_list : {A : Type 0} (xs : List A) → length xs ≡ 0 → xs ≡ []
 empty_list [] none = refl
@@ -114,8 +95,7 @@ drop-get (y ∷ xs) (suc n) x e = drop-get xs n x e
 
 pub range-suc : (a n : ℕ) → range_with_len a (suc n) ≡ range_with_len a n ++ (a + n) ∷ []
 range-suc a zero = ap (λ x. x ∷ []) (omega arith)
-range-suc a (suc n) =
-    ap (λ (xs : List ℕ). a ∷ xs) (range-suc (a + 1) n ∙ ap (λ x. range_with_len (a + 1) n ++ x ∷ []) (omega arith))
+range-suc a (suc n) = grind (arith, range-suc (a + 1) n)
 
 pub at_range : (n i : ℕ) → i < n → i ≡ get_or (range_with_len 0 n) i i
 at_range n i l = let e : i ≡ 0 + i = omega arith in e ∙ sym (get_or-range_with_len 0 n i i l)
@@ -126,24 +106,19 @@ Contains-range n k l = (k, omega (arith, length-range_with_len 0 n), get_or-rang
 -- options
 
 pub option_or-None : {A : Type 0} (x : Option A) → option_or x None ≡ x
-option_or-None None = refl
-option_or-None (Some x) = refl
+option_or-None x = grind arith
 
 pub option_or-neither : {A : Type 0} (x y : Option A) → option_or x y ≡ None → (x ≡ None) × (y ≡ None)
-option_or-neither None y e = (refl, e)
-option_or-neither (Some x) y e = cc
+option_or-neither x y e = grind arith
 
 pub option_or-cases : {A : Type 0} (x y : Option A) (z : A) → option_or x y ≡ Some z → (x ≡ Some z) ⊎ ((x ≡ None) × (y ≡ Some z))
-option_or-cases None y z e = inr (refl, e)
-option_or-cases (Some x) y z e = inl e
+option_or-cases x y z e = grind arith
 
 pub option_map-or : {A B : Type 0} (f : A → B) (x y : Option A) → option_map f (option_or x y) ≡ option_or (option_map f x) (option_map f y)
-option_map-or f (Some x) y = refl
-option_map-or f None y = refl
+option_map-or f x y = grind arith
 
 pub option_map-nothing : {A B : Type 0} (f : A → B) (x : Option A) → option_map f x ≡ None → x ≡ None
-option_map-nothing f None e = refl
-option_map-nothing f (Some x) e = cc
+option_map-nothing f x e = grind arith
 
 -- numbers
 

@@ -7,14 +7,10 @@ use Rattle.cyc_base.specs.declared.trit.Trit.TheVariants.{Zero, One, X}
 use Rattle.cyc_base.specs.Values.{bit, bits, Below, EachBelow, Completes}
 
 pub Below-refl : (x : Trit) → Below x x
-Below-refl Zero = refl
-Below-refl One = refl
-Below-refl X = tt
+Below-refl x = grind arith
 
 pub Below-trans : (x y z : Trit) → Below x y → Below y z → Below x z
-Below-trans X y z h k = tt
-Below-trans Zero y z h k = rw h at k
-Below-trans One y z h k = rw h at k
+Below-trans x y z h k = grind arith
 
 -- what the first value determines, the second has
 pub Below-from : (x y : Trit) → ((b : Bool) → x ≡ bit b → y ≡ bit b) → Below x y
@@ -23,14 +19,10 @@ Below-from Zero y h = h false refl
 Below-from One y h = h true refl
 
 pub Below-at : (x y : Trit) (b : Bool) → Below x y → x ≡ bit b → y ≡ bit b
-Below-at x y true h e = let k = rw e at h in k
-Below-at x y false h e = let k = rw e at h in k
+Below-at x y b h e = grind arith
 
 pub same_bit : (a b : Bool) → bit a ≡ bit b → a ≡ b
-same_bit true true e = refl
-same_bit false false e = refl
-same_bit true false e = cc
-same_bit false true e = cc
+same_bit a b e = grind arith
 
 pub EachBelow-refl : (xs : List Trit) → EachBelow xs xs
 EachBelow-refl [] = tt
@@ -98,11 +90,7 @@ above_bits (false ∷ bs) (true ∷ cs) h = let e = h.0 in cc
 above_bits (false ∷ bs) (false ∷ cs) h = ap (λ l. false ∷ l) (above_bits bs cs h.1)
 
 pub Below-antisym : (x y : Trit) → Below x y → Below y x → x ≡ y
-Below-antisym X X h k = refl
-Below-antisym X Zero h k = k
-Below-antisym X One h k = k
-Below-antisym Zero y h k = sym h
-Below-antisym One y h k = sym h
+Below-antisym x y h k = grind arith
 
 pub EachBelow-antisym : (xs ys : List Trit) → EachBelow xs ys → EachBelow ys xs → xs ≡ ys
 EachBelow-antisym [] [] h k = refl
@@ -129,8 +117,7 @@ EachBelow-unknown [] = tt
 EachBelow-unknown (x ∷ xs) = (tt, EachBelow-unknown xs)
 
 pub Below-bit : (b : Bool) (x : Trit) → Below (bit b) x → x ≡ bit b
-Below-bit true x h = h
-Below-bit false x h = h
+Below-bit b x h = grind arith
 
 pub EachBelow-bits : (bs : List Bool) (xs : List Trit) → EachBelow (bits bs) xs → xs ≡ bits bs
 EachBelow-bits [] [] h = refl
@@ -152,8 +139,7 @@ EachBelow-map_at f g (x ∷ xs) h = (h zero x (omega arith), EachBelow-map_at f 
 -- known values
 
 pub bit-known : (b : Bool) → bit b ≢ X
-bit-known true e = cc
-bit-known false e = cc
+bit-known b e = grind arith
 
 pub unknown_or_bit : (t : Trit) → (t ≡ X) ⊎ ((b : Bool) × (t ≡ bit b))
 unknown_or_bit X = inl refl
@@ -161,14 +147,10 @@ unknown_or_bit Zero = inr (false, refl)
 unknown_or_bit One = inr (true, refl)
 
 pub Below-known : (x y : Trit) → Below x y → x ≢ X → y ≡ x
-Below-known X y h known = absurd (known refl)
-Below-known Zero y h known = h
-Below-known One y h known = h
+Below-known x y h known = grind arith
 
 pub Below-unknown : (x y : Trit) → Below x y → y ≡ X → x ≡ X
-Below-unknown X y below is = refl
-Below-unknown Zero y below is = sym below ∙ is
-Below-unknown One y below is = sym below ∙ is
+Below-unknown x y below is = grind arith
 
 pub bits-at : (v : List Bool) (k : ℕ) → k < length v → get_or (bits v) k X ≡ bit (get_or v k false)
 bits-at v k l = get_or-map bit v k false X l

@@ -22,23 +22,12 @@ Contains-vectors (suc n) (true ∷ v) h = Contains-append_right (map (λ w. fals
 -- a search among all vectors goes through those that begin with 0, and then through the others
 pub find-halves : (n : ℕ) (p : List Bool → Bool) →
     find p (vectors (suc n)) ≡ option_or (option_map (λ v. false ∷ v) (find (λ v. p (false ∷ v)) (vectors n))) (option_map (λ v. true ∷ v) (find (λ v. p (true ∷ v)) (vectors n)))
-find-halves n p =
-    find-append p (map (λ v. false ∷ v) (vectors n)) (map (λ v. true ∷ v) (vectors n))
-    ∙ ap₂ option_or (find-map p (λ v. false ∷ v) (vectors n)) (find-map p (λ v. true ∷ v) (vectors n))
+find-halves n p = grind (arith, find-append, find-map)
 
 pub find-none : (n : ℕ) (p : List Bool → Bool) → ((w : List Bool) → length w ≡ n → p w ≡ false) → find p (vectors n) ≡ None
 find-none zero p fails = ap (λ t. let nothing : Option (List Bool) = None in cond t (Some []) nothing) (fails [] refl)
-find-none (suc n) p fails =
-    find-halves n p
-    ∙ ap₂ (λ low high. option_or (option_map (λ (u : List Bool). false ∷ u) low) (option_map (λ (u : List Bool). true ∷ u) high))
-    (find-none n (λ u. p (false ∷ u)) (λ w wide. fails (false ∷ w) (ap suc wide)))
-    (find-none n (λ u. p (true ∷ u)) (λ w wide. fails (true ∷ w) (ap suc wide)))
+find-none (suc n) p fails = grind (arith, find-halves, find-none n)
 
 pub find-alike : (n : ℕ) (f g : List Bool → Bool) → ((v : List Bool) → length v ≡ n → f v ≡ g v) → find f (vectors n) ≡ find g (vectors n)
 find-alike zero f g same = ap (λ t. let nothing : Option (List Bool) = None in cond t (Some []) nothing) (same [] refl)
-find-alike (suc n) f g same =
-    find-halves n f
-    ∙ ap₂ (λ low high. option_or (option_map (λ (u : List Bool). false ∷ u) low) (option_map (λ (u : List Bool). true ∷ u) high))
-    (find-alike n (λ u. f (false ∷ u)) (λ u. g (false ∷ u)) (λ v wide. same (false ∷ v) (ap suc wide)))
-    (find-alike n (λ u. f (true ∷ u)) (λ u. g (true ∷ u)) (λ v wide. same (true ∷ v) (ap suc wide)))
-    ∙ sym (find-halves n g)
+find-alike (suc n) f g same = grind (arith, find-halves, find-alike n)

@@ -2,7 +2,8 @@
 //! content, for what is claimed of it, and count their faults, which shows the cause of a refusal.
 //!
 //! It stands on `cyc_base`. The crates above use that `read_whole` gives a file's bytes, and that `write_whole`
-//! appends all of a text, or a prefix where a write failed. `HostShelf` and `HostSink` are the trusted edge.
+//! appends all of a text, or a prefix where a write failed; texts of parts, numbers and bits go out by `put_two`,
+//! `put_number`, `put_bits` and their kin. `HostShelf` and `HostSink` are the trusted edge.
 #![tactic(auto)]
 
 mod counts;

@@ -1,12 +1,12 @@
 -- Classes of rows that agree from a pin on.
-use Rattle.std.proofs.Common.{◌≡◌, ℕ, zero, suc, ◌+◌, ◌-◌, ◌<◌, ◌≤◌, ◌⊎◌, inl, inr, List, [], ◌∷◌, ◌++◌, length, drop, replicate, get_or, map, Option, Some, None, refl, sym, ap, subst, ◌∙◌, arith, rules, add-one}
+use Rattle.std.proofs.Common.{◌≡◌, ℕ, zero, suc, ◌+◌, ◌-◌, ◌<◌, ◌⊎◌, inl, inr, List, [], ◌∷◌, ◌++◌, length, drop, replicate, get_or, map, Some, None, refl, sym, ap, subst, ◌∙◌, arith, add-one}
 use Rattle.dual_rail.proofs.Common.{cases_lt, get_or_append_left, length_push, All-get_or, All, list_any, Lit, Any, Row, matches, lits_of, matches_from, MatchAlike}
-use Rattle.std.proofs.lemmas.List.{get_or_past, get_or_push, get_or-replicate, length-replicate}
-use Rattle.std.proofs.lemmas.Option.{same_Some}
+use Rattle.std.proofs.lemmas.List.{drop_all, get_or-drop, get_or_past, get_or_push, get_or-replicate, length-replicate}
+use Rattle.std.proofs.lemmas.Option.{none-some, same_Some}
 use Rattle.dual_rail.specs.declared.classes.Firsts.{Firsts}
 use Rattle.dual_rail.specs.declared.classes.Classes.{Classes}
 use Rattle.dual_rail.specs.Expansion.{literal, suffix}
-use Rattle.dual_rail.specs.Classes.{number, AreClasses, classes_at, class_of, AreClassesOf, AreClassesBack, none, first_in, AreNumbered}
+use Rattle.dual_rail.specs.Classes.{number, AreClasses, classes_at, class_of, AreClassesOf, AreClassesBack, first_in, AreNumbered}
 use Rattle.dual_rail.proofs.LiveLemmas.{any_map}
 
 -- ---- suffixes
@@ -19,10 +19,7 @@ suffix_same (x ∷ lits) (y ∷ others) zero h k l e = λ j. l j ∷ e j
 suffix_same (x ∷ lits) (y ∷ others) (suc pin) h k l e = suffix_same lits others pin (omega arith) (omega arith) l e
 
 suffix_literal : (lits : List Lit) (pin : ℕ) → get_or lits pin Any ≡ get_or (drop pin lits) 0 Any
-suffix_literal [] zero = refl
-suffix_literal [] (suc pin) = refl
-suffix_literal (l ∷ lits) zero = refl
-suffix_literal (l ∷ lits) (suc pin) = suffix_literal lits pin
+suffix_literal lits pin = let at : pin ≡ pin + 0 = omega arith in ap (λ n. get_or lits n Any) at ∙ sym (get_or-drop pin lits 0 Any)
 
 suffix_next : (lits : List Lit) (pin : ℕ) → drop (suc pin) lits ≡ drop 1 (drop pin lits)
 suffix_next [] zero = refl
@@ -71,9 +68,6 @@ module _ {rows : List Row} {pin : ℕ} {rests : List ℕ} {firsts : List Firsts}
   pub AreClasses-numbered : AreClasses rows pin numbers
   AreClasses-numbered = record { each = all; member = λ row less. (met row less).0; agrees = agrees; one = one }
 
-none_met : {x : Option ℕ} {n : ℕ} → x ≡ None → x ≡ Some n → ⊥
-none_met none some = search rules
-
 -- one more row has a number
 module _ {rows : List Row} {pin : ℕ} {rests : List ℕ} {firsts : List Firsts} {numbers : List ℕ} {row rest result : ℕ} {lit : Lit} (new : List Firsts) (named : AreNumbered rows pin rests firsts numbers) (here : length numbers ≡ row)
     (at_rest : rest ≡ number rests row) (at_lit : lit ≡ literal rows row pin)
@@ -100,7 +94,7 @@ module _ {rows : List Row} {pin : ℕ} {rests : List ℕ} {firsts : List Firsts}
       | inl kept ↦ kept ∙ named.each_number r less ∙ ap Some (sym (get_or_append_left numbers (result ∷ []) r r less))
       | inr is ↦
           let was : first_in firsts rest lit ≡ Some (number numbers r) = (λ j. first_in firsts (sym is.0 j) (sym is.1 j)) ∙ named.each_number r less in
-          (λ j. first_in new (is.0 j) (is.1 j)) ∙ same ∙ ap Some (elim found [ inl old ↦ same_Some result (number numbers r) (sym old ∙ was) | inr made ↦ absurd (none_met made.0 was) ] ∙ sym (get_or_append_left numbers (result ∷ []) r r less))
+          (λ j. first_in new (is.0 j) (is.1 j)) ∙ same ∙ ap Some (elim found [ inl old ↦ same_Some result (number numbers r) (sym old ∙ was) | inr made ↦ absurd (none-some (number numbers r) (sym made.0 ∙ was)) ] ∙ sym (get_or_append_left numbers (result ∷ []) r r less))
     ]
 
     each_number : (r : ℕ) → r < length (numbers ++ result ∷ []) → first_in new (number rests r) (literal rows r pin) ≡ Some (number (numbers ++ result ∷ []) r)
@@ -132,15 +126,9 @@ MatchAlike-classes rows classes are pin xs ys is bits =
     ∙ any_map (matches_from rows pin bits) (class_of classes pin) xs (λ row. ap (λ l. matches l (drop pin bits)) (class_suffix rows classes are pin row))
 
 -- nothing is left of a row at its end
-ended : (lits : List Lit) (pins : ℕ) → length lits ≤ pins → drop pins lits ≡ []
-ended [] zero h = refl
-ended [] (suc pins) h = refl
-ended (l ∷ lits) zero h = absurd (omega (arith, h))
-ended (l ∷ lits) (suc pins) h = ended lits pins (omega (arith, h))
-
 ended_row : (rows : List Row) (pins row : ℕ) → All (λ (r : Row). length r.lits ≡ pins) rows → row < length rows → suffix rows pins row ≡ []
 ended_row rows pins row width less =
-    ended (lits_of rows row) pins (omega (arith, ap length (lits_in rows row (record { lits = [] }) less), All-get_or (λ (r : Row). length r.lits ≡ pins) rows row (record { lits = [] }) less width))
+    drop_all pins (lits_of rows row) (omega (arith, ap length (lits_in rows row (record { lits = [] }) less), All-get_or (λ (r : Row). length r.lits ≡ pins) rows row (record { lits = [] }) less width))
 
 AreClasses-end : (rows : List Row) (pins : ℕ) → All (λ (r : Row). length r.lits ≡ pins) rows → AreClasses rows pins (replicate (length rows) 0)
 AreClasses-end rows pins width = record {

@@ -1,5 +1,6 @@
 -- Shannon's expansion of rows.
 use Rattle.std.proofs.Common.{not, ◌≡◌, ℕ, zero, suc, ◌+◌, ◌<◌, ◌≤◌, Bool, true, false, cond, ◌&&◌, ◌||◌, ◌⊎◌, inl, inr, List, [], ◌∷◌, ◌++◌, length, drop, replicate, get_or, Result, Ok, IfOk, if◌then◌else◌, refl, sym, ap, subst, ◌∙◌, arith, add-one, append_assoc, length-append, length-drop, true≢false}
+use Rattle.std.proofs.lemmas.List.Folds.{Any-from_list_any, list_any-from_Any}
 use Rattle.std.proofs.lemmas.List.FromFn.{map-range_with_len_more}
 use Rattle.dual_rail.proofs.Common.{length_push, All-get_or, list_any, list_all, All, range_with_len, Node, Arena, complemented, den, top_of, IsNodeOf, KeepsNodes, IsPart, Lit, Zero, One, Any, Row, matches, lits_of, matches_from, remainder, narrowed, IsExpansion}
 use Rattle.std.proofs.lemmas.List.{map-id, get_or_at, drop_at, length-replicate}
@@ -26,16 +27,9 @@ any_filter p q (x ∷ xs) = by (p x) (any_filter p q xs)
     by false rest = rest
 
 pub any_weaker : (f g : ℕ → Bool) → ((x : ℕ) → f x ≡ true → g x ≡ true) → (xs : List ℕ) → list_any f xs ≡ true → list_any g xs ≡ true
-any_weaker f g h [] e = e
-any_weaker f g h (x ∷ xs) e = by (f x) (g x) (h x) (any_weaker f g h xs) e
-  where
-    or_true : (b : Bool) → (b || true) ≡ true
-    or_true true = refl
-    or_true false = refl
-
-    by : (b c : Bool) → (b ≡ true → c ≡ true) → (list_any f xs ≡ true → list_any g xs ≡ true) → (b || list_any f xs) ≡ true → (c || list_any g xs) ≡ true
-    by true c k rest e = ap (λ v. v || list_any g xs) (k refl)
-    by false c k rest e = ap (λ v. c || v) (rest e) ∙ or_true c
+any_weaker f g h xs e =
+    let found = Any-from_list_any f xs e in
+    list_any-from_Any g xs (found.0, found.1, found.2, found.3, h found.1 found.4)
 
 pub range-more : (n : ℕ) → range_with_len 0 (n + 1) ≡ range_with_len 0 n ++ n ∷ []
 range-more n =

@@ -1,6 +1,7 @@
 -- Lists of rows that match alike.
 use Rattle.std.proofs.Common.{◌≡◌, ℕ, ◌+◌, ◌<◌, Bool, true, false, not, cond, ◌||◌, List, [], ◌∷◌, ◌++◌, length, drop, map, Result, Ok, Err, IfOk, refl, sym, ap, subst, ◌∙◌, arith, true≢false, eqb, eqb-true}
 use Rattle.dual_rail.proofs.Common.{and_parts, and_from, list_any, list_all, Node, Arena, Lit, Zero, One, Row, matches, matches_from, MatchAlike, remainder, narrowed, IsExpansion, IsPart}
+use Rattle.std.proofs.Math.Bool.{or-true}
 use Rattle.std.proofs.lemmas.List.Filters.{dedup_is}
 use Rattle.std.proofs.lemmas.List.Folds.{list_any-append, Any-from_list_any, list_any-from_Any}
 use Rattle.std.proofs.lemmas.List.Kept.{Contains-dedup_nat, Contains-from_dedup}
@@ -63,17 +64,13 @@ contained_matches rows pin bits row other c m =
     let parts = and_parts (eqb (length (suffix rows pin row)) (length (suffix rows pin other))) (list_all (λ pair. is_within pair.0 pair.1) (zip (suffix rows pin row) (suffix rows pin other))) c in
     within_matches (suffix rows pin row) (suffix rows pin other) (drop pin bits) (eqb-true (length (suffix rows pin row)) (length (suffix rows pin other)) parts.0) parts.1 m
 
-or_true : (b : Bool) → (b || true) ≡ true
-or_true true = refl
-or_true false = refl
-
 -- a row that is contained in one of them says nothing new
 pub any_contained : (rows : List Row) (pin : ℕ) (kept : List ℕ) (row : ℕ) → list_any (is_contained rows pin row) kept ≡ true → (bits : List Bool)
     → list_any (matches_from rows pin bits) kept ≡ (list_any (matches_from rows pin bits) kept || matches_from rows pin bits row)
 any_contained rows pin kept row c bits = by (matches_from rows pin bits row) refl
   where
     by : (m : Bool) → matches_from rows pin bits row ≡ m → list_any (matches_from rows pin bits) kept ≡ (list_any (matches_from rows pin bits) kept || m)
-    by true e = any_weaker (is_contained rows pin row) (matches_from rows pin bits) (λ other w. contained_matches rows pin bits row other w e) kept c ∙ sym (or_true (list_any (matches_from rows pin bits) kept))
+    by true e = any_weaker (is_contained rows pin row) (matches_from rows pin bits) (λ other w. contained_matches rows pin bits row other w e) kept c ∙ sym (or-true (list_any (matches_from rows pin bits) kept))
     by false e = sym (or-false (list_any (matches_from rows pin bits) kept))
 
 -- nor do those that are contained in it
@@ -99,7 +96,7 @@ any_kept rows pin kept left new row fewer is bits =
     ∙ by (matches_from rows pin bits row) refl
   where
     by : (m : Bool) → matches_from rows pin bits row ≡ m → (list_any (matches_from rows pin bits) left || m) ≡ (list_any (matches_from rows pin bits) kept || m)
-    by true e = or_true (list_any (matches_from rows pin bits) left) ∙ sym (or_true (list_any (matches_from rows pin bits) kept))
+    by true e = or-true (list_any (matches_from rows pin bits) left) ∙ sym (or-true (list_any (matches_from rows pin bits) kept))
     by false e = ap (λ b. b || false) ((λ j. list_any (matches_from rows pin bits) (fewer j)) ∙ any_others rows pin row bits e kept)
 
 -- ---- what is left to be matched

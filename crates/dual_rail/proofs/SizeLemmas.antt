@@ -1,5 +1,6 @@
 -- Bounds on the number of subfunctions.
 use Rattle.std.proofs.Common.{◌≡◌, ℕ, zero, suc, ◌+◌, ◌-◌, ◌^◌, ◌<◌, ◌≤◌, Bool, true, false, not, cond, ◌||◌, ◌⊎◌, inl, inr, List, [], ◌∷◌, ◌++◌, length, drop, map, filter, get_or, Contains, refl, sym, ap, subst, ◌∙◌, arith, length-append, true≢false}
+use Rattle.std.proofs.Math.Bool.{or-true}
 use Rattle.std.proofs.Math.Nat.{pow-suc}
 use Rattle.dual_rail.proofs.Common.{cases_lt, length-map, get_or_append_left, list_all, nodes}
 use Rattle.std.proofs.lemmas.Bool.{or_parts}
@@ -50,12 +51,8 @@ module _ {K : Type 0} (eq : K → K → Bool) where
       or_weaker true b c k e = refl
       or_weaker false b c k e = k e
 
-      or_true : (b : Bool) → (b || true) ≡ true
-      or_true true = refl
-      or_true false = refl
-
       by : (b : Bool) → (is_member eq (unique_keys eq xs) q ≡ true → is_member eq xs q ≡ true) → is_member eq (cond b (unique_keys eq xs) (x ∷ unique_keys eq xs)) q ≡ true → (eq q x || is_member eq xs q) ≡ true
-      by true rest e = ap (λ v. eq q x || v) (rest e) ∙ or_true (eq q x)
+      by true rest e = ap (λ v. eq q x || v) (rest e) ∙ or-true (eq q x)
       by false rest e = or_weaker (eq q x) (is_member eq (unique_keys eq xs) q) (is_member eq xs q) rest e
 
 -- ---- lists of bits
@@ -118,15 +115,11 @@ all_of true vs = ap (λ c. c || list_all not (map (λ v. true) vs)) (trues vs)
     trues : (ws : List (List Bool)) → list_all (λ c. c) (map (λ w. true) ws) ≡ true
     trues [] = refl
     trues (w ∷ ws) = trues ws
-all_of false vs = ap (λ c. list_all (λ d. d) (map (λ v. false) vs) || c) (falses vs) ∙ or_true (list_all (λ d. d) (map (λ v. false) vs))
+all_of false vs = ap (λ c. list_all (λ d. d) (map (λ v. false) vs) || c) (falses vs) ∙ or-true (list_all (λ d. d) (map (λ v. false) vs))
   where
     falses : (ws : List (List Bool)) → list_all not (map (λ w. false) ws) ≡ true
     falses [] = refl
     falses (w ∷ ws) = falses ws
-
-    or_true : (c : Bool) → (c || true) ≡ true
-    or_true true = refl
-    or_true false = refl
 
 constant_table : (vars : ℕ) (f : List Bool → Bool) (b : Bool) → ((bits : List Bool) → length bits ≡ vars → f bits ≡ b) → is_constant (table vars f) ≡ true
 unfolding table

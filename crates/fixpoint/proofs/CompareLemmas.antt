@@ -1,11 +1,12 @@
 -- Counting the nodes that a comparison of steps adds.
-use Rattle.std.proofs.Common.{◌≡◌, inl, inr, ◌⊎◌, ℕ, zero, suc, ◌+◌, ◌*◌, ◌<◌, ◌≤◌, Bool, ◌&&◌, List, [], ◌∷◌, length, take, get_or, refl, sym, ap, ap₂, ◌∙◌, subst, arith, Contains}
-use Rattle.fixpoint.proofs.Common.{get_or_default, All-contains, mul-le-mul_left, sum_by-take-le, sum_by_more, All, sum_by, Node, Arena, den, IsNodeOf, KeepsNodes, Rails, IsWide, LoopSteps, step_at, steps_under, unknown, rails_at, AreNodes, IsCompared, IsComparedIn}
+use Rattle.std.proofs.Common.{◌≡◌, inl, inr, ◌⊎◌, ℕ, zero, suc, ◌+◌, ◌*◌, ◌<◌, ◌≤◌, Bool, ◌&&◌, List, [], ◌∷◌, length, refl, sym, ap, ap₂, ◌∙◌, subst, arith, Contains}
+use Rattle.fixpoint.proofs.Common.{get_or_default, All-contains, mul-le-mul_left, All, Node, Arena, den, IsNodeOf, KeepsNodes, Rails, IsWide, LoopSteps, step_at, steps_under, unknown, rails_at, AreNodes, IsCompared, IsComparedIn}
+use Rattle.std.proofs.lemmas.List.Elements.{All-nil, All-cons}
 use Rattle.bdd_store.specs.Subfunctions.{nodes}
 use Rattle.bdd_store.proofs.SubfunctionLemmas.{nodes-alike}
 use Rattle.bdd_ops.specs.Operations.{xor, conjunction, exclusive_or}
 use Rattle.dual_rail.proofs.WidthLemmas.{IsWide-fewer}
-use Rattle.fixpoint.specs.Counts.{IsStepNode, difference}
+use Rattle.fixpoint.specs.Counts.{IsStepNode, difference, BoundsDifference}
 
 -- ---- lists of fewer functions
 
@@ -59,11 +60,11 @@ module _ (s : Arena) (care r q : Node) (steps : List (List Rails)) (rn : IsStepN
   function-of : (n : Node) → IsStepNode steps n → IsCompared s care steps (den s n)
   function-of n is = record { node = n; of = inr is; same = λ bits. refl }
 
-  pub either-nodes : nodes s.vars (exclusive_or s r q) ≤ w
-  either-nodes = wide.combinations (λ x y z. xor x y) (den s r) (den s q) (den s q) (function-of r rn) (function-of q qn) (function-of q qn)
-
-  pub difference-nodes : nodes s.vars (difference s care r q) ≤ w
-  difference-nodes = wide.combinations (λ x y z. x && xor y z) (den s care) (den s r) (den s q) (record { node = care; of = inl refl; same = λ bits. refl }) (function-of r rn) (function-of q qn)
+  pub bounds-difference : BoundsDifference s care r q w
+  bounds-difference = (
+    wide.combinations (λ x y z. xor x y) (den s r) (den s q) (den s q) (function-of r rn) (function-of q qn) (function-of q qn),
+    wide.combinations (λ x y z. x && xor y z) (den s care) (den s r) (den s q) (record { node = care; of = inl refl; same = λ bits. refl }) (function-of r rn) (function-of q qn),
+  )
 
 -- the second operation is on the difference
 pub difference-is : (s t : Arena) (care m n differ : Node) → KeepsNodes s t → IsNodeOf s care → ((bits : List Bool) → den t differ bits ≡ exclusive_or s m n bits) → nodes t.vars (conjunction t care differ) ≡ nodes s.vars (difference s care m n)
@@ -80,27 +81,15 @@ pair-second : (r q : Rails) (n : Node) → (n ≡ q.one) ⊎ (n ≡ q.zero) → 
 pair-second r q n is = record { step = r ∷ q ∷ []; among = (zero, omega arith, refl); rails = q; within = (suc zero, omega arith, refl); is = is }
 
 pub pair-nodes : (s : Arena) (r q : Rails) → AreNodes s r → AreNodes s q → (n : Node) → IsStepNode ((r ∷ q ∷ []) ∷ []) n → IsNodeOf s n
-pair-nodes s r q rn qn n is =
-    let e : r ∷ q ∷ [] ≡ is.step = one-contains (r ∷ q ∷ []) is.step is.among in
-    let has : Contains (r ∷ q ∷ []) is.rails = subst (λ (xs : List Rails). Contains xs is.rails) (sym e) is.within in
-    let of : AreNodes s is.rails = elim (pair-contains r q is.rails has) [ inl same ↦ subst (AreNodes s) same rn | inr same ↦ subst (AreNodes s) same qn ] in
-    elim is.is [ inl x ↦ subst (IsNodeOf s) (sym x) of.one | inr x ↦ subst (IsNodeOf s) (sym x) of.zero ]
+pair-nodes s r q rn qn =
+    step-nodes s ((r ∷ q ∷ []) ∷ []) (All-cons (All (AreNodes s)) (r ∷ q ∷ []) [] (All-cons (AreNodes s) r (q ∷ []) rn (All-cons (AreNodes s) q [] qn (All-nil (AreNodes s)))) (All-nil (All (AreNodes s))))
 
-module _ (s : Arena) (care : Node) (cared : IsNodeOf s care) (r q : Rails) (rn : AreNodes s r) (qn : AreNodes s q) {w : ℕ} (wide : IsWide s.vars (IsCompared s care ((r ∷ q ∷ []) ∷ [])) w) where
-  pub ones-either : nodes s.vars (exclusive_or s r.one q.one) ≤ w
-  ones-either = either-nodes s care r.one q.one ((r ∷ q ∷ []) ∷ []) (pair-first r q r.one (inl refl)) (pair-second r q q.one (inl refl)) wide
-
-  pub ones-difference : nodes s.vars (difference s care r.one q.one) ≤ w
-  ones-difference = difference-nodes s care r.one q.one ((r ∷ q ∷ []) ∷ []) (pair-first r q r.one (inl refl)) (pair-second r q q.one (inl refl)) wide
-
-  pub pair-wide : (t : Arena) → KeepsNodes s t → IsWide t.vars (IsCompared t care ((r ∷ q ∷ []) ∷ [])) w
-  pair-wide t keeps = wide-compared keeps care cared ((r ∷ q ∷ []) ∷ []) ((r ∷ q ∷ []) ∷ []) (pair-nodes s r q rn qn) (λ n is. is) wide
-
-  pub zeros-either : (t : Arena) → KeepsNodes s t → nodes t.vars (exclusive_or t r.zero q.zero) ≤ w
-  zeros-either t keeps = either-nodes t care r.zero q.zero ((r ∷ q ∷ []) ∷ []) (pair-first r q r.zero (inr refl)) (pair-second r q q.zero (inr refl)) (pair-wide t keeps)
-
-  pub zeros-difference : (t : Arena) → KeepsNodes s t → nodes t.vars (difference t care r.zero q.zero) ≤ w
-  zeros-difference t keeps = difference-nodes t care r.zero q.zero ((r ∷ q ∷ []) ∷ []) (pair-first r q r.zero (inr refl)) (pair-second r q q.zero (inr refl)) (pair-wide t keeps)
+-- two nodes of theirs are compared
+pub pair-bounds : (s t : Arena) (care : Node) → IsNodeOf s care → (r q : Rails) → AreNodes s r → AreNodes s q → KeepsNodes s t → (m n : Node) → (m ≡ r.one) ⊎ (m ≡ r.zero) → (n ≡ q.one) ⊎ (n ≡ q.zero) → {w : ℕ}
+    → IsWide s.vars (IsCompared s care ((r ∷ q ∷ []) ∷ [])) w → BoundsDifference t care m n w
+pair-bounds s t care cared r q rn qn keeps m n m_is n_is wide =
+    bounds-difference t care m n ((r ∷ q ∷ []) ∷ []) (pair-first r q m m_is) (pair-second r q n n_is)
+    (wide-compared keeps care cared ((r ∷ q ∷ []) ∷ []) ((r ∷ q ∷ []) ∷ []) (pair-nodes s r q rn qn) (λ n2 is. is) wide)
 
 -- at one place of two steps
 pub place-wide : (s t : Arena) (care : Node) (step last : List Rails) (place : ℕ) {w : ℕ} → KeepsNodes s t → IsNodeOf s care → place < length step → place < length last → All (AreNodes s) step → All (AreNodes s) last
@@ -131,13 +120,6 @@ loop-wide s t care loops loop {w} keeps cared all has wide =
     }) wide)
 
 -- ---- the cut wires of the first loops
-
-pub count-more : (loops : List LoopSteps) (i : ℕ) (none : LoopSteps) → i < length loops
-    → sum_by (λ (loop : LoopSteps). length loop.cuts) (take (i + 1) loops) ≡ sum_by (λ (loop : LoopSteps). length loop.cuts) (take i loops) + length (get_or loops i none).cuts
-count-more loops i none less = sum_by_more (λ (loop : LoopSteps). length loop.cuts) loops i none less
-
-pub count-within : (loops : List LoopSteps) (i : ℕ) → sum_by (λ (loop : LoopSteps). length loop.cuts) (take i loops) ≤ sum_by (λ (loop : LoopSteps). length loop.cuts) loops
-count-within loops i = sum_by-take-le (λ (loop : LoopSteps). length loop.cuts) loops i
 
 pub loops-more : (G before now c len : ℕ) → now ≡ before + c → now ≤ G → len ≤ c + 2 → 4 * (G + 2) * before + 4 * c * len ≤ 4 * (G + 2) * now
 loops-more G before now c len e within few =

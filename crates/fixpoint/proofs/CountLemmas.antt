@@ -1,33 +1,25 @@
 -- Comparing steps at the vectors of a care set.
 use Rattle.std.proofs.Common.{◌≡◌, ◌==◌, inl, inr, ◌⊎◌, ℕ, ◌+◌, ◌-◌, ◌<◌, ◌≤◌, Bool, true, false, ◌&&◌, List, [], length, map, set, get_or, refl, sym, ap, ap₂, ◌∙◌, subst, arith, true≢false}
-use Rattle.fixpoint.proofs.Common.{eqb-true, eq-eqb, cases_lt, length-map, All-map, All, Node, Arena, den, IsNodeOf, IsLawful, KeepsNodes, Rails, Blocks, block_at, LoopSteps, IsLoopAt, HasEachLoopOnce, step_at, last_step, steps_under, rails_under, AreKept, AreNodes, SameRailsOn, AgreeOn, IsLeastStep, AreCountable}
+use Rattle.fixpoint.proofs.Common.{eqb-true, eq-eqb, cases_lt, length-map, All-map, All, Node, Arena, den, IsNodeOf, IsLawful, KeepsNodes, Rails, Blocks, block_at, LoopSteps, IsLoopAt, HasEachLoopOnce, step_at, last_step, steps_under, KeptRails, rails_under, AreKept, AreNodes, SameRailsOn, AgreeOn, IsLeastStep, AreCountable}
 use Rattle.std.proofs.lemmas.List.{get_or_read, get_or-set_same, get_or-set_other, length-set}
 use Rattle.std.specs.List.{slice_index_or}
 use Rattle.bdd_store.specs.Arena.{constant}
 use Rattle.bdd_ops.specs.Operations.{xor, conjunction, exclusive_or}
 use Rattle.loops.specs.declared.structure.SweepCounts.{SweepCounts}
 use Rattle.fixpoint.specs.Counts.{SameOn, AreCountsOf}
-use Rattle.fixpoint.proofs.KeptLemmas.{under-node, AreKept-same, lists_under-same}
-
-xor_same : (x y : Bool) → xor x y ≡ false → x ≡ y
-xor_same true true h = refl
-xor_same true false h = absurd (true≢false h)
-xor_same false true h = absurd (true≢false h)
-xor_same false false h = refl
-
-same_xor : (x y : Bool) → x ≡ y → xor x y ≡ false
-same_xor true true h = refl
-same_xor true false h = absurd (true≢false h)
-same_xor false true h = absurd (true≢false (sym h))
-same_xor false false h = refl
+use Rattle.fixpoint.proofs.KeptLemmas.{under-node, AreKept-same, rails_under-same}
 
 -- where c holds x and y are one
 seen_false : (c x y : Bool) → (c && xor x y) ≡ false → c ≡ true → x ≡ y
-seen_false true x y h e = xor_same x y h
+seen_false true true true h e = refl
+seen_false true true false h e = absurd (true≢false h)
+seen_false true false true h e = absurd (true≢false h)
+seen_false true false false h e = refl
 seen_false false x y h e = absurd (true≢false (sym e))
 
 unseen : (c x y : Bool) → (c ≡ true → x ≡ y) → (c && xor x y) ≡ false
-unseen true x y h = same_xor x y (h refl)
+unseen true true y h = rw (← h refl)
+unseen true false y h = rw (← h refl)
 unseen false x y h = refl
 
 -- the difference of two nodes on care is the constant false exactly where they have one value there
@@ -52,23 +44,13 @@ node_from x y b is e = ap (λ (n : ℕ). let m : Node = record { number = n } in
 pub node_to : (x y : Node) (b : Bool) → b ≡ (x.number == y.number) → x ≡ y → b ≡ true
 node_to x y b is e = is ∙ eq-eqb x.number y.number (ap (λ (n : Node). n.number) e)
 
-SameOn-back : {s t : Arena} (care m n : Node) → KeepsNodes s t → IsNodeOf s care → IsNodeOf s m → IsNodeOf s n → SameOn t care m n → SameOn s care m n
-SameOn-back {s} {t} care m n k c p q same bits cared = sym (k.function m bits p) ∙ same bits (k.function care bits c ∙ cared) ∙ k.function n bits q
+-- diagrams in which the nodes of u have the same functions agree on the same
+module _ (s t u : Arena) (care : Node) (same : (n : Node) (bits : List Bool) → IsNodeOf u n → den s n bits ≡ den t n bits) (cared : IsNodeOf u care) where
+  SameOn-moved : (m n : Node) → IsNodeOf u m → IsNodeOf u n → SameOn s care m n → SameOn t care m n
+  SameOn-moved m n m_is n_is are bits at = sym (same m bits m_is) ∙ are bits (same care bits cared ∙ at) ∙ same n bits n_is
 
-SameOn-forth : {s t : Arena} (care m n : Node) → KeepsNodes s t → IsNodeOf s care → IsNodeOf s m → IsNodeOf s n → SameOn s care m n → SameOn t care m n
-SameOn-forth {s} {t} care m n k c p q same bits cared = k.function m bits p ∙ same bits (sym (k.function care bits c) ∙ cared) ∙ sym (k.function n bits q)
-
-pub SameRailsOn-back : {s t : Arena} {care : Node} {r q : Rails} → KeepsNodes s t → IsNodeOf s care → AreNodes s r → AreNodes s q → SameRailsOn t care r q → SameRailsOn s care r q
-SameRailsOn-back {care = care} {r = r} {q = q} k c rn qn same = record { one = SameOn-back care r.one q.one k c rn.one qn.one same.one; zero = SameOn-back care r.zero q.zero k c rn.zero qn.zero same.zero }
-
-pub SameRailsOn-forth : {s t : Arena} {care : Node} {r q : Rails} → KeepsNodes s t → IsNodeOf s care → AreNodes s r → AreNodes s q → SameRailsOn s care r q → SameRailsOn t care r q
-SameRailsOn-forth {care = care} {r = r} {q = q} k c rn qn same = record { one = SameOn-forth care r.one q.one k c rn.one qn.one same.one; zero = SameOn-forth care r.zero q.zero k c rn.zero qn.zero same.zero }
-
-pub AgreeOn-back : {s t : Arena} {care : Node} (xs ys : List Rails) → KeepsNodes s t → IsNodeOf s care → All (AreNodes s) xs → All (AreNodes s) ys → length xs ≡ length ys → AgreeOn t care xs ys → AgreeOn s care xs ys
-AgreeOn-back xs ys k c xn yn len agree place none less = SameRailsOn-back k c (xn place none (omega arith)) (yn place none less) (agree place none less)
-
-pub AgreeOn-forth : {s t : Arena} {care : Node} (xs ys : List Rails) → KeepsNodes s t → IsNodeOf s care → All (AreNodes s) xs → All (AreNodes s) ys → length xs ≡ length ys → AgreeOn s care xs ys → AgreeOn t care xs ys
-AgreeOn-forth xs ys k c xn yn len agree place none less = SameRailsOn-forth k c (xn place none (omega arith)) (yn place none less) (agree place none less)
+  pub SameRailsOn-moved : (r q : Rails) → AreNodes u r → AreNodes u q → SameRailsOn s care r q → SameRailsOn t care r q
+  SameRailsOn-moved r q r_are q_are are = record { one = SameOn-moved r.one q.one r_are.one q_are.one are.one; zero = SameOn-moved r.zero q.zero r_are.zero q_are.zero are.zero }
 
 pub AgreeOn-itself : (a : Arena) (care : Node) (xs : List Rails) → AgreeOn a care xs xs
 AgreeOn-itself a care xs place none less = record { one = λ bits cared. refl; zero = λ bits cared. refl }
@@ -120,52 +102,44 @@ counting-end a blocks care found i counts all is = record {
   others = is.others;
 }
 
--- the first step that agrees with the last one is the least
-pub least_here : {s t : Arena} {care : Node} (steps : List (List Rails)) (here last : List Rails) (width k : ℕ) → KeepsNodes s t → IsNodeOf s care → All (All (AreNodes s)) steps → All (λ step. length step ≡ width) steps
-    → k < length steps → here ≡ step_at steps k → last ≡ last_step steps → ((j : ℕ) → j < k → ¬ AgreeOn s care (step_at steps j) (last_step steps))
-    → AgreeOn t care here last → IsLeastStep s care steps k
-least_here {s} {t} {care} steps here last width k keeps cared nodes widths less is end before agree =
-    let wk = widths k [] less in
-    let wl = widths (length steps - 1) [] (omega arith) in
-    record {
-      within = less;
-      agrees = AgreeOn-back (step_at steps k) (last_step steps) keeps cared (nodes k [] less) (nodes (length steps - 1) [] (omega arith)) (wk ∙ sym wl)
-          (subst (λ (xs : List Rails). AgreeOn t care xs (last_step steps)) is (subst (λ (ys : List Rails). AgreeOn t care here ys) end agree));
-      least = λ j inside agrees. elim (cases_lt j k) [ inl low ↦ absurd (before j low agrees) | inr high ↦ high ];
-    }
+least-if : (a : Arena) (care : Node) (steps : List (List Rails)) (k : ℕ) → k < length steps → ((j : ℕ) → j < k → ¬ AgreeOn a care (step_at steps j) (last_step steps)) → AgreeOn a care (step_at steps k) (last_step steps)
+    → IsLeastStep a care steps k
+least-if a care steps k less before agree = record { within = less; agrees = agree; least = λ j inside agrees. elim (cases_lt j k) [ inl low ↦ absurd (before j low agrees) | inr high ↦ high ] }
 
-pub none_more : {s t : Arena} {care : Node} (steps : List (List Rails)) (here last : List Rails) (width k : ℕ) → KeepsNodes s t → IsNodeOf s care → All (All (AreNodes s)) steps → All (λ step. length step ≡ width) steps
-    → k < length steps → here ≡ step_at steps k → last ≡ last_step steps → ((j : ℕ) → j < k → ¬ AgreeOn s care (step_at steps j) (last_step steps))
-    → ¬ AgreeOn t care here last → (j : ℕ) → j < k + 1 → ¬ AgreeOn s care (step_at steps j) (last_step steps)
-none_more {s} {t} {care} steps here last width k keeps cared nodes widths less is end before differ j inside agrees = elim (cases_lt j k) [
-  | inl low ↦ before j low agrees
-  | inr high ↦
-      let same : k ≡ j = omega (arith, inside, high) in
-      let wk = widths k [] less in
-      let wl = widths (length steps - 1) [] (omega arith) in
-      let agree : AgreeOn t care (step_at steps k) (last_step steps) = AgreeOn-forth (step_at steps k) (last_step steps) keeps cared (nodes k [] less) (nodes (length steps - 1) [] (omega arith)) (wk ∙ sym wl)
-      (subst (λ (m : ℕ). AgreeOn s care (step_at steps m) (last_step steps)) (sym same) agrees) in
-      differ (subst (λ (xs : List Rails). AgreeOn t care xs last) (sym is) (subst (λ (ys : List Rails). AgreeOn t care (step_at steps k) ys) (sym end) agree))
-]
+-- steps agree as they did while nodes are kept
+module _ {s t : Arena} {care : Node} (steps : List (List Rails)) (width : ℕ) (keeps : KeepsNodes s t) (cared : IsNodeOf s care) (nodes : All (All (AreNodes s)) steps) (widths : All (λ step. length step ≡ width) steps) where
+  agree-moved : (old new : Arena) → ((n : Node) (bits : List Bool) → IsNodeOf s n → den old n bits ≡ den new n bits) → (k : ℕ) → k < length steps → AgreeOn old care (step_at steps k) (last_step steps) → AgreeOn new care (step_at steps k) (last_step steps)
+  agree-moved old new same k less agree place none within =
+      let last : length steps - 1 < length steps = omega arith in
+      let inside : place < length (step_at steps k) = omega (arith, within, widths k [] less, widths (length steps - 1) [] last) in
+      SameRailsOn-moved old new s care same cared (get_or (step_at steps k) place none) (get_or (last_step steps) place none) (nodes k [] less place none inside) (nodes (length steps - 1) [] last place none within) (agree place none within)
+
+  -- the first step that agrees with the last one is the least
+  pub least_here : (k : ℕ) → k < length steps → ((j : ℕ) → j < k → ¬ AgreeOn s care (step_at steps j) (last_step steps)) → AgreeOn t care (step_at steps k) (last_step steps) → IsLeastStep s care steps k
+  least_here k less before agree = least-if s care steps k less before (agree-moved t s keeps.function k less agree)
+
+  pub none_more : (k : ℕ) → k < length steps → ((j : ℕ) → j < k → ¬ AgreeOn s care (step_at steps j) (last_step steps)) → ¬ AgreeOn t care (step_at steps k) (last_step steps)
+      → (j : ℕ) → j < k + 1 → ¬ AgreeOn s care (step_at steps j) (last_step steps)
+  none_more k less before differs j inside agrees = elim (cases_lt j k) [
+    | inl low ↦ before j low agrees
+    | inr high ↦
+        let same : j ≡ k = omega (arith, inside, high) in
+        differs (agree-moved s t (λ n bits is. sym (keeps.function n bits is)) k less (subst (λ (m : ℕ). AgreeOn s care (step_at steps m) (last_step steps)) same agrees))
+  ]
+
+  -- a least number is one at the nodes of before
+  pub IsLeastStep-back : (k : ℕ) → IsLeastStep t care steps k → IsLeastStep s care steps k
+  IsLeastStep-back k is = record {
+    within = is.within;
+    agrees = agree-moved t s keeps.function k is.within is.agrees;
+    least = λ j less agrees. is.least j less (agree-moved s t (λ n bits is_node. sym (keeps.function n bits is_node)) j less agrees);
+  }
 
 -- where no earlier step agrees with the last one, the last one is the least
 pub least_last : (s : Arena) (care : Node) (steps : List (List Rails)) (k : ℕ) → 0 < length steps → length steps ≡ k + 1 → ((j : ℕ) → j < k → ¬ AgreeOn s care (step_at steps j) (last_step steps)) → IsLeastStep s care steps k
-least_last s care steps k some end before = record {
-  within = omega arith;
-  agrees = let same : length steps - 1 ≡ k = omega arith in subst (λ (m : ℕ). AgreeOn s care (step_at steps m) (last_step steps)) same (AgreeOn-itself s care (last_step steps));
-  least = λ j inside agrees. elim (cases_lt j k) [ inl low ↦ absurd (before j low agrees) | inr high ↦ high ];
-}
-
--- a least number is the same where nodes are kept
-pub IsLeastStep-back : {s t : Arena} {care : Node} (steps : List (List Rails)) (width k : ℕ) → KeepsNodes s t → IsNodeOf s care → All (All (AreNodes s)) steps → All (λ step. length step ≡ width) steps → IsLeastStep t care steps k → IsLeastStep s care steps k
-IsLeastStep-back {s} {t} {care} steps width k keeps cared nodes widths is =
-    let inside = is.within in
-    let wl = widths (length steps - 1) [] (omega arith) in
-    record {
-      within = is.within;
-      agrees = AgreeOn-back (step_at steps k) (last_step steps) keeps cared (nodes k [] is.within) (nodes (length steps - 1) [] (omega arith)) (widths k [] is.within ∙ sym wl) is.agrees;
-      least = λ j less agrees. is.least j less (AgreeOn-forth (step_at steps j) (last_step steps) keeps cared (nodes j [] less) (nodes (length steps - 1) [] (omega arith)) (widths j [] less ∙ sym wl) agrees);
-    }
+least_last s care steps k some end before =
+    let same : length steps - 1 ≡ k = omega arith in
+    least-if s care steps k (omega arith) before (subst (λ (m : ℕ). AgreeOn s care (step_at steps m) (last_step steps)) same (AgreeOn-itself s care (last_step steps)))
 
 -- ---- the steps of a loop under their roots
 
@@ -181,12 +155,12 @@ loop-widths a loop widths =
 
 module _ {s t : Arena} {care : Node} (laws : IsLawful s) (cared : IsNodeOf s care) (keeps : KeepsNodes s t) (loop : LoopSteps) (is : AreCountable s care loop) where
   pub same-steps : steps_under t loop ≡ steps_under s loop
-  same-steps = lists_under-same keeps loop.steps is.keys
+  same-steps = ap (λ (under : KeptRails → Rails). map (map under) loop.steps) (rails_under-same keeps)
 
   -- a least number is one at the roots of before
   pub least-kept : (k : ℕ) → IsLeastStep t care (steps_under t loop) k → IsLeastStep s care (steps_under s loop) k
   least-kept k least =
-      IsLeastStep-back (steps_under s loop) (length loop.cuts) k keeps cared (loop-nodes s laws loop is.keys) (loop-widths s loop is.widths) (subst (λ (steps : List (List Rails)). IsLeastStep t care steps k) same-steps least)
+      IsLeastStep-back (steps_under s loop) (length loop.cuts) keeps cared (loop-nodes s laws loop is.keys) (loop-widths s loop is.widths) k (subst (λ (steps : List (List Rails)). IsLeastStep t care steps k) same-steps least)
 
   pub countable-kept : AreCountable t care loop
   countable-kept = record {

@@ -1,57 +1,24 @@
 -- The cut wires of one loop, and that they stand still once they stand at the fixpoint.
-use Rattle.std.proofs.Common.{◌≡◌, ◌==◌, inl, inr, ℕ, zero, suc, ◌+◌, ◌-◌, ◌<◌, ◌≤◌, Bool, true, false, ◌&&◌, List, [], ◌∷◌, length, filter, take, set, get_or, refl, sym, ap, ap₂, ◌∙◌, subst, arith, Contains, true≢false}
-use Rattle.fixpoint.proofs.Common.{cases_eq, eqb-true, eq-eqb, get_or_default, All-set, All, range_with_len, Node, Arena, den, IsLawful, Trit, Rails, AreRailsOf, trit_of, value_of, is_bit, Parts, fix_gates, Blocks, Cut, AreBlocksOf, block_at, home_of, no_block, Block, IsOrderOf, IsCutOf, is_cut, in_one_loop, loops_by, first_gate, value_in, cuts_of, sweeps, few_sweeps_are_enough, told_parts, gate_home, home_gate, blocks_tell_loops, IsLoopAt, unknown, rails_at}
-use Rattle.std.proofs.lemmas.List.{get_or-set_same, get_or-set_other}
-use Rattle.cyc_base.proofs.ListLemmas.{Contains-filter}
+use Rattle.std.proofs.Common.{◌≡◌, ◌==◌, ℕ, zero, suc, ◌+◌, ◌-◌, ◌<◌, ◌≤◌, Bool, true, false, ◌&&◌, List, [], ◌∷◌, length, filter, get_or, refl, sym, ap, ap₂, ◌∙◌, subst, arith, Contains, true≢false}
+use Rattle.fixpoint.proofs.Common.{eqb-true, eq-eqb, get_or_default, All, range_with_len, Node, Arena, den, IsLawful, Trit, Rails, AreRailsOf, trit_of, value_of, is_bit, Parts, fix_gates, Blocks, Cut, AreBlocksOf, block_at, home_of, no_block, Block, IsOrderOf, IsCutOf, is_cut, in_one_loop, loops_by, first_gate, value_in, cuts_of, sweeps, few_sweeps_are_enough, told_parts, gate_home, home_gate, blocks_tell_loops, IsLoopAt}
+use Rattle.std.proofs.lemmas.List.Elements.{All-contains_itself}
+use Rattle.cyc_base.proofs.ListLemmas.{Contains-filter, Contains-here, Contains-there}
 use Rattle.cyc_base.proofs.TruthLemmas.{same_truth}
 use Rattle.loops.specs.Sweeps.{CutsAreFixed}
 use Rattle.loops.proofs.Reading.{Contains-filter_from, Contains-range_from}
 use Rattle.loops.proofs.Sweeps.{cut_values_agree, fixed_cuts_give_fix}
 use Rattle.loops.proofs.Told.{blocks_have_loops}
-use Rattle.fixpoint.proofs.WireLemmas.{rails_at-proper}
-use Rattle.fixpoint.proofs.SweepLemmas.{next-or-before, next-is-taken, before-is-taken}
-
--- ---- keeping cut wires for the next sweep
-
-pub kept-step : (cuts : List ℕ) (first : ℕ) (rails before : List Rails) (i : ℕ) → i < length cuts → get_or cuts i 0 < length before
-    → ((n : ℕ) → Contains (take i cuts) n → rails_at before n ≡ rails_at rails (first + n))
-    → (n : ℕ) → Contains (take (i + 1) cuts) n → rails_at (set before (get_or cuts i 0) (rails_at rails (first + get_or cuts i 0))) n ≡ rails_at rails (first + n)
-kept-step cuts first rails before i inside room kept n has = elim (cases_eq n (get_or cuts i 0)) [
-  | inl same ↦ subst (λ (m : ℕ). rails_at (set before (get_or cuts i 0) (rails_at rails (first + get_or cuts i 0))) m ≡ rails_at rails (first + m)) (sym same)
-      (get_or-set_same before (get_or cuts i 0) (rails_at rails (first + get_or cuts i 0)) unknown room)
-  | inr other ↦ get_or-set_other before (get_or cuts i 0) n (rails_at rails (first + get_or cuts i 0)) unknown other
-      ∙ kept n (elim (next-or-before cuts i n inside has) [ inl next ↦ absurd (other next) | inr taken ↦ taken ])
-]
-
-pub others-kept-step : (cuts : List ℕ) (first : ℕ) (rails old before : List Rails) (i : ℕ) → i < length cuts
-    → ((n : ℕ) → ¬ Contains (take i cuts) n → rails_at before n ≡ rails_at old n)
-    → (n : ℕ) → ¬ Contains (take (i + 1) cuts) n → rails_at (set before (get_or cuts i 0) (rails_at rails (first + get_or cuts i 0))) n ≡ rails_at old n
-others-kept-step cuts first rails old before i inside others n free =
-    get_or-set_other before (get_or cuts i 0) n (rails_at rails (first + get_or cuts i 0)) unknown (λ same. free (subst (Contains (take (i + 1) cuts)) (sym same) (next-is-taken cuts i inside)))
-    ∙ others n (λ taken. free (before-is-taken cuts i n taken))
-
-pub proper-step : (a : Arena) (cuts : List ℕ) (first : ℕ) (rails before : List Rails) (i : ℕ) → All (AreRailsOf a) rails → All (AreRailsOf a) before
-    → All (AreRailsOf a) (set before (get_or cuts i 0) (rails_at rails (first + get_or cuts i 0)))
-proper-step a cuts first rails before i all old = All-set (AreRailsOf a) before (get_or cuts i 0) (rails_at rails (first + get_or cuts i 0)) (rails_at-proper a rails all (first + get_or cuts i 0)) old
 
 -- ---- the list of cut wires
 
-filter-both : (p q : ℕ → Bool) (xs : List ℕ) → filter p (filter q xs) ≡ filter (λ n. q n && p n) xs
-filter-both p q [] = refl
-filter-both p q (x ∷ xs) = by (q x) refl (p x) refl (filter-both p q xs)
+filter-twice : (p q r : ℕ → Bool) (xs : List ℕ) → ((n : ℕ) → Contains xs n → (q n && p n) ≡ r n) → filter p (filter q xs) ≡ filter r xs
+filter-twice p q r [] same = refl
+filter-twice p q r (x ∷ xs) same = by (q x) refl (p x) refl (sym (same x (Contains-here x xs))) (filter-twice p q r xs (λ n has. same n (Contains-there x xs n has)))
   where
-    by : (a : Bool) → q x ≡ a → (b : Bool) → p x ≡ b → filter p (filter q xs) ≡ filter (λ n. q n && p n) xs → filter p (filter q (x ∷ xs)) ≡ filter (λ n. q n && p n) (x ∷ xs)
-    by true is true is2 again = simp (is, is2) (ap (λ ys. x ∷ ys) again)
-    by true is false is2 again = simp (is, is2) again
-    by false is b is2 again = simp is again
-
-filter-agree : (p q : ℕ → Bool) (xs : List ℕ) → ((n : ℕ) → Contains xs n → p n ≡ q n) → filter p xs ≡ filter q xs
-filter-agree p q [] same = refl
-filter-agree p q (x ∷ xs) same = by (q x) refl (same x (zero, omega arith, refl)) (filter-agree p q xs (λ n has. same n (suc has.0, (let l = has.1 in omega (arith, l)), has.2)))
-  where
-    by : (b : Bool) → q x ≡ b → p x ≡ q x → filter p xs ≡ filter q xs → filter p (x ∷ xs) ≡ filter q (x ∷ xs)
-    by true is e again = let is2 : p x ≡ true = e ∙ is in simp (is, is2) (ap (λ ys. x ∷ ys) again)
-    by false is e again = let is2 : p x ≡ false = e ∙ is in simp (is, is2) again
+    by : (a : Bool) → q x ≡ a → (b : Bool) → p x ≡ b → r x ≡ (q x && p x) → filter p (filter q xs) ≡ filter r xs → filter p (filter q (x ∷ xs)) ≡ filter r (x ∷ xs)
+    by true is true is2 is3 again = simp (is3, is, is2) (ap (λ ys. x ∷ ys) again)
+    by true is false is2 is3 again = simp (is3, is, is2) again
+    by false is b is2 is3 again = simp (is3, is) again
 
 module _ (net : Parts) (blocks : Blocks) (are : AreBlocksOf net blocks) (cut : Cut) (b : ℕ) (loop : IsLoopAt blocks b) where
   -- one loop are the gates of a block
@@ -65,8 +32,7 @@ module _ (net : Parts) (blocks : Blocks) (are : AreBlocksOf net blocks) (cut : C
   cuts-are gate has =
       let gate_is = gate_home net blocks are b gate loop.within has in
       ap (filter (is_cut cut.wires)) (are.gates b loop.within)
-      ∙ filter-both (is_cut cut.wires) (λ n. home_of blocks n == b) (range_with_len 0 (length blocks.home))
-      ∙ filter-agree (λ n. (home_of blocks n == b) && is_cut cut.wires n) (λ n. in_one_loop blocks gate n && is_cut cut.wires n) (range_with_len 0 (length blocks.home))
+      ∙ filter-twice (is_cut cut.wires) (λ n. home_of blocks n == b) (λ n. in_one_loop blocks gate n && is_cut cut.wires n) (range_with_len 0 (length blocks.home))
       (λ n listed. ap (λ (x : Bool). x && is_cut cut.wires n) (same_truth (home_of blocks n == b) (in_one_loop blocks gate n)
       (λ e. one-block gate n gate_is.0 gate_is.1 (let l = Contains-range_from (length blocks.home) n listed in let h = are.homes in omega (arith, l, h)) (eqb-true (home_of blocks n) b e))
       (λ e. eq-eqb (home_of blocks n) b (sym (told_parts net blocks are gate n e).homes ∙ gate_is.1))))
@@ -82,23 +48,23 @@ module _ (net : Parts) (blocks : Blocks) (are : AreBlocksOf net blocks) (cut : C
 
   -- from as many sweeps on as there are cut wires, they stand at the fixpoint
   module _ (cut_is : IsCutOf net cut) (v : List Trit) (width : length v ≡ first_gate net) where
-    fixed-from : (gate k m : ℕ) → k ≡ length (cuts_of net (loops_by blocks cut) gate) + m → CutsAreFixed net (loops_by blocks cut) v gate k
-    fixed-from gate k zero e =
-        let same : length (cuts_of net (loops_by blocks cut) gate) ≡ k = omega (arith, e) in
-        subst (λ (j : ℕ). CutsAreFixed net (loops_by blocks cut) v gate j) same (few_sweeps_are_enough net (loops_by blocks cut) (blocks_tell_loops net blocks cut are cut_is) gate v width)
-    fixed-from gate k (suc m) e =
-        let same : suc (length (cuts_of net (loops_by blocks cut) gate) + m) ≡ k = omega (arith, e) in
-        subst (λ (j : ℕ). CutsAreFixed net (loops_by blocks cut) v gate j) same
-        (fixed_cuts_give_fix net (loops_by blocks cut) (blocks_tell_loops net blocks cut are cut_is) v width gate (length (cuts_of net (loops_by blocks cut) gate) + m) (fixed-from gate (length (cuts_of net (loops_by blocks cut) gate) + m) m refl)).0
+    fixed-from : (gate m : ℕ) → CutsAreFixed net (loops_by blocks cut) v gate (m + length (cuts_of net (loops_by blocks cut) gate))
+    fixed-from gate zero =
+        let all : length (cuts_of net (loops_by blocks cut) gate) ≡ 0 + length (cuts_of net (loops_by blocks cut) gate) = omega arith in
+        subst (CutsAreFixed net (loops_by blocks cut) v gate) all (few_sweeps_are_enough net (loops_by blocks cut) (blocks_tell_loops net blocks cut are cut_is) gate v width)
+    fixed-from gate (suc m) =
+        let more : suc (m + length (cuts_of net (loops_by blocks cut) gate)) ≡ suc m + length (cuts_of net (loops_by blocks cut) gate) = omega arith in
+        subst (CutsAreFixed net (loops_by blocks cut) v gate) more (fixed_cuts_give_fix net (loops_by blocks cut) (blocks_tell_loops net blocks cut are cut_is) v width gate (m + length (cuts_of net (loops_by blocks cut) gate)) (fixed-from gate m)).0
 
     pub fixed-at : (n k : ℕ) → Contains (filter (is_cut cut.wires) (block_at blocks b).gates) n → length (filter (is_cut cut.wires) (block_at blocks b).gates) ≤ k →
         value_in (sweeps net (loops_by blocks cut) v k) n ≡ value_in (fix_gates net v) n
     fixed-at n k has enough =
         let is = from-cuts n has in
         let listed : Contains (block_at blocks b).gates n = subst (λ (p : ℕ). Contains (block_at blocks p).gates n) is.0.1 (home_gate net blocks are n is.0.0) in
-        let same : length (filter (is_cut cut.wires) (block_at blocks b).gates) ≡ length (cuts_of net (loops_by blocks cut) n) = ap length (cuts-are n listed) in
+        let m : ℕ = k - length (cuts_of net (loops_by blocks cut) n) in
+        let from : m + length (cuts_of net (loops_by blocks cut) n) ≡ k = omega (arith, enough, ap length (cuts-are n listed)) in
         cut_values_agree net (loops_by blocks cut) (blocks_tell_loops net blocks cut are cut_is) n (sweeps net (loops_by blocks cut) v k) (fix_gates net v)
-        (fixed-from n k (k - length (cuts_of net (loops_by blocks cut) n)) (omega (arith, enough, same)))
+        (subst (λ (j : ℕ). CutsAreFixed net (loops_by blocks cut) v n j) from (fixed-from n m))
         n (one-block n n is.0.0 is.0.1 is.0.0 is.0.1) is.1
 
 -- ---- equal values are equal nodes
@@ -127,12 +93,12 @@ block-gates list items b r gates same inside is = is ∙ ap (λ (xs : List Block
 
 pub gates-within : (net : Parts) (blocks : Blocks) → AreBlocksOf net blocks → (b : ℕ) → b < length blocks.list → (gates : List ℕ) → gates ≡ (block_at blocks b).gates → All (λ n. n < length net.gates) gates
 gates-within net blocks are b inside gates is k d less =
-    (gate_home net blocks are b (get_or gates k d) inside (subst (λ (ns : List ℕ). Contains ns (get_or gates k d)) is (k, less, get_or_default gates k (get_or gates k d) d less))).0
+    (gate_home net blocks are b (get_or gates k d) inside (subst (λ (ns : List ℕ). Contains ns (get_or gates k d)) is (All-contains_itself gates k d less))).0
 
 pub cuts-within : (net : Parts) (blocks : Blocks) → AreBlocksOf net blocks → (cut : Cut) (b : ℕ) → IsLoopAt blocks b → (cuts : List ℕ) → cuts ≡ filter (is_cut cut.wires) (block_at blocks b).gates → (list : List ℕ) → list ≡ cuts → All (λ n. n < length net.gates) list
 cuts-within net blocks are cut b loop cuts is list same k d less =
-    (from-cuts net blocks are cut b loop (get_or list k d) (subst (λ (ns : List ℕ). Contains ns (get_or list k d)) (same ∙ is) (k, less, get_or_default list k (get_or list k d) d less))).0.0
+    (from-cuts net blocks are cut b loop (get_or list k d) (subst (λ (ns : List ℕ). Contains ns (get_or list k d)) (same ∙ is) (All-contains_itself list k d less))).0.0
 
 pub order-within : (net : Parts) (blocks : Blocks) → AreBlocksOf net blocks → (cut : Cut) (b : ℕ) → IsLoopAt blocks b → (order : List ℕ) → IsOrderOf net (is_cut cut.wires) (block_at blocks b).gates order → (list : List ℕ) → list ≡ order → All (λ n. n < length net.gates) list
 order-within net blocks are cut b loop order follows list same k d less =
-    (gate_home net blocks are b (get_or list k d) loop.within (follows.only (get_or list k d) (subst (λ (ns : List ℕ). Contains ns (get_or list k d)) same (k, less, get_or_default list k (get_or list k d) d less)))).0
+    (gate_home net blocks are b (get_or list k d) loop.within (follows.only (get_or list k d) (subst (λ (ns : List ℕ). Contains ns (get_or list k d)) same (All-contains_itself list k d less)))).0

@@ -2,6 +2,7 @@
 use Rattle.std.proofs.Common.{◌≡◌, ℕ, ◌+◌, ◌<◌, ◌≤◌, Bool, false, ◌&&◌, List, [], ◌∷◌, ◌++◌, length, map, take, get_or, refl, sym, ap, ap₂, ◌∙◌, subst, arith, Option, Some, None, IsSome, Result, Ok, IsErrAnd, true≢false}
 use Rattle.std.specs.Option.{unwrap_or}
 use Rattle.fixpoint.proofs.Common.{All, get_or-map, length-map, take_more, All-map, All-push, StoreFault, Node, Arena, den, IsNodeOf, KeepsNodes, AddsWithin, NoOtherCause, IsLawful, Trit, Rails, AreRailsOf, trit_of, value_of, map_agree, KeptRails, rails_under, values_under, AreKept, GainsRoots, RootsStay}
+use Rattle.std.proofs.Math.Path.{fun_ext}
 use Rattle.std.proofs.lemmas.List.{map_push}
 use Rattle.cyc_base.proofs.ListLemmas.{map-map}
 use Rattle.bdd_store.specs.declared.fault.StoreFault.TheVariants.{Full, Memory}
@@ -33,8 +34,8 @@ under-node a laws root some = laws.roots root.key (node_under a root) (has-node 
 pub GainsRoots-refl : (a : Arena) → GainsRoots a a
 GainsRoots-refl a = record { vars = refl; limit = refl; entries = refl; roots = λ key n is. is }
 
-pub GainsRoots-chain : {s t u : Arena} → GainsRoots s t → GainsRoots t u → GainsRoots s u
-GainsRoots-chain g h = record {
+pub GainsRoots_chain : {s t u : Arena} → GainsRoots s t → GainsRoots t u → GainsRoots s u
+GainsRoots_chain g h = record {
   vars = h.vars ∙ g.vars;
   limit = h.limit ∙ g.limit;
   entries = h.entries ∙ g.entries;
@@ -78,32 +79,15 @@ rails_under-gained {s} {t} g kept is =
 pub all_under-gained : {s t : Arena} → GainsRoots s t → (kept : List KeptRails) → All (AreKept s) kept → map (rails_under t) kept ≡ map (rails_under s) kept
 all_under-gained {s} {t} g kept all = map_agree (rails_under t) (rails_under s) kept (λ k d less. rails_under-gained g (get_or kept k d) (all k d less))
 
-pub lists_under-gained : {s t : Arena} → GainsRoots s t → (lists : List (List KeptRails)) → All (All (AreKept s)) lists → map (map (rails_under t)) lists ≡ map (map (rails_under s)) lists
-lists_under-gained {s} {t} g lists all = map_agree (map (rails_under t)) (map (rails_under s)) lists (λ k d less. all_under-gained g (get_or lists k d) (all k d less))
-
--- one more of a list is kept
-module _ {s t : Arena} (g : GainsRoots s t) (rails : List Rails) (kept : List KeptRails) (i : ℕ) (made : KeptRails) (none : Rails) (inside : i < length rails) (all : All (AreKept s) kept) (is : map (rails_under s) kept ≡ take i rails)
-    (made_kept : AreKept t made) (made_is : rails_under t made ≡ get_or rails i none) where
-  pub kept-more : All (AreKept t) (kept ++ made ∷ [])
-  kept-more = All-push (AreKept t) kept made (All-kept-gained g kept all) made_kept
-
-  pub under-more : map (rails_under t) (kept ++ made ∷ []) ≡ take (i + 1) rails
-  under-more =
-      map_push (rails_under t) kept made
-      ∙ ap₂ (λ (xs : List Rails) (x : Rails). xs ++ x ∷ []) (all_under-gained g kept all ∙ is) made_is
-      ∙ sym (take_more rails i none inside)
-
--- and one more list
-module _ {s t : Arena} (g : GainsRoots s t) (lists : List (List Rails)) (kept : List (List KeptRails)) (i : ℕ) (made : List KeptRails) (none : List Rails) (inside : i < length lists) (all : All (All (AreKept s)) kept)
-    (is : map (map (rails_under s)) kept ≡ take i lists) (made_kept : All (AreKept t) made) (made_is : map (rails_under t) made ≡ get_or lists i none) where
-  pub lists-more : All (All (AreKept t)) (kept ++ made ∷ [])
-  lists-more = All-push (All (AreKept t)) kept made (λ k d less. All-kept-gained g (get_or kept k d) (all k d less)) made_kept
-
-  pub lists-under-more : map (map (rails_under t)) (kept ++ made ∷ []) ≡ take (i + 1) lists
-  lists-under-more =
-      map_push (map (rails_under t)) kept made
-      ∙ ap₂ (λ (xs : List (List Rails)) (x : List Rails). xs ++ x ∷ []) (lists_under-gained g kept all ∙ is) made_is
-      ∙ sym (take_more lists i none inside)
+-- one more of a list is kept, where those before it stay kept and what they are
+pub more-kept : {T U : Type 0} {Was Is : T → Type 0} {was is : T → U} (items : List U) (kept : List T) (i : ℕ) (made : T) (none : U) → ((x : T) → Was x → Is x × (is x ≡ was x)) → i < length items →
+    All Was kept → map was kept ≡ take i items → Is made → is made ≡ get_or items i none → All Is (kept ++ made ∷ []) × (map is (kept ++ made ∷ []) ≡ take (i + 1) items)
+more-kept {Was = Was} {Is = Is} {was = was} {is = is} items kept i made none stays inside all same made_kept made_is = (
+  All-push Is kept made (λ k d less. (stays (get_or kept k d) (all k d less)).0) made_kept,
+  map_push is kept made
+      ∙ ap₂ (λ xs x. xs ++ x ∷ []) (map_agree is was kept (λ k d less. (stays (get_or kept k d) (all k d less)).1) ∙ same) made_is
+      ∙ sym (take_more items i none inside),
+)
 
 -- ---- roots that stay
 
@@ -177,11 +161,11 @@ module _ {s t : Arena} (stay : RootsStay s t) where
     proper = λ bits. ap₂ (λ x y. x && y) (den-stays kept.one is.one bits) (den-stays kept.zero is.zero bits) ∙ proper.proper bits;
   }
 
-  pub values-stay : (kept : List KeptRails) → All (AreKept s) kept → (bits : List Bool) → values_under t kept bits ≡ values_under s kept bits
-  values-stay kept all bits =
+  pub values-stay : (kept : List KeptRails) → All (AreKept s) kept → values_under t kept ≡ values_under s kept
+  values-stay kept all = fun_ext (λ bits.
       map-map {C = Trit} (λ r. value_of t r bits) (rails_under t) kept
       ∙ map_agree (λ (x : KeptRails). value_of t (rails_under t x) bits) (λ (x : KeptRails). value_of s (rails_under s x) bits) kept (λ k d less. value-stays (get_or kept k d) (all k d less) bits)
-      ∙ sym (map-map {C = Trit} (λ r. value_of s r bits) (rails_under s) kept)
+      ∙ sym (map-map {C = Trit} (λ r. value_of s r bits) (rails_under s) kept))
 
   pub All-rails-stay : (kept : List KeptRails) → All (AreKept s) kept → All (AreRailsOf s) (map (rails_under s) kept) → All (AreRailsOf t) (map (rails_under t) kept)
   All-rails-stay kept all proper =
@@ -195,10 +179,9 @@ module _ {s t : Arena} (keeps : KeepsNodes s t) where
   pub AreKept-same : (kept : KeptRails) → AreKept s kept → AreKept t kept
   AreKept-same kept is = record { one = subst IsSome (sym (root-same kept.one.key)) is.one; zero = subst IsSome (sym (root-same kept.zero.key)) is.zero }
 
-  pub lists_under-same : (lists : List (List KeptRails)) → All (All (AreKept s)) lists → map (map (rails_under t)) lists ≡ map (map (rails_under s)) lists
-  lists_under-same lists all =
-      map_agree (map (rails_under t)) (map (rails_under s)) lists (λ k d less. map_agree (rails_under t) (rails_under s) (get_or lists k d) (λ i e inside.
-      ap₂ (λ (m n : Option Node). record { one = unwrap_or m (constant false); zero = unwrap_or n (constant false) }) (root-same (get_or (get_or lists k d) i e).one.key) (root-same (get_or (get_or lists k d) i e).zero.key)))
+  pub rails_under-same : rails_under t ≡ rails_under s
+  rails_under-same = fun_ext (λ kept.
+      ap₂ (λ (m n : Option Node). record { one = unwrap_or m (constant false); zero = unwrap_or n (constant false) }) (root-same kept.one.key) (root-same kept.zero.key))
 
 -- ---- what a call adds
 

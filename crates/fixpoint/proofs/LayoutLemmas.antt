@@ -1,10 +1,11 @@
 -- Vectors by column and by variable: each is one of the other, where the columns are a layout.
-use Rattle.std.proofs.Common.{◌≡◌, ◌≢◌, inl, inr, ℕ, zero, suc, ◌+◌, ◌<◌, ◌≤◌, eqb, Bool, true, false, ◌||◌, List, [], ◌∷◌, ◌++◌, length, take, get_or, set, replicate, refl, sym, ap, ◌∙◌, arith, length-set, true≢false}
-use Rattle.std.specs.List.{AllByRecursion, Contains, IsDistinct, list_any}
-use Rattle.fixpoint.proofs.Common.{cases_Bool, eqb-true, ext_get_or, get_or_default, length-map, length-replicate, take_more, take_all, IsLayout}
-use Rattle.std.proofs.lemmas.Bool.{ne_eqb, or_cases}
+use Rattle.std.proofs.Common.{◌≡◌, inl, inr, ℕ, zero, suc, ◌+◌, ◌<◌, ◌≤◌, eqb, Bool, false, List, [], ◌∷◌, ◌++◌, length, take, get_or, set, replicate, refl, sym, ap, ◌∙◌, arith, length-set}
+use Rattle.std.specs.List.{Contains, IsDistinct, list_any}
+use Rattle.fixpoint.proofs.Common.{All, All-contains, All-push, length_push, cases_Bool, eqb-true, ext_get_or, get_or_default, length-map, length-replicate, take_more, take_all, IsLayout}
+use Rattle.std.proofs.lemmas.Bool.{ne_eqb}
 use Rattle.std.proofs.lemmas.List.{take_more_set}
-use Rattle.std.proofs.lemmas.Map.Keys.{IsDistinct-from_apart}
+use Rattle.std.specs.Cmp.{nat_eq_equiv}
+use Rattle.std.proofs.lemmas.Map.Keys.{IsDistinct-from_apart, IsDistinct-push}
 use Rattle.std.proofs.lemmas.Map.Steps.{length-le_from_distinct_below}
 use Rattle.std.proofs.lemmas.Map.Views.{Contains-from_any}
 use Rattle.bdd_ops.specs.Least.{by_variable}
@@ -68,22 +69,6 @@ module _ (n : ℕ) (columns : List ℕ) (are : IsLayout n columns) where
 
   -- ---- each column has a variable
 
-  member-below : (xs : List ℕ) → ((k : ℕ) → k < length xs → get_or xs k 0 < n) → (q : ℕ) → list_any (eqb q) xs ≡ true → q < n
-  member-below [] low q is = absurd (true≢false (sym is))
-  member-below (x ∷ xs) low q is = elim (or_cases (eqb q x) (list_any (eqb q) xs) is) [
-    | inl e ↦ let first = low 0 (omega arith) in let same = eqb-true q x e in omega (arith, first, same)
-    | inr e ↦ member-below xs (λ k less. low (suc k) (omega (arith, less))) q e
-  ]
-
-  apart-from : (c : ℕ) (xs : List ℕ) → list_any (eqb c) xs ≡ false → AllByRecursion (λ y. eqb c y ≡ false) xs
-  apart-from c [] none = tt
-  apart-from c (x ∷ xs) none = by (apart-from c xs) (eqb c x) refl (list_any (eqb c) xs) refl none
-    where
-      by : (list_any (eqb c) xs ≡ false → AllByRecursion (λ y. eqb c y ≡ false) xs) → (b : Bool) → eqb c x ≡ b → (d : Bool) → list_any (eqb c) xs ≡ d → (b || d) ≡ false → AllByRecursion (λ y. eqb c y ≡ false) (x ∷ xs)
-      by rest true e d f h = absurd (true≢false h)
-      by rest false e true f h = absurd (true≢false h)
-      by rest false e false f h = (e, rest f)
-
   distinct : IsDistinct eqb columns
   distinct = IsDistinct-from_apart eqb columns (λ i j d less within. by i j d less within)
     where
@@ -103,18 +88,14 @@ module _ (n : ℕ) (columns : List ℕ) (are : IsLayout n columns) where
         let within = found.1 in
         record { number = found.0; within = omega (arith, long, within); is = get_or_default columns found.0 0 c within ∙ found.2 }
     | inr none ↦
-        let long = are.long in
-        let most : length (c ∷ columns) ≤ n =
-        length-le_from_distinct_below (c ∷ columns) n (with-new c none) (member-below (c ∷ columns) (low c less)) in
-        absurd (omega (arith, most, long))
+        let more : List ℕ = columns ++ c ∷ [] in
+        let most : length more ≤ n = length-le_from_distinct_below more n (IsDistinct-push nat_eq_equiv columns c distinct none)
+        (λ q is. All-contains (λ s. s < n) more q (All-push (λ s. s < n) columns c low less) (Contains-from_any {eq = eqb} eqb-true q more is)) in
+        absurd (omega (arith, most, are.long, length_push columns c))
   ]
     where
-      with-new : (c : ℕ) → list_any (eqb c) columns ≡ false → IsDistinct eqb (c ∷ columns)
-      with-new c none = (apart-from c columns none, distinct)
-
-      low : (c : ℕ) → c < n → (k : ℕ) → k < length (c ∷ columns) → get_or (c ∷ columns) k 0 < n
-      low c less zero inside = less
-      low c less (suc k) inside = are.within k (let long = are.long in omega (arith, inside, long))
+      low : All (λ s. s < n) columns
+      low k d inside = rw (get_or_default columns k d 0 inside) (are.within k (omega (arith, inside, are.long)))
 
   pub columns-back : (v : List Bool) → length v ≡ n → by_column columns (by_variable columns v) ≡ v
   columns-back v wide =

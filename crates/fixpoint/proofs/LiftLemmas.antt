@@ -1,6 +1,5 @@
 -- Gates lifted one by one, each after those that it reads.
-use Rattle.std.proofs.Common.{◌≡◌, inl, inr, ℕ, ◌+◌, ◌<◌, Bool, List, ◌++◌, length, map, take, drop, get_or, replicate, refl, sym, ap, ap₂, ◌∙◌, subst, arith}
-use Rattle.std.proofs.Math.Seq.{take-append_seam}
+use Rattle.std.proofs.Common.{◌≡◌, inl, inr, ℕ, ◌+◌, ◌<◌, Bool, List, ◌++◌, length, map, get_or, replicate, refl, sym, ap, ap₂, ◌∙◌, subst, arith}
 use Rattle.fixpoint.proofs.Common.{cases_lt, get_or_default, length-append, length-replicate, get_or_append_left, get_or-map, length-map, All-set, All-append, All-get_or, All, Arena, KeepsNodes, ext, Sig, X, Rails, AreRailsOf, value_of, values_of, BoundsEach, All-rails-kept, Gate, Parts, wire, fix, fix_gates, IsNetlist, IsSignal, count, gate_at, no_gate, Feeds, first_gate, gate_of, value_in, map_agree, wire_of_gate, feeds_at, BoundsGate, AreLifted, Vectors, unknown, rails_at, no_loops, IsGatePart, read_at_fix}
 use Rattle.std.proofs.lemmas.List.{length-set}
 use Rattle.std.proofs.lemmas.List.Elements.{All-replicate}
@@ -20,21 +19,14 @@ rails-set {net} {s} {t} {rails} {after} gate k is done = record {
 }
 
 -- a gate's place in the order
-record HasPlace (order : List ℕ) (g : ℕ) : Type 0 where
-  place : ℕ
-  inside : place < length order
-  is : slice_index order place ≡ g
-
-place_of : (net : Parts) (order : List ℕ) → IsGateOrder net order → (g : ℕ) → g < length net.gates → HasPlace order g
-place_of net order is g within =
-    let c = is.each g within in
-    record { place = c.0; inside = c.1; is = get_or_default order c.0 0 g c.1 ∙ c.2 }
+place_of : (net : Parts) (order : List ℕ) → IsGateOrder net order → (g : ℕ) → g < length net.gates → (place : ℕ) × (place < length order) × (slice_index order place ≡ g)
+place_of net order is g within = let c = is.each g within in (c.0, c.1, get_or_default order c.0 0 g c.1 ∙ c.2)
 
 -- a gate whose place has been passed is at the fixpoint
-lifted-at : {net : Parts} {order : List ℕ} {a : Arena} {v : Vectors} {i : ℕ} {rails : List Rails} → AreLifted net order a v i rails → (g : ℕ) → (at : HasPlace order g) → at.place < i →
+lifted-at : {net : Parts} {order : List ℕ} {a : Arena} {v : Vectors} {i : ℕ} {rails : List Rails} → AreLifted net order a v i rails → (g place : ℕ) → place < i → slice_index order place ≡ g →
     (bits : List Bool) → value_of a (rails_at rails (first_gate net + g)) bits ≡ value_in (fix_gates net (v bits)) g
-lifted-at {net} {order} {a} {v} {i} {rails} lifted g at earlier bits =
-    subst (λ m. value_of a (rails_at rails (first_gate net + m)) bits ≡ value_in (fix_gates net (v bits)) m) at.is (lifted.gates at.place bits earlier)
+lifted-at {net} {a = a} {v} {rails = rails} lifted g place earlier is bits =
+    subst (λ m. value_of a (rails_at rails (first_gate net + m)) bits ≡ value_in (fix_gates net (v bits)) m) is (lifted.gates place bits earlier)
 
 -- ---- the next gate
 
@@ -57,11 +49,10 @@ module _ (net : Parts) (valid : IsNetlist net) (order : List ℕ) (ordered : IsG
             let g : ℕ = gate_of net pin in
             let g_in : g < length net.gates = omega (arith, high, signal) in
             let fed : Feeds net g n = feeds_at net n k none within less high g_in in
-            let at : HasPlace order g = place_of net order ordered g g_in in
-            let earlier : at.place < i = ordered.after at.place i at.inside inside
-            (subst (λ m. Feeds net m (slice_index order i)) (sym at.is) (subst (λ m. Feeds net g m) n_is fed)) in
+            let at = place_of net order ordered g g_in in
+            let earlier : at.0 < i = ordered.after at.0 i at.1 inside (subst (λ m. Feeds net m (slice_index order i)) (sym at.2) (subst (λ m. Feeds net g m) n_is fed)) in
             ap (λ m. value_of s (rails_at rails m) bits) (let e : pin.0 ≡ first_gate net + g = omega (arith, high) in e)
-            ∙ lifted-at before g at earlier bits
+            ∙ lifted-at before g at.0 earlier at.2 bits
             ∙ sym (wire_of_gate (v bits) (fix_gates net (v bits)) (first_gate net) pin.0 width high)
       ]
 
@@ -106,17 +97,13 @@ module _ (net : Parts) (valid : IsNetlist net) (order : List ℕ) (ordered : IsG
 
 -- ---- before the first gate
 
-pub rails-start : (net : Parts) (a : Arena) (given rails : List Rails) → length given ≡ first_gate net → All (AreRailsOf a) given →
-    rails ≡ given ++ replicate (length net.gates) unknown → AreSignalRails net a rails
-rails-start net a given rails wide proper is = record {
-  width = ap length is ∙ length-append given (replicate (length net.gates) unknown) ∙ ap₂ (λ m n. m + n) wide (length-replicate {A = Rails} (length net.gates) unknown);
-  proper = subst (All (AreRailsOf a)) (sym is) (All-append (AreRailsOf a) given (replicate (length net.gates) unknown) proper (All-replicate (AreRailsOf a) (length net.gates) unknown (unknown-rails a)));
-}
-
 pub lifted-start : (net : Parts) (order : List ℕ) (a : Arena) (given rails : List Rails) → length given ≡ first_gate net → All (AreRailsOf a) given →
     rails ≡ given ++ replicate (length net.gates) unknown → AreLifted net order a (λ bits. values_of a given bits) 0 rails
 lifted-start net order a given rails wide proper is = record {
-  wires = rails-start net a given rails wide proper is;
+  wires = record {
+    width = ap length is ∙ length-append given (replicate (length net.gates) unknown) ∙ ap₂ (λ m n. m + n) wide (length-replicate {A = Rails} (length net.gates) unknown);
+    proper = subst (All (AreRailsOf a)) (sym is) (All-append (AreRailsOf a) given (replicate (length net.gates) unknown) proper (All-replicate (AreRailsOf a) (length net.gates) unknown (unknown-rails a)));
+  };
   vector = λ bits. length-values a given bits ∙ wide;
   given = λ s bits low.
       ap (λ (r : List Rails). value_of a (rails_at r s) bits) is
@@ -131,8 +118,4 @@ pub lifted-end : (net : Parts) (order : List ℕ) (a : Arena) (v : Vectors) (rai
     (bits : List Bool) → values_of a rails bits ≡ fix net (v bits)
 lifted-end net order a v rails ordered is =
     values-fixed net a v rails is.wires.width is.vector is.given
-    (λ n bits less. let at : HasPlace order n = place_of net order ordered n less in lifted-at is n at at.inside bits)
-
--- what is written back to a list through a slice
-pub written : {T : Type 0} (n : ℕ) (xs ys : List T) → n ≡ length ys → length xs ≡ length ys → take n (xs ++ drop (length xs) ys) ≡ xs
-written n xs ys long same = ap (λ (m : ℕ). take m (xs ++ drop (length xs) ys)) (long ∙ sym same) ∙ take-append_seam xs (drop (length xs) ys)
+    (λ n bits less. let at = place_of net order ordered n less in lifted-at is n at.0 at.1 at.2 bits)

@@ -1,19 +1,21 @@
 -- Columns taken one after another, and that they are a layout in the end.
-use Rattle.std.proofs.Common.{◌≡◌, ◌≢◌, inl, inr, ℕ, zero, suc, ◌+◌, ◌<◌, ◌≤◌, eqb, Bool, true, false, not, ◌||◌, cond, List, [], ◌∷◌, ◌++◌, length, map, filter, take, get_or, set, replicate, refl, sym, ap, subst, ◌∙◌, arith, append_assoc, length-set, get_or-set_same, get_or-set_other, true≢false}
+use Rattle.std.proofs.Common.{◌≡◌, ◌≢◌, inl, inr, ◌⊎◌, ℕ, suc, ◌+◌, ◌<◌, ◌≤◌, eqb, add-one, Bool, true, false, not, ◌||◌, cond, List, [], ◌∷◌, ◌++◌, length, map, filter, take, get_or, set, replicate, refl, sym, ap, ap₂, ◌∙◌, arith, append_assoc, length-set, get_or-set_same, get_or-set_other, true≢false}
 use Rattle.std.specs.Prelude.{nat_lt, slice_get, Some}
-use Rattle.fixpoint.proofs.Common.{All, range_with_len, cases_lt, cases_eq, eqb-true, eq-eqb, append-nil, get_or-replicate, length-replicate, take_more, All-append, length-range_with_len, IsLayout, Sig, Gate, Parts, first_gate, first_signals, columns_read, AreTaken}
-use Rattle.std.specs.List.{IsDistinct, AllByRecursion, list_any}
-use Rattle.std.proofs.lemmas.Bool.{lt-ltb, le-ltb, ltb-true, ne_eqb, or_cases}
+use Rattle.std.specs.Cmp.{nat_eq_equiv}
+use Rattle.fixpoint.proofs.Common.{All, range_with_len, cases_lt, cases_eq, eqb-true, eq-eqb, append-nil, get_or-replicate, length-replicate, take_more, All-append, All-contains, length-range_with_len, IsLayout, Sig, Gate, Parts, first_gate, first_signals, columns_read, AreTaken}
+use Rattle.std.specs.List.{IsDistinct, list_any}
+use Rattle.std.proofs.lemmas.Bool.{lt-ltb, le-ltb, ltb-true, ne_eqb, not-true}
+use Rattle.std.proofs.Math.Bool.{or-true, or-false}
 use Rattle.std.proofs.lemmas.List.{map-append}
-use Rattle.std.proofs.lemmas.List.Elements.{filter-append, All-cons, All-filter}
-use Rattle.std.proofs.lemmas.List.Folds.{list_any-append, list_any_at}
+use Rattle.std.proofs.lemmas.List.Elements.{filter-append, filter_passes, recursion_from_All, All-cons, All-filter, Contains-append_right}
+use Rattle.std.proofs.lemmas.List.Folds.{list_any-append}
 use Rattle.std.proofs.lemmas.Grind.{flat_map-append}
 use Rattle.std.proofs.lemmas.List.FromFn.{get_or-range_with_len}
 use Rattle.std.proofs.lemmas.Option.{get_or_from_slice_get, slice_get_within}
 use Rattle.std.proofs.lemmas.Map.Keys.{apart_from_distinct}
 use Rattle.std.proofs.lemmas.Map.Steps.{length-le_from_distinct_below, le-length_from_below}
-use Rattle.std.proofs.lemmas.Map.Views.{any-filter_same}
-use Rattle.cyc_base.proofs.ListLemmas.{all_filter}
+use Rattle.std.proofs.lemmas.Map.Views.{any-filter_same, Contains-from_any, list_any-from_Contains}
+use Rattle.cyc_base.proofs.ListLemmas.{All-weaker, all_filter, all_weaker, range-suc, Contains-range}
 use Rattle.fixpoint.specs.Orders.{each_once, order}
 
 -- ---- each number once
@@ -33,7 +35,7 @@ each_once-more (x ∷ xs) c =
     by false other false = ap (λ t. cond (not t) (c ∷ []) []) (ne_eqb x c (λ e. true≢false (sym (eq-eqb c x (sym e)) ∙ other)))
 
 -- the numbers of the list, and no others
-pub each_once-any : (xs : List ℕ) (c : ℕ) → list_any (eqb c) (each_once xs) ≡ list_any (eqb c) xs
+each_once-any : (xs : List ℕ) (c : ℕ) → list_any (eqb c) (each_once xs) ≡ list_any (eqb c) xs
 each_once-any [] c = refl
 each_once-any (x ∷ xs) c = by (each_once-any xs c) (eqb c x) refl
   where
@@ -53,79 +55,37 @@ distinct-filter p (x ∷ xs) is = by (p x) (distinct-filter p xs is.1)
     by true rest = (all_filter (λ y. eqb x y ≡ false) p xs is.0, rest)
     by false rest = rest
 
-filtered-apart : (x : ℕ) (xs : List ℕ) → AllByRecursion (λ y. eqb x y ≡ false) (filter (λ m. not (eqb x m)) xs)
-filtered-apart x [] = tt
-filtered-apart x (y ∷ xs) = by (filtered-apart x xs) (eqb x y) refl
-  where
-    by : AllByRecursion (λ z. eqb x z ≡ false) (filter (λ m. not (eqb x m)) xs) → (b : Bool) → eqb x y ≡ b → AllByRecursion (λ z. eqb x z ≡ false) (cond (not b) (y ∷ filter (λ m. not (eqb x m)) xs) (filter (λ m. not (eqb x m)) xs))
-    by rest true same = rest
-    by rest false other = (other, rest)
-
-pub each_once-distinct : (xs : List ℕ) → IsDistinct eqb (each_once xs)
+each_once-distinct : (xs : List ℕ) → IsDistinct eqb (each_once xs)
 unfolding IsDistinct
 each_once-distinct [] = tt
-each_once-distinct (x ∷ xs) = (filtered-apart x (each_once xs), distinct-filter (λ m. not (eqb x m)) (each_once xs) (each_once-distinct xs))
+each_once-distinct (x ∷ xs) =
+    let others : List ℕ = filter (λ m. not (eqb x m)) (each_once xs) in (
+      all_weaker (λ y. not (eqb x y) ≡ true) (λ y. eqb x y ≡ false) others (λ y. not-true (eqb x y)) (recursion_from_All (λ y. not (eqb x y) ≡ true) others (filter_passes (λ m. not (eqb x m)) (each_once xs))),
+      distinct-filter (λ m. not (eqb x m)) (each_once xs) (each_once-distinct xs),
+    )
 
 -- numbers in order, one more
-range-more : (a n j : ℕ) → a + n ≡ j → range_with_len a (suc n) ≡ range_with_len a n ++ j ∷ []
-range-more a zero j is = ap (λ m. m ∷ []) (let e : a ≡ j = omega (arith, is) in e)
-range-more a (suc n) j is = ap (λ (xs : List ℕ). a ∷ xs) (range-more (a + 1) n j (omega (arith, is)))
-
 pub columns-more : (from : List ℕ) (n : ℕ) → (from ++ range_with_len 0 n) ++ n ∷ [] ≡ from ++ range_with_len 0 (n + 1)
 columns-more from n =
-    append_assoc from (range_with_len 0 n) (n ∷ [])
-    ∙ ap (λ (xs : List ℕ). from ++ xs) (sym (range-more 0 n n (omega arith)))
-    ∙ ap (λ m. from ++ range_with_len 0 m) (let e : suc n ≡ n + 1 = omega arith in e)
+    let at : n ≡ 0 + n = omega arith in
+    append_assoc from (range_with_len 0 n) (n ∷ []) ∙ ap (λ (xs : List ℕ). from ++ xs) (rw (add-one, range-suc 0 n) (ap (λ m. range_with_len 0 n ++ m ∷ []) at))
 
 -- ---- columns taken
 
 pub taken-none : (n : ℕ) → AreTaken [] (replicate n false) []
-taken-none n = record { taken = refl; marked = λ c less. marked c less }
-  where
-    marked : (c : ℕ) → c < length (replicate n false) → get_or (replicate n false) c false ≡ false
-    marked c less = elim (cases_lt c n) [
-      | inl within ↦ get_or-replicate n c false false within
-      | inr past ↦ absurd (let long = length-replicate n false in omega (arith, less, past, long))
-    ]
+taken-none n = record { taken = refl; marked = λ c less. get_or-replicate n c false false (omega (arith, less, length-replicate n false)) }
 
--- a new one
-pub taken-new : (from : List ℕ) (marks : List Bool) (columns : List ℕ) (c : ℕ) → c < length marks → get_or marks c false ≡ false → AreTaken from marks columns →
-    AreTaken (from ++ c ∷ []) (set marks c true) (columns ++ c ∷ [])
-taken-new from marks columns c within new are = record {
-  taken = ap (λ (ys : List ℕ). ys ++ c ∷ []) are.taken ∙ ap (λ t. each_once from ++ cond t [] (c ∷ [])) (sym (sym (are.marked c within) ∙ new)) ∙ sym (each_once-more from c);
-  marked = λ m less.
-      let inside : m < length marks = let l = length-set marks c true in omega (arith, less, l) in
-      elim (cases_eq m c) [
-        | inl same ↦
-            ap (λ i. get_or (set marks c true) i false) same ∙ get_or-set_same marks c true false within
-            ∙ sym (list_any-append (eqb m) from (c ∷ []) ∙ ap (λ t. list_any (eqb m) from || (t || false)) (eq-eqb m c same) ∙ or_true (list_any (eqb m) from))
-        | inr other ↦
-            get_or-set_other marks c m true false other ∙ are.marked m inside
-            ∙ sym (list_any-append (eqb m) from (c ∷ []) ∙ ap (λ t. list_any (eqb m) from || (t || false)) (ne_eqb m c other) ∙ or_false (list_any (eqb m) from))
-      ];
+-- one more, which may be taken already
+pub taken-more : (from : List ℕ) (marks : List Bool) (columns : List ℕ) (c : ℕ) → c < length marks → AreTaken from marks columns →
+    AreTaken (from ++ c ∷ []) (set marks c true) (columns ++ cond (get_or marks c false) [] (c ∷ []))
+taken-more from marks columns c within are = record {
+  taken = ap₂ (λ (ys : List ℕ) t. ys ++ cond t [] (c ∷ [])) are.taken (are.marked c within) ∙ sym (each_once-more from c);
+  marked = λ m less. by m (omega (arith, less, length-set marks c true)) (cases_eq m c) ∙ sym (list_any-append (eqb m) from (c ∷ []));
 }
   where
-    or_true : (b : Bool) → (b || true) ≡ true
-    or_true true = refl
-    or_true false = refl
-
-    or_false : (b : Bool) → (b || false) ≡ b
-    or_false true = refl
-    or_false false = refl
-
--- one that is taken already
-pub taken-old : (from : List ℕ) (marks : List Bool) (columns : List ℕ) (c : ℕ) → c < length marks → get_or marks c false ≡ true → AreTaken from marks columns → AreTaken (from ++ c ∷ []) marks columns
-taken-old from marks columns c within old are = record {
-  taken = are.taken ∙ sym (append-nil (each_once from)) ∙ ap (λ t. each_once from ++ cond t [] (c ∷ [])) (sym (sym (are.marked c within) ∙ old)) ∙ sym (each_once-more from c);
-  marked = λ m less.
-      are.marked m less
-      ∙ sym (list_any-append (eqb m) from (c ∷ []) ∙ more (list_any (eqb m) from) (eqb m c) (λ same. ap (λ i. list_any (eqb i) from) (eqb-true m c same) ∙ sym (are.marked c within) ∙ old));
-}
-  where
-    more : (b e : Bool) → (e ≡ true → b ≡ true) → (b || (e || false)) ≡ b
-    more true e h = refl
-    more false true h = sym (h refl)
-    more false false h = refl
+    by : (m : ℕ) → m < length marks → (m ≡ c) ⊎ (m ≢ c) → get_or (set marks c true) m false ≡ (list_any (eqb m) from || (eqb m c || false))
+    by m inside (inl same) = rw (same, get_or-set_same marks c true false within, eq-eqb c c refl, or-true (list_any (eqb c) from))
+    by m inside (inr other) = rw (get_or-set_other marks c m true false other, ne_eqb m c other, or-false (list_any (eqb m) from)) (are.marked m inside)
 
 -- ---- columns that are read
 
@@ -155,17 +115,11 @@ gate-more n gates i gate found =
 
 -- ---- a layout
 
-low-signals : (n : ℕ) (signals : List ℕ) → All (λ s. s < n) (filter (λ s. nat_lt s n) signals)
-low-signals n [] = λ k d less. absurd (omega (arith, less))
-low-signals n (s ∷ signals) = by (low-signals n signals) (nat_lt s n) refl
-  where
-    by : All (λ x. x < n) (filter (λ x. nat_lt x n) signals) → (b : Bool) → nat_lt s n ≡ b → All (λ x. x < n) (cond b (s ∷ filter (λ x. nat_lt x n) signals) (filter (λ x. nat_lt x n) signals))
-    by rest true low = All-cons (λ x. x < n) s (filter (λ x. nat_lt x n) signals) (ltb-true s n low) rest
-    by rest false high = rest
-
 low-read : (n : ℕ) (gates : List Gate) → All (λ s. s < n) (columns_read n gates)
 low-read n [] = λ k d less. absurd (omega (arith, less))
-low-read n (gate ∷ gates) = All-append (λ s. s < n) (first_signals n gate.pins) (columns_read n gates) (low-signals n (map (λ (pin : Sig). pin.0) gate.pins)) (low-read n gates)
+low-read n (gate ∷ gates) =
+    All-append (λ s. s < n) (first_signals n gate.pins) (columns_read n gates)
+    (All-weaker (λ s. nat_lt s n ≡ true) (λ s. s < n) (first_signals n gate.pins) (λ s. ltb-true s n) (filter_passes (λ s. nat_lt s n) (map (λ (pin : Sig). pin.0) gate.pins))) (low-read n gates)
 
 low-each : (n : ℕ) (xs : List ℕ) → All (λ s. s < n) xs → All (λ s. s < n) (each_once xs)
 low-each n [] low = low
@@ -188,25 +142,14 @@ module _ (net : Parts) where
   there : (c : ℕ) → c < n → list_any (eqb c) (order net) ≡ true
   there c less =
       each_once-any all c
-      ∙ list_any-append (eqb c) (columns_read n net.gates) (range_with_len 0 n)
-      ∙ ap (λ t. list_any (eqb c) (columns_read n net.gates) || t)
-      (list_any_at (eqb c) (range_with_len 0 n) c 0 (let long = length-range_with_len 0 n in omega (arith, long, less)) (eq-eqb c (get_or (range_with_len 0 n) c 0) (let at = get_or-range_with_len 0 n c 0 less in omega (arith, at))))
-      ∙ or_true (list_any (eqb c) (columns_read n net.gates))
-    where
-      or_true : (b : Bool) → (b || true) ≡ true
-      or_true true = refl
-      or_true false = refl
+      ∙ list_any-from_Contains nat_eq_equiv c all (Contains-append_right (columns_read n net.gates) (range_with_len 0 n) c (Contains-range n c less))
 
-  member-below : (xs : List ℕ) → All (λ s. s < n) xs → (q : ℕ) → list_any (eqb q) xs ≡ true → q < n
-  member-below [] low q is = absurd (true≢false (sym is))
-  member-below (x ∷ xs) low q is = elim (or_cases (eqb q x) (list_any (eqb q) xs) is) [
-    | inl e ↦ subst (λ s. s < n) (sym (eqb-true q x e)) (low 0 x (omega arith))
-    | inr e ↦ member-below xs (λ k d less. low (suc k) d (omega (arith, less))) q e
-  ]
+  member-below : (q : ℕ) → list_any (eqb q) (order net) ≡ true → q < n
+  member-below q is = All-contains (λ s. s < n) (order net) q below (Contains-from_any {eq = eqb} eqb-true q (order net) is)
 
   wide : length (order net) ≡ n
   wide =
-      let most = length-le_from_distinct_below (order net) n (each_once-distinct all) (member-below (order net) below) in
+      let most = length-le_from_distinct_below (order net) n (each_once-distinct all) member-below in
       let least = le-length_from_below (order net) n there in
       omega (arith, most, least)
 

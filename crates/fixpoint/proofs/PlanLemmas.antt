@@ -32,14 +32,14 @@ pub locals-next : (net : Parts) (gates : List ℕ) (n place : ℕ) (old new : Lo
 locals-next net gates n place old new are shared stay places has = record {
   shared = shared;
   width = ap length places ∙ longer;
-  each = λ i less. subst (λ (ps : List ℕ). HasDiagram net new.shared.items (get_or (gates ++ n ∷ []) i 0) (get_or ps i 0)) (sym places) (elim (cases_lt i (length gates)) [
-    | inl low ↦ subst (λ (m : ℕ). HasDiagram net new.shared.items m (get_or (old.places.items ++ place ∷ []) i 0)) (sym (get_or_append_left gates (n ∷ []) 0 i low))
-        (subst (HasDiagram net new.shared.items (get_or gates i 0)) (sym (get_or_append_left old.places.items (place ∷ []) 0 i (omega (arith, low, are.width)))) (stay (get_or gates i 0) (get_or old.places.items i 0) (are.each i low)))
+  each = λ i less. elim (cases_lt i (length gates)) [
+    | inl low ↦
+        rw (places, get_or_append_left gates (n ∷ []) 0 i low, get_or_append_left old.places.items (place ∷ []) 0 i (omega (arith, low, are.width)))
+        (stay (get_or gates i 0) (get_or old.places.items i 0) (are.each i low))
     | inr high ↦
         let here : length gates ≡ i = omega (arith, less, high, length_push gates n) in
-        subst (λ (m : ℕ). HasDiagram net new.shared.items m (get_or (old.places.items ++ place ∷ []) i 0)) (sym (get_or_push gates n 0 i here))
-        (subst (HasDiagram net new.shared.items n) (sym (get_or_push old.places.items place 0 i (are.width ∙ here))) has)
-  ]);
+        rw (places, get_or_push gates n 0 i here, get_or_push old.places.items place 0 i (are.width ∙ here)) has
+  ];
 }
   where
     longer : length (old.places.items ++ place ∷ []) ≡ length (gates ++ n ∷ [])

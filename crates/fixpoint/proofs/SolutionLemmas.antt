@@ -1,51 +1,36 @@
 -- The loops of a solution can be counted, and a solution stays one while nodes are kept.
-use Rattle.std.proofs.Common.{◌≡◌, ◌==◌, inl, inr, ℕ, zero, suc, ◌+◌, ◌<◌, ◌≤◌, Bool, true, false, ◌||◌, cond, List, [], ◌∷◌, length, map, filter, take, get_or, refl, sym, ap, ◌∙◌, subst, arith, Contains}
-use Rattle.fixpoint.proofs.Common.{cases_Bool, eqb-true, get_or_default, get_or-map, take_all, length-map, length-range_with_len, sum_by_more, All, sum_by, range_with_len, Node, Arena, Rails, Parts, IsNetlist, Blocks, Cut, AreBlocksOf, block_at, home_of, IsCutOf, is_cut, loops_by, cuts_of, LoopSteps, Solved, rails_under, Vectors, AreStepsOf, AreKeptSteps, IsSolution, steps_under, loop_under, AreCountable, total}
-use Rattle.std.proofs.lemmas.List.FromFn.{get_or-range_with_len}
-use Rattle.std.proofs.lemmas.List.Sums.{sum_by-cons, length-filter, count_by-le-length}
+use Rattle.std.proofs.Common.{◌≡◌, ◌==◌, ℕ, zero, suc, ◌+◌, ◌<◌, ◌≤◌, Bool, true, false, ◌||◌, cond, if◌then◌else◌, List, [], ◌∷◌, ◌++◌, length, map, filter, get_or, refl, sym, ap, ◌∙◌, arith, Contains}
+use Rattle.fixpoint.proofs.Common.{eqb-true, get_or_default, get_or-map, length-map, All, sum_by, range_with_len, Node, Arena, Rails, Parts, IsNetlist, Blocks, Cut, AreBlocksOf, block_at, home_of, IsCutOf, is_cut, loops_by, cuts_of, LoopSteps, Solved, rails_under, Vectors, AreStepsOf, AreKeptSteps, IsSolution, steps_under, loop_under, AreCountable, total}
+use Rattle.std.proofs.lemmas.List.Sums.{sum_by-cons, sum_by-append, length-filter}
 use Rattle.std.specs.List.{count_by}
-use Rattle.std.proofs.lemmas.Bool.{or_cases, or_left, or_right, or_from}
+use Rattle.std.proofs.lemmas.Bool.{or_from, ne_eqb}
+use Rattle.cyc_base.proofs.ListLemmas.{range-suc, filter-no_longer}
 use Rattle.fixpoint.specs.Counts.{AreLoopsToCount}
 use Rattle.fixpoint.specs.Laws.{SolutionsCount, SolutionsStay}
 use Rattle.fixpoint.proofs.KeptLemmas.{All-kept-stay, All-rails-stay, values-stay}
 use Rattle.fixpoint.proofs.KeepingLemmas.{steps-stay}
 use Rattle.fixpoint.proofs.BoundLemmas.{cuts-few}
-use Rattle.fixpoint.proofs.CostLemmas.{total-split}
+use Rattle.fixpoint.proofs.CostLemmas.{if-at-most, total-split}
 use Rattle.fixpoint.proofs.CutLemmas.{cuts-are}
 use Rattle.fixpoint.proofs.MinimumLemmas.{step-width, few-sweeps}
 
 -- ---- each gate is counted once
 
 count-total : (p : ℕ → Bool) (n : ℕ) → count_by p (range_with_len 0 n) ≡ total p (λ m. 1) n
-count-total p n = ap (count_by p) (sym (take_all n (range_with_len 0 n) (let e = length-range_with_len 0 n in omega (arith, e)))) ∙ by n (omega arith)
-  where
-    by : (k : ℕ) → k ≤ n → count_by p (take k (range_with_len 0 n)) ≡ total p (λ m. 1) k
-    by zero less = refl
-    by (suc k) less =
-        let rest = by k (omega (arith, less)) in
-        let long = length-range_with_len 0 n in
-        let next : k + 1 ≡ suc k = omega arith in
-        let at : get_or (range_with_len 0 n) k 0 ≡ k = omega (arith, get_or-range_with_len 0 n k 0 (omega (arith, less))) in
-        let more : count_by p (take (suc k) (range_with_len 0 n)) ≡ count_by p (take k (range_with_len 0 n)) + cond (p (get_or (range_with_len 0 n) k 0)) 1 0 =
-        subst (λ (m : ℕ). count_by p (take m (range_with_len 0 n)) ≡ count_by p (take k (range_with_len 0 n)) + cond (p (get_or (range_with_len 0 n) k 0)) 1 0) next (sum_by_more (λ x. cond (p x) 1 0) (range_with_len 0 n) k 0 (omega (arith, less, long))) in
-        more ∙ ap (λ (m : ℕ). count_by p (take k (range_with_len 0 n)) + cond (p m) 1 0) at ∙ ap (λ (m : ℕ). m + cond (p k) 1 0) rest
+count-total p zero = refl
+count-total p (suc n) =
+    let at : 0 + n ≡ n = omega arith in
+    let more : count_by p (range_with_len 0 (suc n)) ≡ count_by p (range_with_len 0 n ++ n ∷ []) = ap (count_by p) (range-suc 0 n ∙ ap (λ m. range_with_len 0 n ++ m ∷ []) at) in
+    omega (arith, more, sum_by-append (λ m. cond (p m) 1 0) (range_with_len 0 n) (n ∷ []), count-total p n)
 
 total-bound : (p : ℕ → Bool) (n : ℕ) → total p (λ m. 1) n ≤ n
 total-bound p zero = omega arith
-total-bound p (suc n) = let rest = total-bound p n in by (p n) rest
-  where
-    by : (b : Bool) → total p (λ m. 1) n ≤ n → total p (λ m. 1) n + cond b 1 0 ≤ suc n
-    by true rest = omega (arith, rest)
-    by false rest = omega (arith, rest)
+total-bound p (suc n) = omega (arith, total-bound p n, if-at-most (p n) 1)
 
 cuts-total : (net : Parts) (blocks : Blocks) (cut : Cut) → AreBlocksOf net blocks → (b : ℕ) → b < length blocks.list → length (filter (is_cut cut.wires) (block_at blocks b).gates) ≤ total (λ n. home_of blocks n == b) (λ m. 1) (length blocks.home)
 cuts-total net blocks cut are b inside =
-    let one = length-filter (is_cut cut.wires) (block_at blocks b).gates in
-    let two = count_by-le-length (is_cut cut.wires) (block_at blocks b).gates in
     let gates : length (block_at blocks b).gates ≡ length (filter (λ n. home_of blocks n == b) (range_with_len 0 (length blocks.home))) = ap length (are.gates b inside) in
-    let three = length-filter (λ n. home_of blocks n == b) (range_with_len 0 (length blocks.home)) in
-    let four = count-total (λ n. home_of blocks n == b) (length blocks.home) in
-    omega (arith, one, two, gates, three, four)
+    omega (arith, filter-no_longer (is_cut cut.wires) (block_at blocks b).gates, gates, length-filter (λ n. home_of blocks n == b) (range_with_len 0 (length blocks.home)), count-total (λ n. home_of blocks n == b) (length blocks.home))
 
 -- whether one of the loops has a gate
 abbrev within : (ℕ → ℕ) → List LoopSteps → ℕ → Bool
@@ -56,8 +41,7 @@ apart-within : (home : ℕ → ℕ) (xs : List LoopSteps) (b n : ℕ) → All (�
 apart-within home [] b n apart at = refl
 apart-within home (x ∷ xs) b n apart at =
     let here : ¬ (x.block ≡ b) = apart 0 x (omega arith) in
-    or_from (home n == x.block) (within home xs n)
-    (elim (cases_Bool (home n == x.block)) [ inl e ↦ absurd (here (sym (eqb-true (home n) x.block e) ∙ at)) | inr e ↦ e ])
+    or_from (home n == x.block) (within home xs n) (ne_eqb (home n) x.block (λ e. here (sym e ∙ at)))
     (apart-within home xs b n (λ k none less. apart (suc k) none (omega (arith, less))) at)
 
 sum-within : (home : ℕ → ℕ) (G : ℕ) (xs : List LoopSteps) → All (λ x. length x.cuts ≤ total (λ n. home n == x.block) (λ m. 1) G) xs
@@ -69,12 +53,13 @@ sum-within home G (x ∷ xs) each once =
     let rest = sum-within home G xs (λ k none less. each (suc k) none (omega (arith, less))) (λ i j none li lj same. let e = once (suc i) (suc j) none (omega (arith, li)) (omega (arith, lj)) same in omega (arith, e)) in
     let apart : All (λ y. ¬ (y.block ≡ x.block)) xs = λ k none less same. let e = once 0 (suc k) none (omega arith) (omega (arith, less)) (sym same) in omega (arith, e) in
     let split = total-split (λ n. home n == x.block) (within home xs) (λ n. (home n == x.block) || within home xs n) (λ m. 1) G
-    (λ n e. apart-within home xs x.block n apart (eqb-true (home n) x.block e))
-    (λ n e. or_left (home n == x.block) (within home xs n) e)
-    (λ n e. or_right (home n == x.block) (within home xs n) e)
-    (λ n e. or_cases (home n == x.block) (within home xs n) e) in
+    (λ n. parts (home n == x.block) (within home xs n) (λ e. apart-within home xs x.block n apart (eqb-true (home n) x.block e))) in
     let sum = sum_by-cons (λ (y : LoopSteps). length y.cuts) x xs in
     omega (arith, here, rest, split, sum)
+  where
+    parts : (a b : Bool) → (a ≡ true → b ≡ false) → (if a then 1 else 0) + (if b then 1 else 0) ≡ (if a || b then 1 else 0)
+    parts true b h = rw (h refl) (omega arith)
+    parts false b h = omega arith
 
 -- ---- solutions
 
@@ -139,7 +124,7 @@ solutions-stay net blocks cut old new v solved stay solution = record {
   vector = solution.vector;
   keys = All-kept-stay stay solved.rails solution.keys;
   rails = All-rails-stay stay solved.rails solution.keys solution.rails;
-  values = λ bits. values-stay stay solved.rails solution.keys bits ∙ solution.values bits;
+  values = λ bits. ap (λ (v : Vectors). v bits) (values-stay stay solved.rails solution.keys) ∙ solution.values bits;
   loops = solution.loops;
-  steps = λ k none less. steps-stay stay (λ bits. refl) (get_or solved.loops k none) (solution.steps k none less);
+  steps = λ k none less. steps-stay stay (get_or solved.loops k none) (solution.steps k none less);
 }

@@ -1,12 +1,36 @@
 -- Rails of wires, and of what a gate reads.
-use Rattle.std.proofs.Common.{◌≡◌, ◌≢◌, inl, inr, ℕ, ◌+◌, ◌-◌, ◌<◌, leb, Bool, true, false, ◌&&◌, if◌then◌else◌, List, length, map, refl, sym, ap, ◌∙◌, subst, arith}
-use Rattle.fixpoint.proofs.Common.{cases_lt, get_or-map, get_or_append_left, length-append, ext_get_or, All-map, All-set, All, Arena, KeepsNodes, Sig, Trit, X, Rails, AreRailsOf, value_of, values_of, All-rails-kept, value_of-kept, Parts, fix, fix_gates, count, Cut, is_cut, first_gate, gate_of, value_in, wire_of_gate, Vectors, unknown, rails_at, rails_read, AreWires, IsGateSet}
-use Rattle.std.proofs.lemmas.List.{get_or_past, get_or-set_same, get_or-set_other, length-set}
+use Rattle.std.proofs.Common.{◌≡◌, ◌≢◌, inl, inr, ◌⊎◌, ℕ, ◌+◌, ◌-◌, ◌<◌, leb, Bool, true, false, ◌&&◌, if◌then◌else◌, List, [], ◌∷◌, ◌++◌, length, map, take, get_or, set, refl, sym, ap, ◌∙◌, subst, arith, Contains}
+use Rattle.fixpoint.proofs.Common.{cases_lt, cases_eq, take_more, get_or-map, get_or_append_left, length-append, ext_get_or, All-map, All-set, All, Arena, KeepsNodes, Sig, Trit, X, Rails, AreRailsOf, value_of, values_of, All-rails-kept, value_of-kept, Parts, fix, fix_gates, count, Cut, is_cut, first_gate, gate_of, value_in, wire_of_gate, Vectors, unknown, rails_at, rails_read, AreWires, IsGateSet}
+use Rattle.std.proofs.lemmas.List.{get_or_past, get_or-set_same, get_or-set_other, length-set, take-set-le}
+use Rattle.std.proofs.lemmas.List.Elements.{Contains-append_left, Contains-push, Contains-push_cases}
 use Rattle.std.specs.List.{slice_index_or, slice_set}
 use Rattle.cyc_base.proofs.ListLemmas.{map-map}
 use Rattle.bdd_store.specs.Arena.{den_within}
 use Rattle.dual_rail.proofs.SurelyLemmas.{length-values}
 use Rattle.netlist.proofs.FixpointLemmas.{length-steps}
+
+-- ---- gates that are gone through in order
+
+-- the next one, or one of those before
+pub next-or-before : (order : List ℕ) (i m : ℕ) → i < length order → Contains (take (i + 1) order) m → Contains (take i order) m ⊎ (get_or order i 0 ≡ m)
+next-or-before order i m less has = Contains-push_cases (take i order) (get_or order i 0) m (subst (λ (ns : List ℕ). Contains ns m) (take_more order i 0 less) has)
+
+-- what is set for the next one, and what stays for those after it
+pub set-taken : {T : Type 0} (P : ℕ → T → Type 0) (order : List ℕ) (xs : List T) (i : ℕ) (x none : T) → i < length order → get_or order i 0 < length xs
+    → ((n : ℕ) → Contains (take i order) n → P n (get_or xs n none)) → P (get_or order i 0) x → (n : ℕ) → Contains (take (i + 1) order) n → P n (get_or (set xs (get_or order i 0) x) n none)
+set-taken P order xs i x none inside room before here n has = elim (cases_eq (get_or order i 0) n) [
+  | inl same ↦ subst (λ m. P m (get_or (set xs (get_or order i 0) x) m none)) same (subst (P (get_or order i 0)) (sym (get_or-set_same xs (get_or order i 0) x none room)) here)
+  | inr other ↦ subst (P n) (sym (get_or-set_other xs (get_or order i 0) n x none (λ same. other (sym same)))) (before n (elim (next-or-before order i n inside has) [ inl taken ↦ taken | inr next ↦ absurd (other next) ]))
+]
+
+pub set-others : {T : Type 0} (order : List ℕ) (old xs : List T) (i : ℕ) (x none : T) → i < length order → ((n : ℕ) → ¬ Contains (take i order) n → get_or xs n none ≡ get_or old n none)
+    → (n : ℕ) → ¬ Contains (take (i + 1) order) n → get_or (set xs (get_or order i 0) x) n none ≡ get_or old n none
+set-others order old xs i x none inside others n =
+    rw (take_more order i 0 inside)
+    (λ free. get_or-set_other xs (get_or order i 0) n x none (λ same. free (subst (Contains (take i order ++ get_or order i 0 ∷ [])) (sym same) (Contains-push (take i order) (get_or order i 0))))
+    ∙ others n (λ taken. free (Contains-append_left (take i order) (get_or order i 0 ∷ []) n taken)))
+
+-- ---- rails
 
 -- the rails of X are proper
 pub unknown-rails : (a : Arena) → AreRailsOf a unknown
@@ -58,6 +82,10 @@ set-other {s} {t} rails after p made keeps proper is m bits other =
     ap (λ (r : List Rails). value_of t (rails_at r m) bits) is
     ∙ ap (λ (r : Rails). value_of t r bits) (get_or-set_other rails p m made unknown other)
     ∙ value_of-kept keeps (rails_at rails m) (rails_at-proper s rails proper m) bits
+
+-- no input or latch is set with a gate
+pub given-set : {net : Parts} {cut : Cut} {s t : Arena} {before rails after : List Rails} (gate : ℕ) → IsGateSet net cut s t before rails after gate → take (first_gate net) after ≡ take (first_gate net) rails
+given-set {net} {rails = rails} gate done = ap (take (first_gate net)) done.is ∙ take-set-le (first_gate net) rails (first_gate net + gate) done.made (omega arith)
 
 -- ---- when all gates stand at the fixpoint
 

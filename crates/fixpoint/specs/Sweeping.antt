@@ -94,10 +94,6 @@ pub record IsSweepable (l : Looped) (a : Arena) (v : Vectors) (c : States) (b : 
   pub solved : IsSolvedBelow l a v b before rails
   pub cuts : CutsAre l a c b before
 
--- signals but these gates are as they were
-abbrev pub OthersStay : Parts → List ℕ → List Rails → List Rails → Type 0
-OthersStay net gates old new = (s : ℕ) → ((n : ℕ) → s ≡ first_gate net + n → ¬ Contains gates n) → rails_at new s ≡ rails_at old s
-
 -- the states after k sweeps
 abbrev pub after_sweeps : Looped → Vectors → ℕ → States
 after_sweeps l v k bits = sweeps l.net (loops_by l.blocks l.cut) (v bits) k

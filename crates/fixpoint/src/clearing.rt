@@ -1,15 +1,14 @@
 //! Idle nodes are taken out between blocks.
 
-ghost use Rattle.std.specs.Prelude.{◌≡◌, ◌<◌, ◌≤◌, ◌+◌, ◌++◌, ℕ, None, length, map, All, IfOk, OnOk, IfSome};
+ghost use Rattle.std.specs.Prelude.{◌≡◌, ◌≤◌, ◌++◌, ℕ, length, map, All, OnOk, IfSome};
 ghost use Rattle.loops.specs.Looped.{Looped};
 ghost use Rattle.fixpoint.specs.Kept.{rails_under, AreKept, RootsStay};
 ghost use Rattle.fixpoint.specs.Sweeping.{rails_in, HasSolvedTo};
 
 use crate::kept::KeptRails;
 use crate::progress::Progress;
-use crate::wires::{Wires, unknown};
+use crate::wires::Wires;
 use bdd_ops::Diagrams;
-use dual_rail::Rails;
 use std::alloc::{AllocError, Global};
 
 /// The fewest nodes at which idle ones are taken out while blocks are still to be solved.
@@ -23,32 +22,6 @@ fn is_due(count: u32, left: u32, limit: u32) -> bool {
     let has_doubled = count >= LEAST_SWEPT && count / 2 >= left;
     let is_nearly_full = count >= limit - eighth && count.saturating_sub(left) >= eighth;
     has_doubled || is_nearly_full
-}
-
-/// The rails at a place, or those of X.
-fn rails_at_place(d: &Diagrams, place: &Option<KeptRails>) -> Rails
-    requires { IfSome place.now (AreKept d.now) }
-    ensures { result ≡ rails_in d.now place.now }
-{
-    match place {
-        Some(kept) => kept.rails(d),
-        None => unknown(),
-    }
-}
-
-/// The rails at these places.
-fn rails_at_places(
-    alloc: Global,
-    d: &Diagrams,
-    places: &[Option<KeptRails>],
-) -> Result<Vec<Rails>, AllocError>
-    requires { All (λ place. IfSome place (AreKept d.now)) places.now }
-    ensures { IfOk result (λ rails. rails.items ≡ map (rails_in d.now) places.now) }
-{
-    places
-        .iter()
-        .map(|place| rails_at_place(d, place))
-        .collect(alloc)
 }
 
 /// Takes out what no root reaches, and reads all wires anew.
@@ -69,8 +42,7 @@ pub(crate) fn sweep_store(
     d.store().laws();
     d.sweep()?;
     d.store().laws();
-    let before = rails_at_places(alloc, d, &progress.places)?;
-    progress.wires = Wires::of(alloc, d, given, before)?;
+    progress.wires = Wires::of(alloc, d, given, &progress.places)?;
     progress.left = d.store().count();
     Ok(())
 }

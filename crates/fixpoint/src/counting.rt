@@ -128,8 +128,7 @@ fn least_sweeps(
 {
     d.store().laws();
     let steps = steps_of(alloc, d, found.steps.items())?;
-    let count = least_step(d, care, found.cuts.items().len(), &steps)?;
-    Ok(count)
+    least_step(d, care, found.cuts.items().len(), &steps)
 }
 
 /// For each loop the least number of a step that stands, at all vectors of care, for what the last one does. On

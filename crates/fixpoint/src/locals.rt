@@ -9,7 +9,7 @@ ghost use Rattle.fixpoint.specs.Working.{HasLargeCover};
 
 use crate::wires::local_of;
 use bdd_store::StoreFault;
-use cover_logic::{Cover, Lit, Row};
+use cover_logic::{Cover, Lit};
 use cyc_base::MAX_NODES;
 use dual_rail::LocalDiagram;
 use netlist::Netlist;
@@ -81,45 +81,6 @@ fn hash_cover(cover: &Cover) -> u64 {
     hash
 }
 
-/// Whether these literals are the same.
-fn are_equal_literals(lits: &[Lit], others: &[Lit]) -> bool
-    ensures { result ≡ true → lits.now ≡ others.now }
-{
-    if lits.len() != others.len() {
-        return false;
-    }
-    for place in 0..lits.len() {
-        if lits[place] != others[place] {
-            return false;
-        }
-    }
-    true
-}
-
-/// Whether these rows are the same.
-fn are_equal_rows(rows: &[Row], others: &[Row]) -> bool
-    ensures { result ≡ true → rows.now ≡ others.now }
-{
-    if rows.len() != others.len() {
-        return false;
-    }
-    for place in 0..rows.len() {
-        if !are_equal_literals(rows[place].lits.items(), others[place].lits.items()) {
-            return false;
-        }
-    }
-    true
-}
-
-/// Whether these covers are the same.
-fn are_equal(cover: &Cover, other: &Cover) -> bool
-    ensures { result ≡ true → cover.now ≡ other.now }
-{
-    cover.pins() == other.pins()
-        && cover.plane() == other.plane()
-        && are_equal_rows(cover.rows(), other.rows())
-}
-
 /// Whether a place has the diagram of a cover that equals the gate's.
 fn serves(net: &Netlist, shared: &[SharedDiagram], place: usize, gate: u32) -> bool
     requires gate { gate < length net.now.gates }
@@ -129,7 +90,8 @@ fn serves(net: &Netlist, shared: &[SharedDiagram], place: usize, gate: u32) -> b
     if place >= shared.len() {
         return false;
     }
-    are_equal(&net.gate(shared[place].gate).cover, &net.gate(gate).cover)
+    let cover = &net.gate(shared[place].gate).cover;
+    cover.is_same(&net.gate(gate).cover)
 }
 
 impl Locals {

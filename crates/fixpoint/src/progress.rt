@@ -2,11 +2,11 @@
 
 ghost use Rattle.std.specs.Prelude.{◌≡◌, ◌++◌, None, map, replicate, All, IfOk};
 ghost use Rattle.fixpoint.specs.Kept.{rails_under, AreKept};
-ghost use Rattle.fixpoint.specs.Sweeping.{unknown as unknown_rails};
+ghost use Rattle.fixpoint.specs.Sweeping.{rails_in};
 
 use crate::keeping::empty_places;
 use crate::kept::KeptRails;
-use crate::wires::{Wires, unknowns};
+use crate::wires::Wires;
 use bdd_ops::Diagrams;
 use std::alloc::{AllocError, Global};
 
@@ -30,13 +30,12 @@ impl Progress {
         gates: usize,
     ) -> Result<Progress, AllocError>
         requires { All (AreKept d.now) given.now }
-        ensures before { IfOk result (λ progress. progress.wires.before.items ≡ replicate gates unknown_rails) }
+        ensures before { IfOk result (λ progress. progress.wires.before.items ≡ map (rails_in d.now) progress.places.items) }
         ensures rails { IfOk result (λ progress. progress.wires.rails.items ≡ map (rails_under d.now) given.now ++ progress.wires.before.items) }
         ensures places { IfOk result (λ progress. progress.places.items ≡ replicate gates None) }
     {
-        let before = unknowns(alloc, gates)?;
-        let wires = Wires::of(alloc, d, given, before)?;
         let places = empty_places(alloc, gates)?;
+        let wires = Wires::of(alloc, d, given, &places)?;
         Ok(Progress {
             wires,
             places,

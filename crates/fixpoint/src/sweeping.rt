@@ -11,7 +11,7 @@ ghost use Rattle.fixpoint.specs.Solved.{Vectors, IsLoopAt, AreStepsOf};
 ghost use Rattle.fixpoint.specs.Working.{IsWidth, HasLargeCover, order_cost, block_cost};
 ghost use Rattle.fixpoint.specs.Plans.{AreLocalsOf, IsPlan, IsPlanOf};
 ghost use Rattle.fixpoint.specs.Underway.{IsUnderway, IsSweptOnce};
-ghost use Rattle.fixpoint.specs.Sweeping.{States, after_sweeps, rails_at, vectors, AreWires, IsSolvedBelow, AreFresh, IsSweepable, AreSwept, OthersStay};
+ghost use Rattle.fixpoint.specs.Sweeping.{States, after_sweeps, rails_at, vectors, AreWires, IsSolvedBelow, AreFresh, IsSweepable, AreSwept};
 
 use crate::locals::Locals;
 use crate::solved::SweptLoop;
@@ -109,7 +109,10 @@ impl Wires {
         ensures swept { (b : ℕ) (v : Vectors) (c : States) →
             IsSweepable looped.now d.old v c b order.now self.old.before.items self.old.rails.items →
             OnOk result (AreSwept looped.now d.new v c (λ n. home_of looped.now.blocks n ≡ b) self.new.rails.items) }
-        ensures others { OnOk result (OthersStay looped.now.net order.now self.old.rails.items self.new.rails.items) }
+        ensures solved { (b : ℕ) (v : Vectors) (c : States) →
+            IsSweepable looped.now d.old v c b order.now self.old.before.items self.old.rails.items →
+            OnOk result (IsSolvedBelow looped.now d.new v b self.old.before.items self.new.rails.items) }
+        ensures given { OnOk result (take (first_gate looped.now.net) self.new.rails.items ≡ take (first_gate looped.now.net) self.old.rails.items) }
         ensures wires { OnOk result (AreWires looped.now.net d.new self.new.before.items self.new.rails.items) }
         ensures before { self.new.before.items ≡ self.old.before.items }
         ensures keeps { KeepsNodes d.old d.new }
@@ -167,7 +170,7 @@ impl Wires {
         requires plan { IsPlan looped.now.net plan.now }
         requires wires { AreWires looped.now.net d.old self.old.before.items self.old.rails.items }
         ensures wires { OnOk result (AreWires looped.now.net d.new self.new.before.items self.new.rails.items) }
-        ensures others { OnOk result (OthersStay looped.now.net plan.now.order self.old.rails.items self.new.rails.items) }
+        ensures given { OnOk result (take (first_gate looped.now.net) self.new.rails.items ≡ take (first_gate looped.now.net) self.old.rails.items) }
         ensures swept { (b : ℕ) (v : Vectors) → IsPlanOf looped.now b plan.now →
             IsUnderway looped.now d.old v b plan.now.cuts steps.old.items self.old.before.items self.old.rails.items →
             IfOk result (λ still. IsSweptOnce looped.now d.new v b plan.now.cuts steps.new.items self.new.before.items self.new.rails.items still) }

@@ -1,6 +1,6 @@
 //! The wires of a netlist while it is solved, and the lifting of one gate.
 
-ghost use Rattle.std.specs.Prelude.{◌≡◌, ◌<◌, ◌≤◌, ◌+◌, ◌*◌, ◌++◌, List, Bool, length, map, replicate, All, IfOk, OnOk};
+ghost use Rattle.std.specs.Prelude.{◌≡◌, ◌<◌, ◌≤◌, ◌+◌, ◌*◌, ◌++◌, List, Bool, length, map, replicate, All, IfOk, OnOk, IfSome};
 ghost use Rattle.bdd_store.specs.Growth.{GrowsWithin, NoOtherCause};
 ghost use Rattle.cover_logic.specs.Covers.{value as cover_value};
 ghost use Rattle.cover_logic.specs.Extensions.{ext};
@@ -10,7 +10,7 @@ ghost use Rattle.dual_rail.specs.WorkingLists.{BoundsEach, IsExtended};
 ghost use Rattle.netlist.specs.Netlists.{IsNetlist, IsSignal, gate_at};
 ghost use Rattle.loops.specs.Sweeps.{first_gate};
 ghost use Rattle.fixpoint.specs.Kept.{rails_under, AreKept};
-ghost use Rattle.fixpoint.specs.Sweeping.{unknown as unknown_rails, rails_read, AreWires, IsGateSet};
+ghost use Rattle.fixpoint.specs.Sweeping.{unknown as unknown_rails, rails_in, rails_read, AreWires, IsGateSet};
 ghost use Rattle.fixpoint.specs.Working.{HasLargeCover};
 
 use crate::kept::{KeptRails, rails_of};
@@ -94,7 +94,7 @@ fn lift_cover(
     ensures grows { GrowsWithin result d.old d.new NoOtherCause (BoundsEach d.old.vars (IsExtended d.old pins.now (cover_value (gate_at net.now gate).cover))) (2 * size (gate_at net.now gate).cover) }
 {
     sizes();
-    let _gate = net.gate(gate);
+    net.laws();
     lift(alloc, d, diagram, pins)
 }
 
@@ -114,23 +114,50 @@ pub(crate) fn gate_rails(
     ensures grows { GrowsWithin result d.old d.new (HasLargeCover net.now) (BoundsEach d.old.vars (IsExtended d.old pins.now (cover_value (gate_at net.now gate).cover))) (2 * size (gate_at net.now gate).cover) }
 {
     let diagram = local_of(alloc, net, gate, d.store().limit())?;
-    let rails = lift_cover(alloc, d, net, gate, &diagram, pins)?;
-    Ok(rails)
+    lift_cover(alloc, d, net, gate, &diagram, pins)
+}
+
+/// The rails at a place, or those of X.
+fn rails_at_place(d: &Diagrams, place: &Option<KeptRails>) -> Rails
+    requires { IfSome place.now (AreKept d.now) }
+    ensures { result ≡ rails_in d.now place.now }
+{
+    match place {
+        Some(kept) => kept.rails(d),
+        None => unknown(),
+    }
+}
+
+/// The rails at these places.
+fn rails_at_places(
+    alloc: Global,
+    d: &Diagrams,
+    places: &[Option<KeptRails>],
+) -> Result<Vec<Rails>, AllocError>
+    requires { All (λ place. IfSome place (AreKept d.now)) places.now }
+    ensures { IfOk result (λ rails. rails.items ≡ map (rails_in d.now) places.now) }
+{
+    places
+        .iter()
+        .map(|place| rails_at_place(d, place))
+        .collect(alloc)
 }
 
 impl Wires {
-    /// Inputs and latches have the given rails, and gates those that they have before the sweep.
+    /// Inputs and latches have the given rails, and gates those at their places.
     pub(crate) fn of(
         alloc: Global,
         d: &Diagrams,
         given: &[KeptRails],
-        before: Vec<Rails>,
+        places: &[Option<KeptRails>],
     ) -> Result<Wires, AllocError>
-        requires { All (AreKept d.now) given.now }
-        ensures before { IfOk result (λ wires. wires.before.items ≡ before.items) }
+        requires given { All (AreKept d.now) given.now }
+        requires places { All (λ place. IfSome place (AreKept d.now)) places.now }
+        ensures before { IfOk result (λ wires. wires.before.items ≡ map (rails_in d.now) places.now) }
         ensures rails { IfOk result (λ wires. wires.rails.items ≡ map (rails_under d.now) given.now ++ wires.before.items) }
     {
         let columns = rails_of(alloc, d, given)?;
+        let before = rails_at_places(alloc, d, places)?;
         let rails = signal_rails(alloc, &columns, &before)?;
         Ok(Wires { before, rails })
     }
@@ -213,7 +240,7 @@ impl Wires {
             (2 * size (gate_at looped.now.net gate).cover) }
     {
         let net = looped.net();
-        let _gate = net.gate(gate);
+        net.laws();
         let diagram = local_of(alloc, net, gate, d.store().limit())?;
         self.set_by_diagram(alloc, d, looped, gate, &diagram)
     }

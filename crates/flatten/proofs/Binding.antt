@@ -1,6 +1,6 @@
 -- Tables of formals: what they have, and where a pair or an input is at fault.
 use Rattle.std.proofs.Common.{◌≡◌, ℕ, ◌+◌, ◌<◌, Bool, true, false, not, List, [], ◌∷◌, ◌++◌, length, get_or, take, drop, refl, sym, ap, ◌∙◌, cond, if◌then◌else◌, Some, None, Ok, Err, is_some, option_map}
-use Rattle.flatten.proofs.Common.{drop-item, list_any, bytes_eq, Option, option_or, BlifModel, FlatFault, actual_of, is_among, model_at, formals, pairs_fault, entry, each_once, resolved, bound}
+use Rattle.flatten.proofs.Common.{drop-item, bytes_eq, Option, option_or, BlifModel, FlatFault, actual_of, is_among, formals, pairs_fault, entry, each_once, resolved, bound}
 use Rattle.flatten.specs.declared.fault.FlatFault.TheVariants.{UnknownFormal, FormalTwice, OpenInput}
 use Rattle.flatten.specs.Instances.{formal_fault, pair_fault, first_open}
 use Rattle.flatten.proofs.Names.{taken}
@@ -65,21 +65,6 @@ module _ (names : List (List ℕ)) (prefix : List ℕ) (table pairs entries : Li
 pub pair_fault_once : (names : List (List ℕ)) (before pairs : List (List ℕ × List ℕ)) → pair_fault (each_once names) before pairs ≡ pair_fault names before pairs
 pair_fault_once names before [] = refl
 pair_fault_once names before (p ∷ pairs) = rw (among_once names p.0, pair_fault_once names (before ++ p ∷ []) pairs) refl
-
--- what is open, by the name of its model
-pub open_at : {X : Type 0} (place : X → ℕ) (models : List BlifModel) (name : List ℕ) (xs : List X) (i : ℕ) (x : X) (model : BlifModel) → i < length xs → x ≡ get_or xs i x → model ≡ model_at models (place x) → bytes_eq model.name name ≡ true → list_any (λ y. bytes_eq (model_at models (place y)).name name) (drop i xs) ≡ true
-open_at place models name xs i x model l e g h =
-    let m : model_at models (place x) ≡ model = sym g in
-    rw (drop-item xs i x l e, m, h) refl
-
-pub other_at : {X : Type 0} (place : X → ℕ) (models : List BlifModel) (name : List ℕ) (xs : List X) (i : ℕ) (x : X) (model : BlifModel) → i < length xs → x ≡ get_or xs i x → model ≡ model_at models (place x) → bytes_eq model.name name ≡ false → list_any (λ y. bytes_eq (model_at models (place y)).name name) (drop i xs) ≡ list_any (λ y. bytes_eq (model_at models (place y)).name name) (drop (i + 1) xs)
-other_at place models name xs i x model l e g h =
-    let m : model_at models (place x) ≡ model = sym g in
-    rw (drop-item xs i x l e, m, h) refl
-
--- tests that were made tell whether the model is open, and whether it is too deep
-pub by_tests : (name : List ℕ) (open_test opened deep_test deep : Bool) (f : ℕ → Option FlatFault) (x : Option ℕ) → open_test ≡ opened → deep_test ≡ deep → entry name opened deep f x ≡ entry name open_test deep_test f x
-by_tests name open_test opened deep_test deep f x e g = ap (λ b. entry name b deep f x) (sym e) ∙ ap (λ b. entry name open_test b f x) (sym g)
 
 -- an instance whose model was chosen, before and behind the look at its pairs
 pub entry_refused : (name : List ℕ) (a b : Bool) (f : ℕ → Option FlatFault) (x : Option ℕ) (fault : FlatFault) → entry name a b (λ i. None) x ≡ Err fault → entry name a b f x ≡ Err fault

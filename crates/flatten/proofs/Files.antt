@@ -1,7 +1,7 @@
 -- The walk stays within the file: its paths bind names of the file, and all that it prints names one wire.
-use Rattle.std.proofs.Common.{◌≡◌, ℕ, zero, suc, ◌+◌, ◌^◌, ◌<◌, ◌≤◌, List, [], ◌∷◌, ◌++◌, length, length-append, map, refl, sym, ◌∙◌, subst, arith, All, Contains, Some, None, Ok, Err, option_map}
+use Rattle.std.proofs.Common.{◌≡◌, ℕ, zero, suc, ◌+◌, ◌^◌, ◌<◌, ◌≤◌, List, [], ◌∷◌, ◌++◌, length, length-append, map, refl, sym, ◌∙◌, subst, arith, All, Contains, Some, None, Ok, Err, option_map, ap}
 use Rattle.flatten.proofs.Common.{All-nil, All-cons, All-head, All-tail, All-append, flat_map, AllByRecursion, Option, Result, Sig, Clock, Parts, BlifModel, GateLine, LatchLine, Item, Gate, Latch, Part, FlatFault, pair_names, item_names, wire_names, mark_of, Instance, climb, name_at, gate_at, clock_at, latch_at, find_model, model_at, entered, Event, gate, latch, opens, fails, events, FlatLines, flat_lines, linked_lines, link_fault, signal_list, sig_of, latch_with, gate_with, netlist_by, All-weaker, All-map}
-use Rattle.std.proofs.lemmas.List.Elements.{All-contains_itself, Contains-append_left, Contains-append_right, All-drop, All-take}
+use Rattle.std.proofs.lemmas.List.Elements.{All-contains_itself, Contains-append_left, Contains-append_right, All-drop, All-take, All-same}
 use Rattle.std.proofs.lemmas.List.{map-id, take_at, drop_at}
 use Rattle.netlist.specs.declared.parts.Gate.{Gate as FlatGate}
 use Rattle.netlist.specs.declared.parts.Latch.{Latch as FlatLatch}
@@ -77,10 +77,9 @@ name_each models path names binds each =
     All-map (NamesOneWire models) (name_at (mark_of models) path) names
     (All-weaker (Contains (wire_names models)) (λ name. NamesOneWire models (name_at (mark_of models) path name)) (λ name named. names_one models path name binds named) names each)
 
-control_each : (models : List BlifModel) (path : List Instance) (control : Option Clock) → BindsAmong (wire_names models) path
-    → AreAmong (wire_names models) (control_names control) → All (NamesOneWire models) (control_names (option_map (clock_at (mark_of models) path) control))
-control_each models path None binds each = All-nil (NamesOneWire models)
-control_each models path (Some clock) binds each = name_each models path (clock.name ∷ []) binds each
+control_at : (m : List ℕ) (path : List Instance) (control : Option Clock) → control_names (option_map (clock_at m path) control) ≡ map (name_at m path) (control_names control)
+control_at m path None = refl
+control_at m path (Some clock) = refl
 
 abbrev EventNamesWires : List BlifModel → Event → Type 0
 EventNamesWires models (gate g) = All (NamesOneWire models) (item_names (Gate g))
@@ -95,14 +94,10 @@ gate_names_wires models path g binds each = name_each models path (g.output ∷ 
 latch_names_wires : (models : List BlifModel) (path : List Instance) (l : LatchLine) → BindsAmong (wire_names models) path
     → IsItemAmong (wire_names models) (Latch l) → EventNamesWires models (latch (latch_at (mark_of models) path l))
 latch_names_wires models path l binds each =
-    let file = wire_names models in
     let m = mark_of models in
-    let behind = All-tail (Contains file) l.from (l.output ∷ control_names l.control) each in
-    All-cons (NamesOneWire models) (name_at m path l.from) (name_at m path l.output ∷ control_names (option_map (clock_at m path) l.control))
-    (names_one models path l.from binds (All-head (Contains file) l.from (l.output ∷ control_names l.control) each))
-    (All-cons (NamesOneWire models) (name_at m path l.output) (control_names (option_map (clock_at m path) l.control))
-    (names_one models path l.output binds (All-head (Contains file) l.output (control_names l.control) behind))
-    (control_each models path l.control binds (All-tail (Contains file) l.output (control_names l.control) behind)))
+    All-same (NamesOneWire models) (item_names (Latch (latch_at m path l))) (map (name_at m path) (l.from ∷ l.output ∷ control_names l.control))
+    (ap (λ (ns : List (List ℕ)). name_at m path l.from ∷ name_at m path l.output ∷ ns) (control_at m path l.control))
+    (name_each models path (l.from ∷ l.output ∷ control_names l.control) binds each)
 
 -- The walk: a number on its paths is at most the number of its events.
 

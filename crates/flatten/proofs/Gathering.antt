@@ -1,6 +1,6 @@
 -- Drivers are gathered in their order, and the first that comes twice is found.
-use Rattle.std.proofs.Common.{◌≡◌, ℕ, ◌+◌, ◌<◌, Bool, true, false, not, ◌&&◌, List, [], ◌∷◌, ◌++◌, length, get_or, take, drop, map, filter, fold, refl, sym, ap, ◌∙◌, cond, if◌then◌else◌, append_assoc, Some, None, option_map, subst}
-use Rattle.flatten.proofs.Common.{append-nil, list_any-append, IsDistinct, AllByRecursion, find, option_or, bytes_eq, Option, insert_key, is_among, Clock, BlifModel, LatchLine, FlatFault, FlatLines, own_clocks, twice_after, first_twice, latch_outputs, gate_outputs, driven_twice, has_bad_control, bytes_eq-true, drop-item}
+use Rattle.std.proofs.Common.{◌≡◌, ℕ, ◌+◌, ◌<◌, Bool, true, false, not, ◌&&◌, List, [], ◌∷◌, ◌++◌, length, get_or, take, drop, map, filter, fold, refl, sym, ap, ◌∙◌, cond, if◌then◌else◌, append_assoc, Some, None, option_map, subst, inl, inr}
+use Rattle.flatten.proofs.Common.{append-nil, list_any-append, IsDistinct, AllByRecursion, find, option_or, bytes_eq, Option, insert_key, is_among, Clock, BlifModel, LatchLine, FlatFault, FlatLines, own_clocks, twice_after, first_twice, latch_outputs, gate_outputs, driven_twice, has_bad_control, bytes_eq-true, drop-item, cases_Bool}
 use Rattle.std.proofs.lemmas.List.{map-append}
 use Rattle.std.proofs.lemmas.Map.Keys.{IsDistinct-cons, IsDistinct-push}
 use Rattle.std.specs.Cmp.Lexicographic.{nat_list_eq_equiv}
@@ -44,15 +44,15 @@ names_so_far name old keys new items i x l e k n =
 -- clocks that are gathered behind the inputs are those that aren't inputs, each once
 pub clocks_gathered : (inputs done clocks : List (List ℕ)) → fold (insert_key bytes_eq) (inputs ++ done) clocks ≡ inputs ++ fold (insert_key bytes_eq) done (filter (λ n. not (is_among inputs n)) clocks)
 clocks_gathered inputs done [] = refl
-clocks_gathered inputs done (x ∷ clocks) = by (is_among inputs x) (is_among done x) refl refl (clocks_gathered inputs done clocks) (clocks_gathered inputs (done ++ x ∷ []) clocks)
-  where
-    kept : List (List ℕ)
-    kept = filter (λ n. not (is_among inputs n)) clocks
-
-    by : (a b : Bool) → is_among inputs x ≡ a → is_among done x ≡ b → fold (insert_key bytes_eq) (inputs ++ done) clocks ≡ inputs ++ fold (insert_key bytes_eq) done (filter (λ n. not (is_among inputs n)) clocks) → fold (insert_key bytes_eq) (inputs ++ (done ++ x ∷ [])) clocks ≡ inputs ++ fold (insert_key bytes_eq) (done ++ x ∷ []) (filter (λ n. not (is_among inputs n)) clocks) → fold (insert_key bytes_eq) (inputs ++ done) (x ∷ clocks) ≡ inputs ++ fold (insert_key bytes_eq) done (filter (λ n. not (is_among inputs n)) (x ∷ clocks))
-    by true b e f rest more = rw (list_any-append (bytes_eq x) inputs done, e) rest
-    by false true e f rest more = rw (list_any-append (bytes_eq x) inputs done, e, f) rest
-    by false false e f rest more = rw (list_any-append (bytes_eq x) inputs done, e, f, append_assoc) more
+clocks_gathered inputs done (x ∷ clocks) =
+    let there = list_any-append (bytes_eq x) inputs done in
+    elim (cases_Bool (is_among inputs x)) [
+      | inl e ↦ rw (there, e) (clocks_gathered inputs done clocks)
+      | inr e ↦ elim (cases_Bool (is_among done x)) [
+        | inl f ↦ rw (there, e, f) (clocks_gathered inputs done clocks)
+        | inr f ↦ rw (there, e, f, append_assoc) (clocks_gathered inputs (done ++ x ∷ []) clocks)
+      ]
+    ]
 
 pub own_clocks_gathered : (top : BlifModel) → fold (insert_key bytes_eq) top.inputs top.clocks ≡ top.inputs ++ own_clocks top
 own_clocks_gathered top = ap (λ ks. fold (insert_key bytes_eq) ks top.clocks) (sym (append-nil top.inputs)) ∙ clocks_gathered top.inputs [] top.clocks
@@ -60,7 +60,14 @@ own_clocks_gathered top = ap (λ ks. fold (insert_key bytes_eq) ks top.clocks) (
 -- names of which none comes twice differ
 pub fresh_apart : (old names : List (List ℕ)) → twice_after old names ≡ None → AllByRecursion (λ y. is_among old y ≡ false) names × IsDistinct bytes_eq names
 fresh_apart old [] h = (tt, IsDistinct-nil)
-fresh_apart old (x ∷ names) h = by (is_among old x) refl (λ k. fresh_apart (old ++ x ∷ []) names k)
+fresh_apart old (x ∷ names) h =
+    elim (cases_Bool (is_among old x)) [
+      | inl e ↦ absurd (let k : Some x ≡ None = rw e at h in cc)
+      | inr e ↦
+          let r = fresh_apart (old ++ x ∷ []) names (rw e at h) in
+          let a = apart names r.0 in
+          ((e, a.0), IsDistinct-cons bytes_eq x names a.1 r.1)
+    ]
   where
     apart : (ys : List (List ℕ)) → AllByRecursion (λ y. is_among (old ++ x ∷ []) y ≡ false) ys → AllByRecursion (λ y. is_among old y ≡ false) ys × AllByRecursion (λ y. bytes_eq x y ≡ false) ys
     apart [] a = (tt, tt)
@@ -69,20 +76,12 @@ fresh_apart old (x ∷ names) h = by (is_among old x) refl (λ k. fresh_apart (o
         let r = apart ys a.1 in
         ((o.0, r.0), (bytes_sym x y ∙ o.1, r.1))
 
-    by : (b : Bool) → is_among old x ≡ b → (twice_after (old ++ x ∷ []) names ≡ None → AllByRecursion (λ y. is_among (old ++ x ∷ []) y ≡ false) names × IsDistinct bytes_eq names) → AllByRecursion (λ y. is_among old y ≡ false) (x ∷ names) × IsDistinct bytes_eq (x ∷ names)
-    by true e rest = absurd (let k : Some x ≡ None = sym (ap (λ b. if b then Some x else twice_after (old ++ x ∷ []) names) e) ∙ h in cc)
-    by false e rest =
-        let k : twice_after (old ++ x ∷ []) names ≡ None = sym (ap (λ b. if b then Some x else twice_after (old ++ x ∷ []) names) e) ∙ h in
-        let r = rest k in
-        let a = apart names r.0 in
-        ((e, a.0), IsDistinct-cons bytes_eq x names a.1 r.1)
-
 distinct_inserted : (names : List (List ℕ)) (x : List ℕ) → IsDistinct bytes_eq names → IsDistinct bytes_eq (insert_key bytes_eq names x)
-distinct_inserted names x d = by (is_among names x) refl
-  where
-    by : (b : Bool) → is_among names x ≡ b → IsDistinct bytes_eq (insert_key bytes_eq names x)
-    by true e = subst (λ (b : Bool). IsDistinct bytes_eq (if b then names else names ++ x ∷ [])) (sym e) d
-    by false e = subst (λ (b : Bool). IsDistinct bytes_eq (if b then names else names ++ x ∷ [])) (sym e) (IsDistinct-push nat_list_eq_equiv names x d e)
+distinct_inserted names x d =
+    elim (cases_Bool (is_among names x)) [
+      | inl e ↦ rw e d
+      | inr e ↦ rw e (IsDistinct-push nat_list_eq_equiv names x d e)
+    ]
 
 distinct_gathered : (old names : List (List ℕ)) → IsDistinct bytes_eq old → IsDistinct bytes_eq (fold (insert_key bytes_eq) old names)
 distinct_gathered old [] d = d

@@ -1,8 +1,8 @@
 -- Names that are gathered once each, and the tables of models and formals.
-use Rattle.std.proofs.Common.{◌≡◌, ℕ, zero, suc, ◌+◌, ◌<◌, ◌≢◌, slice_index_or, nat_lt, Bool, true, false, ◌||◌, List, [], ◌∷◌, ◌++◌, length, get_or, take, map, fold, refl, sym, ap, ◌∙◌, arith, if◌then◌else◌, append_assoc, Some, None, inl, inr}
+use Rattle.std.proofs.Common.{◌≡◌, ℕ, zero, suc, ◌+◌, ◌<◌, ◌≢◌, nat_lt, Bool, true, false, ◌||◌, List, [], ◌∷◌, ◌++◌, length, get_or, take, map, fold, refl, sym, ap, ◌∙◌, arith, if◌then◌else◌, append_assoc, Some, None, inl, inr}
 use Rattle.flatten.proofs.Common.{list_any-append, append-nil, length-map, IsDistinct, position, position_or_len, AllByRecursion, bytes_eq, insert_key, BlifModel, is_among, formals, find_model, no_model, model_at, each_once, twice_after, bytes_eq-true, or-false, cases_Bool}
 use Rattle.std.proofs.lemmas.List.Sums.{fold-append}
-use Rattle.std.proofs.lemmas.List.{map-append}
+use Rattle.std.proofs.lemmas.List.{map-append, get_or-map}
 use Rattle.std.proofs.lemmas.Map.Keys.{IsDistinct-head, IsDistinct-tail}
 use Rattle.std.proofs.lemmas.Map.Made.{IsDistinct-from_AllPairs}
 use Rattle.std.proofs.lemmas.Slice.Eq.{bytes_eq-Decides}
@@ -93,16 +93,9 @@ names_taken models i x l e =
 
 -- models whose names differ
 pub names_apart : (models : List BlifModel) → AllPairs (λ (a b : BlifModel). a.name ≢ b.name) models → IsDistinct bytes_eq (map (λ model. model.name) models)
-names_apart models h = IsDistinct-from_AllPairs bytes_eq-Decides (map (λ model. model.name) models) (mapped models h)
-  where
-    name_at : (ms : List BlifModel) (i : ℕ) (d : List ℕ) (e : BlifModel) → i < length ms → slice_index_or (map (λ model. model.name) ms) i d ≡ (slice_index_or ms i e).name
-    name_at [] i d e l = absurd (omega arith)
-    name_at (m ∷ ms) zero d e l = refl
-    name_at (m ∷ ms) (suc i) d e l = name_at ms i d e (omega arith)
-
-    mapped : (ms : List BlifModel) → AllPairs (λ (a b : BlifModel). a.name ≢ b.name) ms → AllPairs (λ x y. x ≢ y) (map (λ model. model.name) ms)
-    mapped ms g = λ i j d lt l e.
-        let n = length-map ms (λ (m : BlifModel). m.name) in
-        let li : i < length ms = omega arith in
-        let lj : j < length ms = omega arith in
-        g i j no_model lt lj (sym (name_at ms i d no_model li) ∙ e ∙ name_at ms j d no_model lj)
+names_apart models h =
+    IsDistinct-from_AllPairs bytes_eq-Decides (map (λ model. model.name) models) (λ i j d lt l e.
+    let n = length-map models (λ (m : BlifModel). m.name) in
+    let li : i < length models = omega arith in
+    let lj : j < length models = omega arith in
+    h i j no_model lt lj (sym (get_or-map (λ (m : BlifModel). m.name) models i no_model d li) ∙ e ∙ get_or-map (λ (m : BlifModel). m.name) models j no_model d lj))

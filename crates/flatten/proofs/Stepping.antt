@@ -158,12 +158,8 @@ walking_start depth models i limit walk within b =
     let m = mark_of models in
     let l = b.level in
     let rest = events depth depth models top m [] 1 (model_at models i).body in
-    let same : rest ≡ remaining depth models top m l [] =
-    sym (
-    ap (λ j. events (depth - 0) depth models top m [] (suc j) (drop l.next (model_at models l.model).body)) b.parts
-    ∙ ap (λ j. events (depth - 0) depth models top m [] 1 (drop j (model_at models l.model).body)) b.next
-    ∙ ap (λ j. events (depth - 0) depth models top m [] 1 (model_at models j).body) b.place
-    ∙ ap (λ j. events j depth models top m [] 1 (model_at models i).body) (let z : depth - 0 ≡ depth = omega arith in z)) in
+    let none : depth - 0 ≡ depth = omega arith in
+    let same : rest ≡ remaining depth models top m l [] = rw (b.parts, b.next, b.place, none) refl in
     let there : Waits depth models top m (l ∷ []) [] rest =
     (record { within = omega (arith, b.place, within); counted = omega (arith, b.next, b.parts); prefix = b.prefix; table = b.table }, ap (λ j. (model_at models j).name) b.place, refl, same) in
     record {

@@ -1,9 +1,8 @@
 -- The parts of a flat netlist meet all conditions of a netlist.
-use Rattle.std.proofs.Common.{◌≡◌, ⊎_elim, append_assoc, codes, nat_eq, ℕ, ◌+◌, ◌≤◌, Bool, true, false, not, ◌||◌, List, [], ◌∷◌, ◌++◌, length, length-append, map, refl, sym, ap, ◌∙◌, subst, arith, All, Some, None, Ok, Err, is_some, cond, IfSome, get_or, inl, inr}
-use Rattle.flatten.proofs.Common.{common_steps, length-map, All-nil, All-cons, All-head, All-tail, All-append, list_any-append, list_any, find, flat_map, position_or_len, IsDistinct, AllByRecursion, option_or, bytes_eq, Option, Result, Sig, Clock, Parts, BlifModel, GateLine, LatchLine, FlatFault, is_among, FlatLines, IsPrintedGate, own_clocks, latch_outputs, gate_outputs, reads, first_twice, twice_after, signal_list, sig_of, has_bad_control, declared_twice, driven_twice, link_fault, latch_with, gate_with, netlist_by, linked, cases_Bool, bytes_eq-true, All-map, All-weaker}
+use Rattle.std.proofs.Common.{◌≡◌, ⊎_elim, append_assoc, codes, ℕ, ◌+◌, ◌≤◌, Bool, true, false, not, ◌||◌, List, [], ◌∷◌, ◌++◌, length, length-append, map, refl, sym, ap, ◌∙◌, subst, arith, All, Some, None, Ok, Err, is_some, IfSome, get_or, inl, inr}
+use Rattle.flatten.proofs.Common.{length-map, All-nil, All-cons, All-head, All-tail, All-append, list_any-append, list_any, find, flat_map, position_or_len, IsDistinct, AllByRecursion, option_or, bytes_eq, Option, Result, Sig, Clock, Parts, BlifModel, GateLine, LatchLine, FlatFault, is_among, FlatLines, IsPrintedGate, own_clocks, latch_outputs, gate_outputs, reads, first_twice, twice_after, signal_list, sig_of, has_bad_control, declared_twice, driven_twice, link_fault, latch_with, gate_with, netlist_by, linked, cases_Bool, bytes_eq-true, All-map, All-weaker}
 use Rattle.std.proofs.lemmas.Map.Keys.{IsDistinct-cons, IsDistinct-head, IsDistinct-tail}
-use Rattle.std.specs.Option.{option_and_then, option_map_or}
-use Rattle.std.proofs.lemmas.Bool.{not-false, or_cases}
+use Rattle.std.proofs.lemmas.Bool.{not-false, or_cases, both_ways, ne_eqb}
 use Rattle.cyc_base.specs.Names.{IsBlifName}
 use Rattle.cyc_base.proofs.ListLemmas.{option_or-neither, option_map-nothing, list_any-map, map-map}
 use Rattle.cyc_base.proofs.TruthLemmas.{first_of_and, second_of_and}
@@ -12,7 +11,7 @@ use Rattle.netlist.specs.declared.parts.Latch.{Latch as FlatLatch}
 use Rattle.netlist.specs.Netlists.{count, signal_names, IsSignal, IsClockName, IsNetlist, sig_eq}
 use Rattle.blif_read.specs.Flattening.{IsSoundModel}
 use Rattle.flatten.specs.Printable.{ArePrintedLines}
-use Rattle.flatten.specs.Linking.{drivers, has_control, first_control, is_clock_of, is_fitting, undriven, bad_clock, clock_read}
+use Rattle.flatten.specs.Linking.{drivers, first_control, is_clock_of, is_fitting, undriven, bad_clock, clock_read}
 use Rattle.flatten.proofs.Names.{bytes_refl}
 use Rattle.flatten.proofs.Libraries.{among_gathered}
 use Rattle.flatten.proofs.Gathering.{fresh_apart, twice-append, own_clocks_gathered}
@@ -55,14 +54,11 @@ among_all P (x ∷ names) n h a =
 
 apart_among : (old names : List (List ℕ)) (n : List ℕ) → AllByRecursion (λ y. is_among old y ≡ false) names → is_among old n ≡ true → is_among names n ≡ false
 apart_among old [] n h a = refl
-apart_among old (x ∷ names) n h a = by (bytes_eq n x) refl (apart_among old names n h.1 a)
-  where
-    by : (b : Bool) → bytes_eq n x ≡ b → is_among names n ≡ false → is_among (x ∷ names) n ≡ false
-    by true e rest = absurd (let k : true ≡ false = sym a ∙ ap (λ y. is_among old y) (bytes_eq-true n x e) ∙ h.0 in cc)
-    by false e rest = ap (λ t. t || is_among names n) e ∙ rest
-
-eq_false : (a b : ℕ) → (a ≡ b → ⊥) → nat_eq a b ≡ false
-eq_false a b h = grind (arith, common_steps)
+apart_among old (x ∷ names) n h a =
+    elim (cases_Bool (bytes_eq n x)) [
+      | inl e ↦ absurd (both_ways (is_among old x) h.0 (rw (bytes_eq-true n x e) at a))
+      | inr e ↦ rw e (apart_among old names n h.1 a)
+    ]
 
 -- controls
 first_fits : (top : BlifModel) (latches : List LatchLine) (f : Clock) → first_control latches ≡ Some f → find (has_bad_control top (Some f)) latches ≡ None → is_clock_of top f.name ≡ true
@@ -71,27 +67,20 @@ first_fits top (l ∷ latches) f e h = by l.control refl (λ k m. first_fits top
   where
     by : (o : Option Clock) → l.control ≡ o → (first_control latches ≡ Some f → find (has_bad_control top (Some f)) latches ≡ None → is_clock_of top f.name ≡ true) → is_clock_of top f.name ≡ true
     by (Some c) o rest =
-        let a : first_control (l ∷ latches) ≡ Some c = ap (λ t. option_and_then (λ (x : LatchLine). x.control) (cond t (Some l) (find has_control latches))) (ap is_some o) ∙ o in
-        let b : c ≡ f = (let k : Some c ≡ Some f = sym a ∙ e in cc) in
+        let b : c ≡ f = (let k : Some c ≡ Some f = rw o at e in cc) in
         let d = (first_of (has_bad_control top (Some f)) l latches h).0 in
-        let g : not (is_fitting top f c) ≡ false = sym (ap (λ (x : Option Clock). option_map_or (λ control. option_map_or (λ (y : Clock). not (is_fitting top y control)) (Some f) false) x false) o) ∙ d in
+        let g : not (is_fitting top f c) ≡ false = rw o at d in
         ap (λ (x : Clock). is_clock_of top x.name) (sym b) ∙ first_of_and _ _ (first_of_and _ _ (not-false (is_fitting top f c) g))
     by None o rest =
-        let a : first_control (l ∷ latches) ≡ first_control latches = ap (λ t. option_and_then (λ (x : LatchLine). x.control) (cond t (Some l) (find has_control latches))) (ap is_some o) in
-        rest (sym a ∙ e) (first_of (has_bad_control top (Some f)) l latches h).1
+        rest (rw o at e) (first_of (has_bad_control top (Some f)) l latches h).1
 
 clocked_is : (sig : List ℕ → Sig) (latches : List LatchLine) → list_any (λ latch. latch.clocked) (map (latch_with sig) latches) ≡ is_some (first_control latches)
 clocked_is sig [] = refl
 clocked_is sig (l ∷ latches) = by l.control refl (clocked_is sig latches)
   where
     by : (o : Option Clock) → l.control ≡ o → list_any (λ latch. latch.clocked) (map (latch_with sig) latches) ≡ is_some (first_control latches) → list_any (λ latch. latch.clocked) (map (latch_with sig) (l ∷ latches)) ≡ is_some (first_control (l ∷ latches))
-    by (Some c) o rest =
-        ap (λ t. t || list_any (λ (x : FlatLatch). x.clocked) (map (latch_with sig) latches)) (ap is_some o)
-        ∙ sym (ap is_some (ap (λ t. option_and_then (λ (x : LatchLine). x.control) (cond t (Some l) (find has_control latches))) (ap is_some o) ∙ o))
-    by None o rest =
-        ap (λ t. t || list_any (λ (x : FlatLatch). x.clocked) (map (latch_with sig) latches)) (ap is_some o)
-        ∙ rest
-        ∙ sym (ap is_some (ap (λ t. option_and_then (λ (x : LatchLine). x.control) (cond t (Some l) (find has_control latches))) (ap is_some o)))
+    by (Some c) o rest = rw o refl
+    by None o rest = rw o rest
 
 none_differ : IsDistinct sig_eq []
 unfolding IsDistinct
@@ -209,7 +198,7 @@ module _ (top : BlifModel) (lines : FlatLines) (sound : IsSoundModel top) (print
       apart : (ys : List (List ℕ)) → AllByRecursion (λ y. bytes_eq x y ≡ false) ys → AllByRecursion (λ y. sig_eq (sig_of S x) y ≡ false) (map (sig_of S) ys)
       apart [] a = tt
       apart (y ∷ ys) a =
-          (eq_false (position_or_len (bytes_eq x) S) (position_or_len (bytes_eq y) S) (λ e. let k : true ≡ false = sym (bytes_refl x) ∙ ap (λ z. bytes_eq x z) (same_place S x y here e) ∙ a.0 in cc), apart ys a.1)
+          (ne_eqb (position_or_len (bytes_eq x) S) (position_or_len (bytes_eq y) S) (λ e. let k : true ≡ false = sym (bytes_refl x) ∙ ap (λ z. bytes_eq x z) (same_place S x y here e) ∙ a.0 in cc), apart ys a.1)
 
   outputs_once : first_twice top.outputs ≡ None
   outputs_once = (option_or-neither (first_twice top.inputs) (first_twice top.outputs) (option_map-nothing _ (option_or (first_twice top.inputs) (first_twice top.outputs)) drivers_ok.0)).1

@@ -1,14 +1,15 @@
 -- Gates grouped by the numbers of their components are the blocks of a netlist.
-use Rattle.std.proofs.Common.{◌≡◌, ◌≢◌, inl, inr, ◌↔◌, ℕ, zero, suc, ◌+◌, ◌<◌, Bool, true, false, cond, eqb, List, [], ◌∷◌, ◌++◌, length, map, get_or, set, replicate, refl, ap, sym, ◌∙◌, subst, arith, true≢false, Contains, eq-eqb, add-one}
-use Rattle.loops.proofs.Common.{range_with_len, cases_eq, cases_Bool, eqb-true, length-map, get_or-set_same, get_or-set_other, length-set, length-range_with_len, get_or-range_with_len, AreComponentsOf, Parts, Feeds, Walk, Block, Leads, AnyGate, block_at, AreBlocksOf, block_of}
-use Rattle.std.specs.List.{All, AllPairs, filter}
+use Rattle.std.proofs.Common.{◌≡◌, ◌≢◌, inl, inr, ◌↔◌, ℕ, zero, suc, ◌+◌, ◌<◌, true, cond, eqb, List, [], ◌∷◌, ◌++◌, length, map, get_or, set, replicate, refl, ap, sym, ◌∙◌, subst, arith, true≢false, Contains, eq-eqb}
+use Rattle.loops.proofs.Common.{range_with_len, cases_eq, eqb-true, length-map, get_or-set_same, get_or-set_other, length-set, length-range_with_len, get_or-range_with_len, AreComponentsOf, Parts, Feeds, Walk, Block, Leads, AnyGate, block_at, AreBlocksOf, block_of}
+use Rattle.std.specs.List.{All, AllPairs}
+use Rattle.std.proofs.lemmas.Bool.{ne_eqb}
 use Rattle.std.proofs.lemmas.List.{get_or-map, same_lists, append-nil}
 use Rattle.std.proofs.lemmas.List.FromFn.{get_or-map-range_with_len, length-map-range_with_len}
-use Rattle.std.proofs.lemmas.List.Elements.{All-filter, filter-append, filter_passes}
+use Rattle.std.proofs.lemmas.List.Elements.{All-filter, filter_passes}
 use Rattle.std.proofs.lemmas.List.Folds.{list_any_at}
 use Rattle.std.proofs.lemmas.Map.Views.{Contains-from_any}
 use Rattle.std.proofs.lemmas.List.Kept.{AllPairs-filter}
-use Rattle.cyc_base.proofs.ListLemmas.{range-suc}
+use Rattle.cyc_base.proofs.ListLemmas.{Contains-filter, Contains-range}
 use Rattle.components.specs.declared.components.Components.{Components}
 use Rattle.components.specs.Graphs.{Edge, Reaches}
 use Rattle.netlist.specs.Orders.{gate_graph}
@@ -16,14 +17,12 @@ use Rattle.netlist.proofs.GraphLemmas.{length-gate_graph, feeds_edge, edge_feeds
 use Rattle.loops.specs.Walks.{SameBlock}
 use Rattle.loops.specs.Blocks.{no_block}
 use Rattle.loops.specs.Members.{members_below, members, is_loop}
+use Rattle.loops.proofs.ListedLemmas.{kept_more}
 use Rattle.loops.proofs.Walks.{leads-any, leads-step, leads-trans}
 
 -- one more gate is a member of its number, and of no other
 members-suc : (homes : List ℕ) (gate number : ℕ) → members_below homes (gate + 1) number ≡ members_below homes gate number ++ cond (eqb (get_or homes gate 0) number) (gate ∷ []) []
-members-suc homes gate number =
-    let range : range_with_len 0 (gate + 1) ≡ range_with_len 0 gate ++ gate ∷ [] =
-    ap (range_with_len 0) (add-one gate) ∙ range-suc 0 gate ∙ ap (λ (x : ℕ). range_with_len 0 gate ++ x ∷ []) (omega arith) in
-    ap (filter (λ n. eqb (get_or homes n 0) number)) range ∙ filter-append (λ n. eqb (get_or homes n 0) number) (range_with_len 0 gate) (gate ∷ [])
+members-suc homes gate number = kept_more (λ n. eqb (get_or homes n 0) number) gate
 
 members-yes : (homes : List ℕ) (gate number : ℕ) → get_or homes gate 0 ≡ number → members_below homes (gate + 1) number ≡ members_below homes gate number ++ gate ∷ []
 members-yes homes gate number e =
@@ -31,11 +30,7 @@ members-yes homes gate number e =
 
 members-no : (homes : List ℕ) (gate number : ℕ) → get_or homes gate 0 ≢ number → members_below homes (gate + 1) number ≡ members_below homes gate number
 members-no homes gate number ne =
-    members-suc homes gate number ∙ ap (λ b. members_below homes gate number ++ cond b (gate ∷ []) []) (differs (eqb (get_or homes gate 0) number) refl) ∙ append-nil (members_below homes gate number)
-  where
-    differs : (b : Bool) → eqb (get_or homes gate 0) number ≡ b → eqb (get_or homes gate 0) number ≡ false
-    differs true e = absurd (ne (eqb-true (get_or homes gate 0) number e))
-    differs false e = e
+    members-suc homes gate number ∙ ap (λ b. members_below homes gate number ++ cond b (gate ∷ []) []) (ne_eqb (get_or homes gate 0) number ne) ∙ append-nil (members_below homes gate number)
 
 pub grouped_none : (homes : List ℕ) (count : ℕ) → replicate count [] ≡ map (members_below homes 0) (range_with_len 0 count)
 grouped_none homes count = none 0 count
@@ -74,24 +69,10 @@ grouped_more homes lists old count gate within e read =
               ∙ sym (members-no homes gate k (λ e. ne (sym e)))
         ]
 
-contains_filter : (p : ℕ → Bool) (xs : List ℕ) (x : ℕ) → p x ≡ true → Contains xs x → Contains (filter p xs) x
-contains_filter p [] x e c = absurd (let l = c.1 in omega arith)
-contains_filter p (y ∷ ys) x e (zero, l, same) =
-    let at : p y ≡ true = ap p same ∙ e in
-    rw at (zero, omega arith, same)
-contains_filter p (y ∷ ys) x e (suc k, l, same) =
-    let found = contains_filter p ys x e (k, omega arith, same) in
-    elim (cases_Bool (p y)) [
-      | inl at ↦ rw at (suc found.0, (let m = found.1 in omega arith), found.2)
-      | inr at ↦ rw at found
-    ]
-
 module _ (homes : List ℕ) (number : ℕ) where
   is_member : (n : ℕ) → n < length homes → get_or homes n 0 ≡ number → Contains (members homes number) n
   is_member n l e =
-      let len = length-range_with_len 0 (length homes) in
-      contains_filter (λ m. eqb (get_or homes m 0) number) (range_with_len 0 (length homes)) n (eq-eqb (get_or homes n 0) number e)
-      (n, omega arith, get_or-range_with_len 0 (length homes) n n l ∙ omega arith)
+      Contains-filter (λ m. eqb (get_or homes m 0) number) (range_with_len 0 (length homes)) n (eq-eqb (get_or homes n 0) number e) (Contains-range (length homes) n l)
 
   members_have : All (λ n. get_or homes n 0 ≡ number) (members homes number)
   members_have k d l = eqb-true (get_or homes (get_or (members homes number) k d) 0) number (filter_passes (λ m. eqb (get_or homes m 0) number) (range_with_len 0 (length homes)) k d l)

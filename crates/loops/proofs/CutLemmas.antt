@@ -1,14 +1,14 @@
 -- Paths through gates that are kept are the walks that make a gate a cut wire, and levels show where there are none.
 use Rattle.std.proofs.Common.{◌≡◌, ◌⊎◌, ◌↔◌, inl, inr, ℕ, ◌<◌, ◌≤◌, ◌+◌, ◌-◌, Bool, true, false, List, [], ◌∷◌, ◌++◌, length, get_or, set, replicate, ap, sym, ◌∙◌, subst, arith, Contains, true≢false}
-use Rattle.loops.proofs.Common.{cases_eq, cases_lt, get_or-set_same, get_or-set_other, length-set, length-replicate, get_or_past, AllByRecursion, all_weaker, all_append, Parts, Feeds, Walk, Blocks, Cut, AreBlocksOf, MayPass, is_cut, HasParted, HaveGained, IsCutSearch, IsKept, Meeting, ReadsBack, IsLoopPin, Connects, InRow, IsFree, Path, level_at, row_at, AnyGate, Leads, SameLoop}
+use borrow.Author.Count.{below_more}
+use Rattle.loops.proofs.Common.{cases_eq, cases_lt, get_or-set_same, get_or-set_other, length-set, length-replicate, get_or_past, AllByRecursion, all_weaker, all_append, Parts, Feeds, Walk, Blocks, Cut, AreBlocksOf, MayPass, is_cut, HasParted, HaveGained, IsCutSearch, IsKept, Meeting, ReadsBack, IsLoopPin, Connects, InRow, IsFree, IsReady, Path, level_at, row_at, AnyGate, Leads, SameLoop}
 use Rattle.std.proofs.lemmas.List.{get_or-replicate}
 use Rattle.std.specs.List.{All}
 use Rattle.loops.specs.declared.cuts.CutSearch.{CutSearch}
 use Rattle.loops.specs.Cuts.{IsCutOf}
 use Rattle.loops.specs.Keeping.{AreNear, IsAhead, IsBehind, IsFresh, IsNear, IsPlaced}
 use Rattle.loops.proofs.KeptLemmas.{of_within, ready_as}
-use Rattle.loops.proofs.LandmarkLemmas.{joined, one_step}
-use Rattle.loops.proofs.SearchLemmas.{path-append}
+use Rattle.loops.proofs.SearchLemmas.{joined, one_step, path-append}
 use Rattle.loops.proofs.Told.{told_from}
 use Rattle.loops.proofs.Walks.{all_both, begins_at, leads-any, on_closed_walk, same_loop-sym, same_loop-trans}
 
@@ -82,34 +82,21 @@ cuts_below_more net n cut b l are leads =
     let width = are.width in
     record {
       width = length-set cut n b ∙ are.width;
-      each = λ m ml. each m (omega arith);
+      each =
+          below_more (λ m. (is_cut (set cut n b) m ≡ true) ↔ Leads net (MayPass net (is_cut (set cut n b)) m) m m) n
+          (λ m ml. as_before m (is_cut cut m) (omega arith) (sym (same m ml)) (are.each m ml))
+          (as_before n b (omega arith) (get_or-set_same cut n b false (omega arith)) leads);
       rest = λ m past. get_or-set_other cut n m b false (omega arith) ∙ are.rest m (omega arith);
     }
   where
     same : (g : ℕ) → g < n → is_cut cut g ≡ is_cut (set cut n b) g
     same g gl = sym (get_or-set_other cut n g b false (omega arith))
 
-    at : is_cut (set cut n b) n ≡ b
-    at = let width = are.width in get_or-set_same cut n b false (omega arith)
-
-    here : (is_cut (set cut n b) n ≡ true) ↔ Leads net (MayPass net (is_cut (set cut n b)) n) n n
-    here = (
-      λ e. passes_as net (is_cut cut) (is_cut (set cut n b)) n same (leads.0 (sym at ∙ e)),
-      λ w. at ∙ leads.1 (passes_as net (is_cut (set cut n b)) (is_cut cut) n (λ g gl. sym (same g gl)) w),
+    as_before : (m : ℕ) (t : Bool) → m ≤ n → is_cut (set cut n b) m ≡ t → (t ≡ true) ↔ Leads net (MayPass net (is_cut cut) m) m m → (is_cut (set cut n b) m ≡ true) ↔ Leads net (MayPass net (is_cut (set cut n b)) m) m m
+    as_before m t ml is old = (
+      λ e. passes_as net (is_cut cut) (is_cut (set cut n b)) m (λ g gl. same g (omega arith)) (old.0 (sym is ∙ e)),
+      λ w. is ∙ old.1 (passes_as net (is_cut (set cut n b)) (is_cut cut) m (λ g gl. sym (same g (omega arith))) w),
     )
-
-    earlier : (m : ℕ) → m < n → (is_cut (set cut n b) m ≡ true) ↔ Leads net (MayPass net (is_cut (set cut n b)) m) m m
-    earlier m ml = (
-      λ e. passes_as net (is_cut cut) (is_cut (set cut n b)) m (λ g gl. same g (omega arith)) ((are.each m ml).0 (same m ml ∙ e)),
-      λ w. sym (same m ml) ∙ (are.each m ml).1 (passes_as net (is_cut (set cut n b)) (is_cut cut) m (λ g gl. sym (same g (omega arith))) w),
-    )
-
-    each : (m : ℕ) → m ≤ n → (is_cut (set cut n b) m ≡ true) ↔ Leads net (MayPass net (is_cut (set cut n b)) m) m m
-    each m ml =
-        elim (cases_eq m n) [
-          | inr ne ↦ earlier m (omega (arith, ne))
-          | inl e ↦ subst (λ (k : ℕ). (is_cut (set cut n b) k ≡ true) ↔ Leads net (MayPass net (is_cut (set cut n b)) k) k k) (sym e) here
-        ]
 
 pub cut_from_below : (net : Parts) (cut : Cut) → AreCutsBelow net (length net.gates) cut.wires → IsCutOf net cut
 cut_from_below net cut are = record {
@@ -178,6 +165,14 @@ reads_back R cut n readers sources levels k g free x w = turn g x w.via free w.p
     turn a b (y ∷ via) fa h =
         let w = (k.reads y a fa).0 h.0 in
         joined readers b y a (turn y b via w.1 h.1) (one_step readers y a ((k.read_by y a).1 (w.0, fa)))
+
+-- what is free stays so, whatever the next gate is
+module _ (cut : List Bool) (n : ℕ) (b : Bool) (y : ℕ) where
+  free_to : IsFree cut n y → IsFree (set cut n b) (n + 1) y
+  free_to f = (let less = f.before in record { before = omega arith; uncut = get_or-set_other cut n y b false (omega arith) ∙ f.uncut })
+
+  free_from : IsFree (set cut n b) (n + 1) y → ¬ (y ≡ n) → IsFree cut n y
+  free_from f ne = (let less = f.before in record { before = omega (arith, ne); uncut = sym (get_or-set_other cut n y b false ne) ∙ f.uncut })
 
 module _ (R : ℕ → ℕ → Type 0) (cut : List Bool) (n : ℕ) (l : n < length cut) (readers sources : List (List ℕ)) (levels : List ℕ) where
   -- the row of the next gate is laid
@@ -367,13 +362,13 @@ module _ (R : ℕ → ℕ → Type 0) (cut : List Bool) (n : ℕ) (l : n < lengt
         read_by = λ x y. (
           λ c.
               elim ((gained x y).0 c) [
-                | inl old ↦ let w = (k.read_by x y).0 old in (w.0, free_to y w.1)
+                | inl old ↦ let w = (k.read_by x y).0 old in (w.0, free_to cut n false y w.1)
                 | inr w ↦ (subst (λ (z : ℕ). R x z) (sym w.1) w.0, subst (λ (z : ℕ). IsFree (set cut n false) (n + 1) z) (sym w.1) free_here)
               ],
           λ w.
               elim (cases_eq y n) [
                 | inl e ↦ (gained x y).1 (inr (subst (λ (z : ℕ). R x z) e w.0, e))
-                | inr ne ↦ (gained x y).1 (inl ((k.read_by x y).1 (w.0, free_from y w.1 ne)))
+                | inr ne ↦ (gained x y).1 (inl ((k.read_by x y).1 (w.0, free_from cut n false y w.1 ne)))
               ],
         );
         reads = λ x y fy. (
@@ -390,45 +385,40 @@ module _ (R : ℕ → ℕ → Type 0) (cut : List Bool) (n : ℕ) (l : n < lengt
         near = λ x xl. near x xl;
       }
         where
-          same_cut : (y : ℕ) → ¬ (y ≡ n) → is_cut (set cut n false) y ≡ is_cut cut y
-          same_cut y ne = get_or-set_other cut n y false false ne
-
-          free_to : (y : ℕ) → IsFree cut n y → IsFree (set cut n false) (n + 1) y
-          free_to y f =
-              let b = f.before in record { before = omega arith; uncut = same_cut y (omega arith) ∙ f.uncut }
-
-          free_from : (y : ℕ) → IsFree (set cut n false) (n + 1) y → ¬ (y ≡ n) → IsFree cut n y
-          free_from y f ne = let b = f.before in record { before = omega (arith, ne); uncut = sym (same_cut y ne) ∙ f.uncut }
-
           free_here : IsFree (set cut n false) (n + 1) n
           free_here = record { before = omega arith; uncut = get_or-set_same cut n false false l }
 
           source_of : (x y : ℕ) → IsFree (set cut n false) (n + 1) y → InRow sources y x ⊎ (InRow readers n y × (x ≡ n)) → R x y × IsFree (set cut n false) (n + 1) x
           source_of x y fy (inl old) =
               elim (cases_eq y n) [
-                | inr ne ↦ let w = (k.reads x y (free_from y fy ne)).0 old in (w.0, free_to x w.1)
-                | inl e ↦ let w = (own x).0 (subst (λ (z : ℕ). InRow sources z x) e old) in (subst (λ (z : ℕ). R x z) (sym e) w.0, free_to x w.1)
+                | inr ne ↦ let w = (k.reads x y (free_from cut n false y fy ne)).0 old in (w.0, free_to cut n false x w.1)
+                | inl e ↦ let w = (own x).0 (subst (λ (z : ℕ). InRow sources z x) e old) in (subst (λ (z : ℕ). R x z) (sym e) w.0, free_to cut n false x w.1)
               ]
           source_of x y fy (inr w) =
               let h = (k.read_by n y).0 w.0 in (subst (λ (z : ℕ). R z y) (sym w.1) h.0, subst (λ (z : ℕ). IsFree (set cut n false) (n + 1) z) (sym w.1) free_here)
 
-          source_to : (x y : ℕ) → IsFree (set cut n false) (n + 1) y → R x y → IsFree (set cut n false) (n + 1) x → InRow more_sources y x
-          source_to x y fy h fx =
+          -- a pin between free gates leads from the gate, to it, or between gates before it
+          sides : (x y : ℕ) → R x y → IsFree (set cut n false) (n + 1) x → IsFree (set cut n false) (n + 1) y → ((x ≡ n) × InRow readers n y) ⊎ (((y ≡ n) × InRow sources n x) ⊎ (IsFree cut n x × IsFree cut n y))
+          sides x y h fx fy =
               elim (cases_eq x n) [
                 | inl e ↦
                     elim (cases_eq y n) [
-                      | inl same ↦ absurd (none (subst (λ (z : ℕ). R z n) e (subst (λ (z : ℕ). R x z) same h)))
-                      | inr ne ↦
-                          let c = (k.read_by n y).1 (subst (λ (z : ℕ). R z y) e h, free_from y fy ne) in
-                          subst (λ (z : ℕ). InRow more_sources y z) (sym e)
-                          (subst (λ (z : ℕ). InRow more_sources z n) c.2 (g.each c.0 y c.1))
+                      | inl same ↦ absurd (none (rw (e, same) at h))
+                      | inr ne ↦ inl (e, (k.read_by n y).1 (rw e at h, free_from cut n false y fy ne))
                     ]
                 | inr ne ↦
-                    let fx_old = free_from x fx ne in
+                    let fx_old = free_from cut n false x fx ne in
                     elim (cases_eq y n) [
-                      | inl same ↦ subst (λ (z : ℕ). InRow more_sources z x) (sym same) (g.keeps n x ((own x).1 (subst (λ (z : ℕ). R x z) same h, fx_old)))
-                      | inr differ ↦ g.keeps y x ((k.reads x y (free_from y fy differ)).1 (h, fx_old))
+                      | inl same ↦ inr (inl (same, (own x).1 (rw same at h, fx_old)))
+                      | inr differ ↦ inr (inr (fx_old, free_from cut n false y fy differ))
                     ]
+              ]
+
+          source_to : (x y : ℕ) → IsFree (set cut n false) (n + 1) y → R x y → IsFree (set cut n false) (n + 1) x → InRow more_sources y x
+          source_to x y fy h fx =
+              elim (sides x y h fx fy) [
+                | inl w ↦ rw w.0 (subst (λ (z : ℕ). InRow more_sources z n) w.1.2 (g.each w.1.0 y w.1.1))
+                | inr w ↦ elim w [ inl s ↦ rw s.0 (g.keeps n x s.1) | inr old ↦ g.keeps y x ((k.reads x y old.1).1 (h, old.0)) ]
               ]
 
           here : level_at placed n ≡ at.level
@@ -442,25 +432,25 @@ module _ (R : ℕ → ℕ → Type 0) (cut : List Bool) (n : ℕ) (l : n < lengt
 
           rise : (x y : ℕ) → R x y → IsFree (set cut n false) (n + 1) x → IsFree (set cut n false) (n + 1) y → level_at placed x ≤ level_at placed y
           rise x y h fx fy =
-              elim (cases_eq x n) [
-                | inl e ↦
-                    elim (cases_eq y n) [
-                      | inl same ↦ absurd (none (subst (λ (z : ℕ). R z n) e (subst (λ (z : ℕ). R x z) same h)))
-                      | inr ne ↦
-                          let b = at.below y ((k.read_by n y).1 (subst (λ (z : ℕ). R z y) e h, free_from y fy ne)) in
-                          let o = other y ne in
-                          subst (λ (z : ℕ). level_at placed z ≤ level_at placed y) (sym e) (omega (arith, here))
-                    ]
-                | inr ne ↦
-                    let fx_old = free_from x fx ne in
-                    let o = other x ne in
-                    elim (cases_eq y n) [
-                      | inl same ↦
-                          let a = at.above x ((own x).1 (subst (λ (z : ℕ). R x z) same h, fx_old)) in
-                          subst (λ (z : ℕ). level_at placed x ≤ level_at placed z) (sym same) (omega (arith, here))
-                      | inr differ ↦
-                          let q = other y differ in
-                          let r = p.rise x y h fx_old (free_from y fy differ) in
+              elim (sides x y h fx fy) [
+                | inl w ↦
+                    let before = ((k.read_by n y).0 w.1).1.before in
+                    let b = at.below y w.1 in
+                    let o = other y (omega arith) in
+                    rw w.0 (omega (arith, here))
+                | inr w ↦
+                    elim w [
+                      | inl s ↦
+                          let before = ((own x).0 s.1).1.before in
+                          let a = at.above x s.1 in
+                          let o = other x (omega arith) in
+                          rw s.0 (omega (arith, here))
+                      | inr old ↦
+                          let r = p.rise x y h old.0 old.1 in
+                          let one = old.0.before in
+                          let two = old.1.before in
+                          let o = other x (omega arith) in
+                          let q = other y (omega arith) in
                           omega arith
                     ]
               ]
@@ -489,28 +479,36 @@ left_out R cut n l readers sources levels k = record {
   sources_size = k.sources_size ∙ sym (length-set cut n true);
   levels_size = k.levels_size ∙ sym (length-set cut n true);
   read_by = λ x y. (
-    λ c. (let w = (k.read_by x y).0 c in (w.0, free_to y w.1)),
-    λ w. (k.read_by x y).1 (w.0, free_from y w.1),
+    λ c. (let w = (k.read_by x y).0 c in (w.0, free_to cut n true y w.1)),
+    λ w. (k.read_by x y).1 (w.0, still_free y w.1),
   );
   reads = λ x y fy. (
-    λ c. (let w = (k.reads x y (free_from y fy)).0 c in (w.0, free_to x w.1)),
-    λ w. (k.reads x y (free_from y fy)).1 (w.0, free_from x w.1),
+    λ c. (let w = (k.reads x y (still_free y fy)).0 c in (w.0, free_to cut n true x w.1)),
+    λ w. (k.reads x y (still_free y fy)).1 (w.0, still_free x w.1),
   );
   reads_within = λ x y c. (let size = length-set cut n true in let b = k.reads_within x y c in omega arith);
-  rise = λ x y h fx fy. k.rise x y h (free_from x fx) (free_from y fy);
+  rise = λ x y h fx fy. k.rise x y h (still_free x fx) (still_free y fy);
   near = λ x xl. (let m = k.near x xl in let h1 = m.high in let l1 = m.low in record { high = omega arith; low = omega arith });
 }
   where
-    free_to : (y : ℕ) → IsFree cut n y → IsFree (set cut n true) (n + 1) y
-    free_to y f =
-        let b = f.before in record { before = omega arith; uncut = get_or-set_other cut n y true false (omega arith) ∙ f.uncut }
+    still_free : (y : ℕ) → IsFree (set cut n true) (n + 1) y → IsFree cut n y
+    still_free y f =
+        free_from cut n true y f
+        (λ e. true≢false (sym (get_or-set_same cut n true false l) ∙ (rw e at f.uncut)))
 
-    free_from : (y : ℕ) → IsFree (set cut n true) (n + 1) y → IsFree cut n y
-    free_from y f =
-        elim (cases_eq y n) [
-          | inl e ↦ absurd (true≢false (sym (get_or-set_same cut n true false l) ∙ subst (λ (z : ℕ). is_cut (set cut n true) z ≡ false) e f.uncut))
-          | inr ne ↦ let b = f.before in record { before = omega (arith, ne); uncut = sym (get_or-set_other cut n y true false ne) ∙ f.uncut }
-        ]
+-- a search that leaves a gate out
+pub search_left_out : (R : ℕ → ℕ → Type 0) (cut : List Bool) (n : ℕ) → n < length cut → (old new : CutSearch) → IsCutSearch R cut n old →
+    IsKept R cut n new.kept.readers.items new.kept.sources.items new.kept.levels.items → new.kept.readers.items ≡ old.kept.readers.items → new.searches ≡ old.searches → new.landmarks ≡ old.landmarks → IsCutSearch R (set cut n true) (n + 1) new
+search_left_out R cut n l old new s kept readers searches landmarks = record {
+  kept = left_out R cut n l new.kept.readers.items new.kept.sources.items new.kept.levels.items kept;
+  forth = rw (searches, length-set cut n true) (ready_later (length cut) n old.searches.forth.marks.items s.forth);
+  back = rw (searches, length-set cut n true) (ready_later (length cut) n old.searches.back.marks.items s.back);
+  landmarks = rw (readers, landmarks, length-set cut n true) s.landmarks;
+}
+  where
+    -- a search with this goal next is ready for the one after it
+    ready_later : (width m : ℕ) (marks : List ℕ) → IsReady width m marks → IsReady width (m + 1) marks
+    ready_later width m marks r = record { size = r.size; bound = λ x. (let b = r.bound x in omega arith) }
 
 -- the highest level of what a gate reads, and the lowest of what reads it, are near the middle
 pub high_is_near : (levels : List ℕ) (goal : ℕ) (row : List ℕ) (high floor : ℕ) → AreNear goal levels → All (λ x. x < length levels) row → floor ≡ 4294967296 - goal → goal < 4294967296 → floor ≤ high → ((bound : ℕ) → floor ≤ bound → ((n : ℕ) → Contains row n → level_at levels n ≤ bound) → high ≤ bound) → IsNear goal high
@@ -524,11 +522,3 @@ low_is_near levels goal row low ceiling near within is fits down greatest = reco
   high = omega arith;
   low = (let g = greatest (4294967296 - goal) (omega arith) (λ n c. (let m = near n (of_within row (length levels) within n c) in let l = m.low in omega arith)) in omega arith);
 }
-
--- the same rows and levels
-module _ (readers sources : List (List ℕ)) (levels : List ℕ) (r s : List (List ℕ)) (v : List ℕ) (er : r ≡ readers) (es : s ≡ sources) (ev : v ≡ levels) where
-  pub rows_as : (P : List (List ℕ) → List (List ℕ) → List ℕ → Type 0) → P readers sources levels → P r s v
-  rows_as P p =
-      subst (λ (x : List (List ℕ)). P x s v) (sym er)
-      (subst (λ (x : List (List ℕ)). P readers x v) (sym es)
-      (subst (λ (x : List ℕ). P readers sources x) (sym ev) p))

@@ -31,10 +31,6 @@ all_known f (x ∷ xs) h =
     let rest = all_known f xs (λ k d l. h (suc k) d (omega arith)) in
     record { as_bits = one.as_bit ∷ rest.as_bits; are = ap₂ (λ y ys. y ∷ ys) one.is rest.are }
 
--- a signal is an input, a latch or a gate
-reads_within : (net : Parts) → IsNetlist net → (n k : ℕ) (d : Sig) → n < length net.gates → k < length (gate_at net n).pins → (get_or (gate_at net n).pins k d).0 < first_gate net + length net.gates
-reads_within net is n k d l here = is.pins n no_gate l k d here
-
 module _ (net : Parts) (is : IsNetlist net) (free : IsLoopFree net) (v : List Bool) (width : length v ≡ first_gate net) where
   known : (n : ℕ) → n < length net.gates → Known (get_or (fix_gates net (bits v)) n X)
   known =
@@ -54,7 +50,7 @@ module _ (net : Parts) (is : IsNetlist net) (free : IsLoopFree net) (v : List Bo
       pin : (n : ℕ) → ((x : ℕ) → Leads net AnyGate x n → x < length net.gates → Known (get_or (fix_gates net (bits v)) x X)) → n < length net.gates → length (bits v) ≡ first_gate net → (k : ℕ) (d : Sig) → k < length (gate_at net n).pins → Known (wire (fix net (bits v)) (get_or (gate_at net n).pins k d))
       pin n before l wide k d here =
           let r = get_or (gate_at net n).pins k d in
-          let bound = reads_within net is n k d l here in
+          let bound : r.0 < first_gate net + length net.gates = is.pins n no_gate l k d here in
           elim (cases_lt r.0 (first_gate net)) [
             | inl low ↦
                 record {

@@ -1,31 +1,15 @@
 -- The loops and cut wires that are found by trying all walks are those of the netlist.
-use Rattle.std.proofs.Common.{◌≡◌, ◌⊎◌, ◌↔◌, inl, inr, ℕ, zero, suc, ◌<◌, ltb, Bool, true, not, ◌&&◌, ◌||◌, List, [], ◌∷◌, ◌++◌, length, get_or, refl, ap, ap₂, sym, ◌∙◌, subst, arith, Contains, true≢false}
-use Rattle.loops.proofs.Common.{cases_eq, and_parts, and_from, lt-ltb, AllByRecursion, Sig, all_weaker, all_append, Parts, gate_at, gate_sig, Feeds, Walk, Leads, AnyGate, SameLoop, MayPass, loops_of}
+use Rattle.std.proofs.Common.{◌≡◌, ◌⊎◌, ◌↔◌, inl, inr, ℕ, zero, suc, ◌<◌, ltb, Bool, true, not, ◌&&◌, ◌||◌, List, [], ◌∷◌, ◌++◌, length, refl, ap, ap₂, sym, ◌∙◌, subst, arith}
+use Rattle.loops.proofs.Common.{cases_eq, and_parts, and_from, lt-ltb, AllByRecursion, all_weaker, all_append, Parts, gate_at, gate_sig, Feeds, Walk, Leads, AnyGate, SameLoop, MayPass, loops_of}
 use Rattle.std.proofs.lemmas.Bool.{or_cases, or_left, or_right, ltb-true, not-true, eq-eqb}
+use Rattle.std.proofs.lemmas.List.Folds.{list_any_at}
+use Rattle.std.proofs.lemmas.Map.Views.{Contains-from_any}
 use Rattle.std.specs.List.{list_any}
 use Rattle.netlist.specs.Netlists.{sig_eq}
 use Rattle.netlist.proofs.NameLemmas.{sig_eq-true}
 use Rattle.loops.specs.Found.{feeds, reaches, same_of, cut_below}
 use Rattle.loops.specs.Laws.{LoopsExist}
 use Rattle.loops.proofs.Walks.{walk-append, split, walk_within_of}
-
-sig_eq-self : (a : Sig) → sig_eq a a ≡ true
-sig_eq-self a = eq-eqb a.0 a.0 refl
-
-any_to_contains : (x : Sig) (xs : List Sig) → list_any (sig_eq x) xs ≡ true → Contains xs x
-any_to_contains x [] h = absurd (true≢false (sym h))
-any_to_contains x (y ∷ ys) h =
-    elim (or_cases (sig_eq x y) (list_any (sig_eq x) ys) h) [
-      | inl e ↦ (zero, omega arith, sym (sig_eq-true x y e))
-      | inr e ↦ let c = any_to_contains x ys e in let l = c.1 in (suc c.0, omega arith, c.2)
-    ]
-
-contains_to_any : (x : Sig) (xs : List Sig) (k : ℕ) → k < length xs → get_or xs k x ≡ x → list_any (sig_eq x) xs ≡ true
-contains_to_any x [] k l e = absurd (omega arith)
-contains_to_any x (y ∷ ys) zero l e =
-    or_left (sig_eq x y) (list_any (sig_eq x) ys) (subst (λ (z : Sig). sig_eq x z ≡ true) (sym e) (sig_eq-self x))
-contains_to_any x (y ∷ ys) (suc k) l e =
-    or_right (sig_eq x y) (list_any (sig_eq x) ys) (contains_to_any x ys k (omega arith) e)
 
 feeds_iff : (net : Parts) (a b : ℕ) → (feeds net a b ≡ true) ↔ Feeds net a b
 feeds_iff net a b = (
@@ -35,14 +19,14 @@ feeds_iff net a b = (
       record {
         source = ltb-true a (length net.gates) p.0;
         reader = ltb-true b (length net.gates) q.0;
-        pin = any_to_contains (gate_sig net a) (gate_at net b).pins q.1;
+        pin = Contains-from_any {eq = sig_eq} sig_eq-true (gate_sig net a) (gate_at net b).pins q.1;
       },
   λ f.
       and_from (ltb a (length net.gates)) (ltb b (length net.gates) && list_any (sig_eq (gate_sig net a)) (gate_at net b).pins)
       (lt-ltb a (length net.gates) f.source)
       (and_from (ltb b (length net.gates)) (list_any (sig_eq (gate_sig net a)) (gate_at net b).pins)
       (lt-ltb b (length net.gates) f.reader)
-      (contains_to_any (gate_sig net a) (gate_at net b).pins f.pin.0 f.pin.1 f.pin.2)),
+      (list_any_at (sig_eq (gate_sig net a)) (gate_at net b).pins f.pin.0 (gate_sig net a) f.pin.1 (rw f.pin.2 (eq-eqb (gate_sig net a).0 (gate_sig net a).0 refl)))),
 )
 
 -- what follows the last time that a walk passes k

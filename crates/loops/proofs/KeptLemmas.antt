@@ -1,9 +1,10 @@
 -- Rows that gain a gate, the sources of a gate's pins, and levels that are moved.
-use Rattle.std.proofs.Common.{◌≡◌, ◌⊎◌, ◌↔◌, inl, inr, ℕ, ◌+◌, ◌<◌, ◌≤◌, Bool, List, [], ◌∷◌, ◌++◌, length, get_or, set, max, min, ap, sym, ◌∙◌, subst, arith, Contains}
-use Rattle.loops.proofs.Common.{cases_eq, get_or-set_same, get_or-set_other, get_or_default, get_or_read, length-set, Contains-append_left, Contains-get_or, Contains-push, Contains-push_cases, Sig, Parts, gate_at, gate_sig, Blocks, AreBlocksOf, Landmark, AreSourcesBelow, HaveGained, HaveGainedPins, IsKept, AreLandmarks, IsLoopPin, InRow, IsFree, IsReady, level_at, row_at}
+use Rattle.std.proofs.Common.{◌≡◌, ◌⊎◌, ◌↔◌, inl, inr, ℕ, ◌+◌, ◌<◌, ◌≤◌, Bool, List, [], ◌∷◌, ◌++◌, length, get_or, set, ap, sym, ◌∙◌, subst, arith, Contains}
+use Rattle.loops.proofs.Common.{cases_eq, get_or-set_same, get_or-set_other, get_or_default, get_or_read, length-set, Contains-append_left, Contains-get_or, Contains-push, Contains-push_cases, Sig, Parts, gate_at, gate_sig, Blocks, AreBlocksOf, Landmark, AreSourcesBelow, HaveGained, HaveGainedPins, IsKept, AreLandmarks, IsLoopPin, InRow, IsFree, IsReady, row_at}
 use Rattle.std.specs.List.{All}
 use Rattle.loops.specs.Keeping.{AreLinks}
 use Rattle.loops.specs.Links.{IsLoopSource}
+use Rattle.loops.proofs.Reading.{each_more}
 use Rattle.loops.proofs.Told.{told_parts}
 
 -- an element of a list that equals another, whatever is read past the end
@@ -11,12 +12,6 @@ pub same_element : {A : Type 0} (xs ys : List A) (i : ℕ) (e : A) → ys ≡ xs
 same_element xs ys i e same l d = rw (← same) (get_or_default ys i d e l)
 
 -- the source of a pin is one gate
-pub one_source : (net : Parts) (blocks : Blocks) (gate k : ℕ) (pin : Sig) (a b : ℕ) (d : Sig) → ((e : Sig) → get_or (gate_at net gate).pins k e ≡ pin) → IsLoopSource net blocks gate pin b → IsLoopSource net blocks gate (get_or (gate_at net gate).pins k d) a → a ≡ b
-one_source net blocks gate k pin a b d at source other =
-    let same : gate_sig net a ≡ gate_sig net b = sym other.is ∙ at d ∙ source.is in
-    let number = ap (λ (s : Sig). s.0) same in
-    omega arith
-
 pub same_source : (net : Parts) (blocks : Blocks) (gate : ℕ) (pin : Sig) (a b : ℕ) → IsLoopSource net blocks gate pin a → IsLoopSource net blocks gate pin b → a ≡ b
 same_source net blocks gate pin a b one two =
     let number = ap (λ (s : Sig). s.0) (sym one.is ∙ two.is) in
@@ -35,25 +30,22 @@ module _ (rows : List (List ℕ)) (n gate : ℕ) (row : List ℕ) (l : n < lengt
   pub pushed_keeps : (x y : ℕ) → InRow rows x y → InRow (set rows n (row ++ gate ∷ [])) x y
   pushed_keeps x y c =
       elim (cases_eq x n) [
-        | inr ne ↦ subst (λ (r : List ℕ). Contains r y) (sym (get_or-set_other rows n x (row ++ gate ∷ []) [] ne)) c
+        | inr ne ↦ rw (get_or-set_other rows n x (row ++ gate ∷ []) [] ne) c
         | inl e ↦
-            let old : Contains row y = subst (λ (r : List ℕ). Contains r y) (sym row_is) (subst (λ (z : ℕ). InRow rows z y) e c) in
-            subst (λ (z : ℕ). InRow (set rows n (row ++ gate ∷ [])) z y) (sym e)
-            (subst (λ (r : List ℕ). Contains r y) (sym (get_or-set_same rows n (row ++ gate ∷ []) [] l)) (Contains-append_left row (gate ∷ []) y old))
+            let old : Contains row y = rw (e, ← row_is) at c in
+            rw (e, get_or-set_same rows n (row ++ gate ∷ []) [] l) (Contains-append_left row (gate ∷ []) y old)
       ]
 
   pub pushed_new : InRow (set rows n (row ++ gate ∷ [])) n gate
-  pushed_new = subst (λ (r : List ℕ). Contains r gate) (sym (get_or-set_same rows n (row ++ gate ∷ []) [] l)) (Contains-push row gate)
+  pushed_new = rw (get_or-set_same rows n (row ++ gate ∷ []) [] l) (Contains-push row gate)
 
   pub pushed_only : (x y : ℕ) → InRow (set rows n (row ++ gate ∷ [])) x y → InRow rows x y ⊎ ((x ≡ n) × (y ≡ gate))
   pushed_only x y c =
       elim (cases_eq x n) [
-        | inr ne ↦ inl (subst (λ (r : List ℕ). Contains r y) (get_or-set_other rows n x (row ++ gate ∷ []) [] ne) c)
+        | inr ne ↦ inl (rw (get_or-set_other rows n x (row ++ gate ∷ []) [] ne) at c)
         | inl e ↦
-            let at : Contains (row ++ gate ∷ []) y =
-            subst (λ (r : List ℕ). Contains r y) (get_or-set_same rows n (row ++ gate ∷ []) [] l) (subst (λ (z : ℕ). InRow (set rows n (row ++ gate ∷ [])) z y) e c) in
-            elim (Contains-push_cases row gate y at) [
-              | inl old ↦ inl (subst (λ (z : ℕ). InRow rows z y) (sym e) (subst (λ (r : List ℕ). Contains r y) row_is old))
+            elim (Contains-push_cases row gate y (rw (e, get_or-set_same rows n (row ++ gate ∷ []) [] l) at c)) [
+              | inl old ↦ inl (rw (e, ← row_is) old)
               | inr g ↦ inr (e, sym g)
             ]
       ]
@@ -62,11 +54,7 @@ module _ (rows : List (List ℕ)) (n gate : ℕ) (row : List ℕ) (l : n < lengt
   gained_more readers k first kl at g = record {
     size = length-set rows n (row ++ gate ∷ []) ∙ g.size;
     keeps = λ x y c. pushed_keeps x y (g.keeps x y c);
-    each = λ j d jl.
-        elim (cases_eq j k) [
-          | inr ne ↦ pushed_keeps (get_or readers j d) gate (g.each j d (omega (arith, ne)))
-          | inl e ↦ subst (λ (z : ℕ). InRow (set rows n (row ++ gate ∷ [])) z gate) (sym (ap (λ (i : ℕ). get_or readers i d) e ∙ at d)) pushed_new
-        ];
+    each = each_more (λ z. InRow (set rows n (row ++ gate ∷ [])) z gate) readers k n at pushed_new (λ j d l. pushed_keeps (get_or readers j d) gate (g.each j d l));
     only = λ x y c.
         elim (pushed_only x y c) [
           | inl old ↦ g.only x y old
@@ -78,11 +66,10 @@ module _ (rows : List (List ℕ)) (n gate : ℕ) (row : List ℕ) (l : n < lengt
   gained_pin net blocks k pin first are kl at source g = record {
     size = length-set rows n (row ++ gate ∷ []) ∙ g.size;
     keeps = λ x y c. pushed_keeps x y (g.keeps x y c);
-    each = λ a j d jl other.
-        elim (cases_eq j k) [
-          | inr ne ↦ pushed_keeps a gate (g.each a j d (omega (arith, ne)) other)
-          | inl e ↦ subst (λ (z : ℕ). InRow (set rows n (row ++ gate ∷ [])) z gate) (sym (one_source net blocks gate k pin a n d at source (subst (λ (i : ℕ). IsLoopSource net blocks gate (get_or (gate_at net gate).pins i d) a) e other))) pushed_new
-        ];
+    each = λ a.
+        each_more (λ p. IsLoopSource net blocks gate p a → InRow (set rows n (row ++ gate ∷ [])) a gate) (gate_at net gate).pins k pin at
+        (λ other. rw (same_source net blocks gate pin a n other source) pushed_new)
+        (λ j d l other. pushed_keeps a gate (g.each a j d l other));
     only = λ x y c.
         elim (pushed_only x y c) [
           | inl old ↦ g.only x y old
@@ -95,59 +82,31 @@ module _ (net : Parts) (blocks : Blocks) (gate : ℕ) where
   skipped_pin k pin first rows at none g = record {
     size = g.size;
     keeps = g.keeps;
-    each = λ a j d jl other.
-        elim (cases_eq j k) [
-          | inr ne ↦ g.each a j d (omega (arith, ne)) other
-          | inl e ↦ absurd (none a (subst (λ (p : Sig). IsLoopSource net blocks gate p a) (ap (λ (i : ℕ). get_or (gate_at net gate).pins i d) e ∙ at d) other))
-        ];
+    each = λ a. each_more (λ p. IsLoopSource net blocks gate p a → InRow rows a gate) (gate_at net gate).pins k pin at (λ other. absurd (none a other)) (g.each a);
     only = g.only;
   }
 
   module _ (cut : List Bool) where
     pub no_source : (k : ℕ) (pin : Sig) (row : List ℕ) → ((d : Sig) → get_or (gate_at net gate).pins k d ≡ pin) → ((a : ℕ) → IsLoopSource net blocks gate pin a → ¬ IsFree cut gate a) → AreSourcesBelow net blocks cut gate k row → AreSourcesBelow net blocks cut gate (k + 1) row
     no_source k pin row at none s = record {
-      each = λ a j d jl source free.
-          elim (cases_eq j k) [
-            | inr ne ↦ s.each a j d (omega (arith, ne)) source free
-            | inl e ↦ absurd (none a (subst (λ (p : Sig). IsLoopSource net blocks gate p a) (ap (λ (i : ℕ). get_or (gate_at net gate).pins i d) e ∙ at d) source) free)
-          ];
+      each = λ a.
+          each_more (λ p. IsLoopSource net blocks gate p a → IsFree cut gate a → Contains row a) (gate_at net gate).pins k pin at
+          (λ source free. absurd (none a source free)) (s.each a);
       only = s.only;
     }
 
     pub one_more_source : (k a : ℕ) (pin : Sig) (row : List ℕ) → AreBlocksOf net blocks → k < length (gate_at net gate).pins → ((d : Sig) → get_or (gate_at net gate).pins k d ≡ pin) → IsLoopSource net blocks gate pin a → IsFree cut gate a → AreSourcesBelow net blocks cut gate k row → AreSourcesBelow net blocks cut gate (k + 1) (row ++ a ∷ [])
     one_more_source k a pin row are kl at source free s = record {
-      each = λ b j d jl other is.
-          elim (cases_eq j k) [
-            | inr ne ↦ Contains-append_left row (a ∷ []) b (s.each b j d (omega (arith, ne)) other is)
-            | inl e ↦
-                let same : b ≡ a = one_source net blocks gate k pin b a d at source (subst (λ (i : ℕ). IsLoopSource net blocks gate (get_or (gate_at net gate).pins i d) b) e other) in
-                subst (λ (z : ℕ). Contains (row ++ a ∷ []) z) (sym same) (Contains-push row a)
-          ];
+      each = λ b.
+          each_more (λ p. IsLoopSource net blocks gate p b → IsFree cut gate b → Contains (row ++ a ∷ []) b) (gate_at net gate).pins k pin at
+          (λ other is. rw (same_source net blocks gate pin b a other source) (Contains-push row a))
+          (λ j d l other is. Contains-append_left row (a ∷ []) b (s.each b j d l other is));
       only = λ b c.
           elim (Contains-push_cases row a b c) [
             | inl old ↦ s.only b old
             | inr e ↦ subst (λ (z : ℕ). IsLoopPin net blocks z gate × IsFree cut gate z) e (pin_of_source net blocks gate k pin a are kl at source, free)
           ];
     }
-
--- the levels of one gate more
-pub highest_more : (levels gates : List ℕ) (level k v : ℕ) → k < length gates → v ≡ max level (level_at levels (get_or gates k 0)) → ((j d : ℕ) → j < k → level_at levels (get_or gates j d) ≤ level) → (j d : ℕ) → j < k + 1 → level_at levels (get_or gates j d) ≤ v
-highest_more levels gates level k v kl is h j d l =
-    elim (cases_eq j k) [
-      | inr ne ↦ let a = h j d (omega (arith, ne)) in omega (arith, is)
-      | inl e ↦
-          let at : get_or gates j d ≡ get_or gates k 0 = ap (λ (i : ℕ). get_or gates i d) e ∙ get_or_default gates k d 0 kl in
-          subst (λ (z : ℕ). level_at levels z ≤ v) (sym at) (omega (arith, is))
-    ]
-
-pub lowest_more : (levels gates : List ℕ) (level k v : ℕ) → k < length gates → v ≡ min level (level_at levels (get_or gates k 0)) → ((j d : ℕ) → j < k → level ≤ level_at levels (get_or gates j d)) → (j d : ℕ) → j < k + 1 → v ≤ level_at levels (get_or gates j d)
-lowest_more levels gates level k v kl is h j d l =
-    elim (cases_eq j k) [
-      | inr ne ↦ let a = h j d (omega (arith, ne)) in omega (arith, is)
-      | inl e ↦
-          let at : get_or gates j d ≡ get_or gates k 0 = ap (λ (i : ℕ). get_or gates i d) e ∙ get_or_default gates k d 0 kl in
-          subst (λ (z : ℕ). v ≤ level_at levels z) (sym at) (omega (arith, is))
-    ]
 
 -- a row that is read
 pub row_read : (rows : List (List ℕ)) (g : ℕ) (row entry : List ℕ) → g < length rows → entry ≡ get_or rows g entry → row ≡ entry → row ≡ row_at rows g

@@ -1,29 +1,18 @@
 -- Ways along rows are joined, and landmarks go on from a gate that is entered.
-use Rattle.std.proofs.Common.{inl, inr, ℕ, List, [], ◌∷◌, ◌++◌, sym, ◌∙◌, subst}
-use Rattle.loops.proofs.Common.{Landmark, Search, Meeting, ReadsBack, Connects, InRow, Meets, Path, row_at, AnyGate}
+use Rattle.std.proofs.Common.{◌≡◌, ◌⊎◌, inl, inr, ℕ, List, [], ◌∷◌, length, sym, ◌∙◌}
+use Rattle.loops.proofs.Common.{Landmark, Search, Meeting, ReadsBack, Connects, InRow, IsMarked, Meets, Path, row_at, AnyGate}
 use Rattle.loops.specs.Landmarks.{IsLandmark, Passes}
-use Rattle.loops.specs.Searching.{HasSpread, Reaches}
-use Rattle.loops.proofs.SearchLemmas.{path-append}
-use Rattle.loops.proofs.Walks.{all_any}
-
-pub one_step : (rows : List (List ℕ)) (a b : ℕ) → InRow rows a b → Connects (InRow rows) AnyGate a b
-one_step rows a b l = record { via = []; kind = tt; path = l }
+use Rattle.loops.specs.Searching.{Reaches}
+use Rattle.loops.proofs.SearchLemmas.{joined, one_step}
 
 module _ (rows : List (List ℕ)) (a b c : ℕ) where
-  pub joined : Connects (InRow rows) AnyGate a b → Connects (InRow rows) AnyGate b c → Connects (InRow rows) AnyGate a c
-  joined v w = record {
-    via = v.via ++ (b ∷ w.via);
-    kind = all_any (v.via ++ (b ∷ w.via));
-    path = path-append (InRow rows) a b c v.via w.via v.path w.path;
-  }
-
   pub joined_reach : Connects (InRow rows) AnyGate a b → Reaches rows b c → Connects (InRow rows) AnyGate a c
   joined_reach v r =
-      elim r [ inl e ↦ subst (λ (x : ℕ). Connects (InRow rows) AnyGate a x) e v | inr w ↦ joined v w ]
+      elim r [ inl e ↦ rw (← e) v | inr w ↦ joined rows a b c v w ]
 
   pub reaches_join : Reaches rows a b → Reaches rows b c → Reaches rows a c
   reaches_join r s =
-      elim r [ inl e ↦ subst (λ (x : ℕ). Reaches rows x c) (sym e) s | inr v ↦ inr (joined_reach v s) ]
+      elim r [ inl e ↦ rw e s | inr v ↦ inr (joined_reach v s) ]
 
 -- rows that keep their gates keep their ways
 module _ (rows more : List (List ℕ)) (keeps : (x y : ℕ) → InRow rows x y → InRow more x y) where
@@ -44,50 +33,36 @@ module _ (rows more : List (List ℕ)) (keeps : (x y : ℕ) → InRow rows x y �
     behind = λ x m. reaches_kept x landmark.gate (is.behind x m);
   }
 
-module _ (readers sources : List (List ℕ)) (gate : ℕ) (back : ReadsBack readers sources gate) where
-  pub turned : (x : ℕ) → Reaches sources gate x → Reaches readers x gate
-  turned x r = elim r [ inl e ↦ inl (sym e) | inr w ↦ inr (back x w) ]
+-- what is marked once a search went on from a gate
+abbrev Extends : List (List ℕ) → List (List ℕ) → ℕ → ℕ → List ℕ → List ℕ → Type 0
+Extends from to goal gate old new =
+    (x : ℕ) → IsMarked goal new x → IsMarked goal old x ⊎ (Meets goal (row_at from gate) old × Reaches to gate x)
 
-  module _ (gates h : ℕ) (ahead behind : Search) (is : IsLandmark readers gates (record { gate = h; ahead = ahead; behind = behind })) where
-    pub gone_ahead : (new : Search) → Meets h (row_at sources gate) ahead.marks.items → HasSpread readers h gate ahead.marks.items new.marks.items → IsLandmark readers gates (record { gate = h; ahead = new; behind = behind })
-    gone_ahead new m s = record {
-      fits = is.fits;
-      ahead_size = s.size ∙ is.ahead_size;
-      behind_size = is.behind_size;
-      ahead = λ x marked.
-          elim (s.marked x marked) [ inl old ↦ is.ahead x old | inr r ↦ reaches_join readers h gate x here r ];
-      behind = is.behind;
-    }
-      where
-        here : Reaches readers h gate
-        here = reaches_join readers h m.gate gate (is.ahead m.gate m.marked) (inr (back m.gate (one_step sources gate m.gate m.listed)))
-
-    pub gone_back : (new : Search) → Meets h (row_at readers gate) behind.marks.items → HasSpread sources h gate behind.marks.items new.marks.items → IsLandmark readers gates (record { gate = h; ahead = ahead; behind = new })
-    gone_back new m s = record {
-      fits = is.fits;
-      ahead_size = is.ahead_size;
-      behind_size = s.size ∙ is.behind_size;
-      ahead = is.ahead;
-      behind = λ x marked.
-          elim (s.marked x marked) [ inl old ↦ is.behind x old | inr r ↦ reaches_join readers x gate h (turned x r) here ];
-    }
-      where
-        here : Reaches readers gate h
-        here = inr (joined_reach readers gate m.gate h (one_step readers gate m.gate m.listed) (is.behind m.gate m.marked))
-
--- a landmark that both rows meet is passed
-pub passes : (readers : List (List ℕ)) (gates : ℕ) (landmark : Landmark) (ahead behind : List ℕ) → IsLandmark readers gates landmark → Meets landmark.gate ahead landmark.behind.marks.items → Meets landmark.gate behind landmark.ahead.marks.items → Passes readers ahead behind
-passes readers gates landmark ahead behind is one two = record {
-  first = one.gate;
-  last = two.gate;
-  landmark = landmark.gate;
-  begins = one.listed;
-  ends = two.listed;
-  before = is.behind one.gate one.marked;
-  after = is.ahead two.gate two.marked;
+-- a landmark goes on, ahead and behind it
+pub gone_on : (readers sources : List (List ℕ)) (gate gates h : ℕ) (ahead behind more_ahead more_behind : Search) → ReadsBack readers sources gate → IsLandmark readers gates (record { gate = h; ahead = ahead; behind = behind }) →
+    length more_ahead.marks.items ≡ length ahead.marks.items → Extends sources readers h gate ahead.marks.items more_ahead.marks.items →
+    length more_behind.marks.items ≡ length behind.marks.items → Extends readers sources h gate behind.marks.items more_behind.marks.items →
+    IsLandmark readers gates (record { gate = h; ahead = more_ahead; behind = more_behind })
+gone_on readers sources gate gates h ahead behind more_ahead more_behind back is ahead_size reached behind_size reaching = record {
+  fits = is.fits;
+  ahead_size = ahead_size ∙ is.ahead_size;
+  behind_size = behind_size ∙ is.behind_size;
+  ahead = λ x m.
+      elim (reached x m) [ inl old ↦ is.ahead x old | inr w ↦ reaches_join readers h gate x (to_gate w.0) w.1 ];
+  behind = λ x m.
+      elim (reaching x m) [ inl old ↦ is.behind x old | inr w ↦ reaches_join readers x gate h (turned x w.1) (from_gate w.0) ];
 }
+  where
+    turned : (x : ℕ) → Reaches sources gate x → Reaches readers x gate
+    turned x r = elim r [ inl e ↦ inl (sym e) | inr w ↦ inr (back x w) ]
 
--- and both rows of a gate meet there
+    to_gate : Meets h (row_at sources gate) ahead.marks.items → Reaches readers h gate
+    to_gate m = reaches_join readers h m.gate gate (is.ahead m.gate m.marked) (inr (back m.gate (one_step sources gate m.gate m.listed)))
+
+    from_gate : Meets h (row_at readers gate) behind.marks.items → Reaches readers gate h
+    from_gate m = inr (joined_reach readers gate m.gate h (one_step readers gate m.gate m.listed) (is.behind m.gate m.marked))
+
+-- both rows of a gate meet where a landmark is passed
 pub passed_meet : (readers sources : List (List ℕ)) (n : ℕ) → Passes readers (row_at readers n) (row_at sources n) → Meeting readers sources n
 passed_meet readers sources n p = record {
   gate = p.last;

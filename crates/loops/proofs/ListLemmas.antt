@@ -4,11 +4,13 @@ use Rattle.loops.proofs.Common.{length-map, AllByRecursion, range_with_len, Part
 use Rattle.std.proofs.lemmas.List.{length-append}
 use Rattle.std.proofs.Math.Seq.{get_or-append_seam}
 use Rattle.std.specs.Iterator.{Yields, YieldsFirstBy}
+use Rattle.cyc_base.proofs.ListLemmas.{all_filter}
 use Rattle.loops.specs.Listed.{first_gates}
 use Rattle.loops.specs.Left.{loop_seen, loops_left}
 use Rattle.loops.specs.Numbered.{Listed, IsLoopOf, IsNextLoop, first_gates_from, listed_loops, numbered}
 use Rattle.loops.specs.declared.loop_list.ListedLoop.{ListedLoop}
 use Rattle.loops.specs.declared.loop_list.LoopList.{LoopList}
+use Rattle.loops.proofs.ListedLemmas.{range_inside}
 
 -- ---- the gates at which loops begin
 
@@ -59,20 +61,8 @@ listed_at net k i d [] are inside = absurd (omega (arith, inside))
 listed_at net k zero d (g ∷ gates) are inside = record { first = are.0; gates = refl }
 listed_at net k (suc i) d (g ∷ gates) are inside = listed_at net (k + 1) i d gates are.1 (omega (arith, inside))
 
-range_inside : (from n bound : ℕ) → from + n ≡ bound → AllByRecursion (λ k. k < bound) (range_with_len from n)
-range_inside from zero bound is = tt
-range_inside from (suc n) bound is = (omega (arith, is), range_inside (from + 1) n bound (omega (arith, is)))
-
-kept_first : (net : Parts) (p : ℕ → Bool) (gates : List ℕ) → AreFirst net gates → AreFirst net (filter p gates)
-kept_first net p [] are = tt
-kept_first net p (g ∷ gates) are = by (p g) (kept_first net p gates are.1)
-  where
-    by : (t : Bool) → AreFirst net (filter p gates) → AreFirst net (cond t (g ∷ filter p gates) (filter p gates))
-    by true rest = (are.0, rest)
-    by false rest = rest
-
 are_first : (net : Parts) → AreFirst net (first_gates net)
-are_first net = kept_first net (λ n. begins_with (loop_of net n) n) (range_with_len 0 (length net.gates)) (range_inside 0 (length net.gates) (length net.gates) (omega arith))
+are_first net = all_filter (λ g. g < length net.gates) (λ n. begins_with (loop_of net n) n) (range_with_len 0 (length net.gates)) (range_inside 0 (length net.gates) (length net.gates) (omega arith))
 
 -- a loop that comes behind some
 pub comes_at : (net : Parts) (s t u : LoopList) (came : List ListedLoop) (x : ListedLoop) → loops_left s ≡ listed_loops net

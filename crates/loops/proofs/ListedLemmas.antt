@@ -1,7 +1,8 @@
 -- The loops of a netlist are told by its blocks, and their cut wires by its cut.
-use Rattle.std.proofs.Common.{◌≡◌, ◌==◌, ℕ, zero, suc, ◌+◌, ◌<◌, ◌≤◌, ltb, Bool, true, false, cond, ◌&&◌, List, [], ◌∷◌, ◌++◌, length, filter, All, refl, sym, ap, ap₂, ◌∙◌, arith, true≢false, append-nil}
+use Rattle.std.proofs.Common.{◌≡◌, ◌==◌, ℕ, zero, suc, ◌+◌, ◌<◌, ltb, Bool, true, false, cond, ◌&&◌, [], ◌∷◌, ◌++◌, length, filter, All, refl, sym, ap, ap₂, ◌∙◌, add-one, arith, true≢false}
 use Rattle.loops.proofs.Common.{lt-ltb, AllByRecursion, range_with_len, same_truth, Parts, Block, Blocks, AreBlocksOf, block_at, home_of, in_one_loop, loops_of, loop_of, begins_with}
 use Rattle.std.proofs.lemmas.List.Elements.{All-filter, All-from_recursion, filter-append}
+use Rattle.cyc_base.proofs.ListLemmas.{range-suc}
 use Rattle.loops.specs.Listed.{gate_numbers}
 use Rattle.loops.proofs.Existence.{loops_exist}
 use Rattle.loops.proofs.Told.{told_from, told_to}
@@ -78,41 +79,21 @@ module _ (net : Parts) (blocks : Blocks) (are : AreBlocksOf net blocks) where
       by_test true looped = sym (loop_is_block a inside looped)
       by_test false not = absurd (true≢false (sym begun ∙ ap (λ gates. begins_with gates a) (no_loop a not)))
 
+-- numbers of a range are below its end
+pub range_inside : (from n bound : ℕ) → from + n ≡ bound → AllByRecursion (λ k. k < bound) (range_with_len from n)
+range_inside from zero bound is = tt
+range_inside from (suc n) bound is = (omega (arith, is), range_inside (from + 1) n bound (omega (arith, is)))
+
 -- the gates of a loop are gates
 pub loop_gates_inside : (net : Parts) (a : ℕ) → All (λ n. n < length net.gates) (loop_of net a)
 loop_gates_inside net a =
     All-filter ((loops_of net).same a) (λ n. n < length net.gates) (gate_numbers net)
     (All-from_recursion (λ n. n < length net.gates) (gate_numbers net) (range_inside 0 (length net.gates) (length net.gates) (omega arith)))
-  where
-    range_inside : (from n bound : ℕ) → from + n ≡ bound → AllByRecursion (λ k. k < bound) (range_with_len from n)
-    range_inside from zero bound is = tt
-    range_inside from (suc n) bound is = (omega (arith, is), range_inside (from + 1) n bound (omega (arith, is)))
-
-pub at_most_one : (b : Bool) → cond b 1 0 ≤ 1
-at_most_one true = omega arith
-at_most_one false = omega arith
-
--- one more gate of the range
-range_more : (a n : ℕ) → range_with_len a (n + 1) ≡ range_with_len a n ++ (a + n) ∷ []
-range_more a zero = ap (λ k. k ∷ []) (let e : a ≡ a + 0 = omega arith in e)
-range_more a (suc n) =
-    ap (range_with_len a) (let e : suc n + 1 ≡ suc (n + 1) = omega arith in e)
-    ∙ ap (λ ns. a ∷ ns) (range_more (a + 1) n ∙ ap (λ k. range_with_len (a + 1) n ++ k ∷ []) (let e : a + 1 + n ≡ a + suc n = omega arith in e))
 
 -- what is kept goes on by one gate
 pub kept_more : (p : ℕ → Bool) (n : ℕ) → filter p (range_with_len 0 (n + 1)) ≡ filter p (range_with_len 0 n) ++ cond (p n) (n ∷ []) []
 kept_more p n =
-    ap (filter p) (range_more 0 n)
+    ap (λ k. filter p (range_with_len 0 k)) (add-one n)
+    ∙ ap (filter p) (range-suc 0 n)
     ∙ ap (λ k. filter p (range_with_len 0 n ++ k ∷ [])) (let e : 0 + n ≡ n = omega arith in e)
     ∙ filter-append p (range_with_len 0 n) (n ∷ [])
-
-pub counted_more : (p : ℕ → Bool) (n : ℕ) → length (filter p (range_with_len 0 (n + 1))) ≡ length (filter p (range_with_len 0 n)) + cond (p n) 1 0
-counted_more p n = ap length (kept_more p n) ∙ by_test (p n)
-  where
-    by_test : (t : Bool) → length (filter p (range_with_len 0 n) ++ cond t (n ∷ []) []) ≡ length (filter p (range_with_len 0 n)) + cond t 1 0
-    by_test true = length_more (filter p (range_with_len 0 n))
-      where
-        length_more : (ns : List ℕ) → length (ns ++ n ∷ []) ≡ length ns + 1
-        length_more [] = refl
-        length_more (m ∷ ns) = ap suc (length_more ns) ∙ let e : suc (length ns + 1) ≡ suc (length ns) + 1 = omega arith in e
-    by_test false = ap length (append-nil (filter p (range_with_len 0 n))) ∙ let e : length (filter p (range_with_len 0 n)) ≡ length (filter p (range_with_len 0 n)) + 0 = omega arith in e

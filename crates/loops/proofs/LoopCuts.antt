@@ -1,6 +1,6 @@
 -- Each loop has a cut wire.
 use Rattle.std.proofs.Common.{◌≡◌, inl, inr, ◌⊎◌, ℕ, true, false, List, [], ◌∷◌}
-use Rattle.loops.proofs.Common.{cases_Bool, AllByRecursion, Parts, Loops, AreLoopsOf, AnyGate, Leads, SameLoop}
+use Rattle.loops.proofs.Common.{all_weaker, cases_Bool, AllByRecursion, Parts, Loops, AreLoopsOf, AnyGate, Leads, SameLoop}
 use Rattle.loops.proofs.Walks.{cuts_leave_no_loop, on_closed_walk}
 
 -- a cut wire of the gate's loop
@@ -17,14 +17,10 @@ find-cut loops a (x ∷ xs) h = elim (cases_Bool (loops.cut x)) [
   | inr isnt ↦ elim (find-cut loops a xs h.1) [ inl found ↦ inl found | inr none ↦ inr (isnt, none) ]
 ]
 
-same-all : (net : Parts) (loops : Loops) → AreLoopsOf net loops → (a : ℕ) (xs : List ℕ) → AllByRecursion (SameLoop net a) xs → AllByRecursion (λ n. loops.same a n ≡ true) xs
-same-all net loops are a [] h = tt
-same-all net loops are a (x ∷ xs) h = ((are.same a x).1 h.0, same-all net loops are a xs h.1)
-
 pub has-cut : (net : Parts) (loops : Loops) → AreLoopsOf net loops → (a : ℕ) → Leads net AnyGate a a → HasCut loops a
 has-cut net loops are a leads = elim (cases_Bool (loops.cut a)) [
   | inl is ↦ record { wire = a; same = (are.same a a).1 (record { there = leads; back = leads }); cut = is }
-  | inr isnt ↦ elim (find-cut loops a leads.via (same-all net loops are a leads.via (on_closed_walk net a leads.via leads.walk))) [
+  | inr isnt ↦ elim (find-cut loops a leads.via (all_weaker (SameLoop net a) (λ n. loops.same a n ≡ true) leads.via (λ n. (are.same a n).1) (on_closed_walk net a leads.via leads.walk))) [
     | inl found ↦ found
     | inr none ↦ absurd (cuts_leave_no_loop net loops are a leads.via leads.walk isnt none)
   ]

@@ -1,7 +1,8 @@
 -- The components of a block's uncut reads are single gates, in an order for a sweep.
-use Rattle.std.proofs.Common.{◌≡◌, ◌==◌, inl, inr, ℕ, zero, suc, ◌<◌, ◌≤◌, ◌+◌, Bool, true, false, List, [], ◌∷◌, ◌++◌, length, filter, get_or, refl, ap, sym, ◌∙◌, subst, arith, Contains}
-use Rattle.loops.proofs.Common.{cases_eq, cases_lt, get_or_default, get_or_append_left, Contains-append_left, Contains-get_or, Contains-push, Contains-push_cases, AllByRecursion, range_with_len, Sig, all_append, AreComponentsOf, Parts, gate_at, gate_sig, Feeds, Block, Blocks, Cut, AreBlocksOf, block_at, home_of, is_cut, ArePlacesRead, AreUncutReads, Leads, SameLoop}
+use Rattle.std.proofs.Common.{◌≡◌, ◌==◌, inl, inr, ℕ, zero, suc, ◌<◌, ◌≤◌, ◌+◌, Bool, false, List, [], ◌∷◌, ◌++◌, length, filter, get_or, ap, sym, ◌∙◌, subst, arith, Contains}
+use Rattle.loops.proofs.Common.{cases_Bool, cases_eq, cases_lt, get_or_default, get_or_append_left, Contains-append_left, Contains-get_or, Contains-push, Contains-push_cases, AllByRecursion, range_with_len, Sig, all_append, AreComponentsOf, Parts, gate_at, gate_sig, Feeds, Block, Blocks, Cut, AreBlocksOf, block_at, home_of, is_cut, ArePlacesRead, AreUncutReads, Leads, SameLoop}
 use Rattle.std.proofs.lemmas.List.{get_or_push, length_push}
+use Rattle.std.proofs.lemmas.List.Elements.{All-from_recursion}
 use Rattle.cyc_base.proofs.ListLemmas.{all_filter}
 use Rattle.components.specs.declared.components.Components.{Components}
 use Rattle.components.specs.Graphs.{AreStronglyConnected, Edge, Walk as GraphWalk}
@@ -9,7 +10,9 @@ use Rattle.loops.specs.Blocks.{gates_at, no_block}
 use Rattle.loops.specs.Cuts.{IsCutOf, loops_by}
 use Rattle.loops.specs.Orders.{IsInOrder, IsOrderOf, ReadsUncut}
 use Rattle.loops.specs.Placing.{ArePlaced, IsPlaceRead, IsUncutPin, Rise}
-use Rattle.loops.proofs.Told.{blocks_tell_loops, gate_home, told_from, told_parts}
+use Rattle.loops.proofs.KeptLemmas.{pin_of_source, same_source}
+use Rattle.loops.proofs.Reading.{each_more}
+use Rattle.loops.proofs.Told.{blocks_tell_loops, gate_home, told_from}
 use Rattle.loops.proofs.Walks.{cuts_leave_no_loop, walk-append}
 
 -- gates that rise differ
@@ -17,51 +20,32 @@ same_place : (gates : List ℕ) → Rise gates → (i j : ℕ) → i < length ga
 same_place gates rise i j il jl e =
     elim (cases_lt i j) [
       | inl l ↦ absurd (let r = rise i j l jl in omega arith)
-      | inr g ↦
-          elim (cases_lt j i) [
-            | inl l ↦ absurd (let r = rise j i l il in omega arith)
-            | inr h ↦ omega arith
-          ]
+      | inr g ↦ elim (cases_lt j i) [ inl l ↦ absurd (let r = rise j i l il in omega arith) | inr h ↦ omega arith ]
     ]
 
 module _ (net : Parts) (blocks : Blocks) (cut : Cut) (gates : List ℕ) where
   pub places_skip : (gate i : ℕ) (pin : Sig) (places : List ℕ) → ArePlacesRead net blocks cut gates gate i places → ((d : Sig) → get_or (gate_at net gate).pins i d ≡ pin) → ((place : ℕ) → ¬ IsPlaceRead net blocks cut gates gate pin place) → ArePlacesRead net blocks cut gates gate (i + 1) places
   places_skip gate i pin places are is none = record {
-    each = λ p j d l read.
-        elim (cases_eq j i) [
-          | inr ne ↦ are.each p j d (omega (arith, ne)) read
-          | inl e ↦
-              absurd (none p (subst (λ (s : Sig). IsPlaceRead net blocks cut gates gate s p)
-              (ap (λ (k : ℕ). get_or (gate_at net gate).pins k d) e ∙ is d) read))
-        ];
+    each = λ p.
+        each_more (λ s. IsPlaceRead net blocks cut gates gate s p → Contains places p) (gate_at net gate).pins i pin is (λ read. absurd (none p read))
+        (λ j d l read. are.each p j d l read);
     only = are.only;
   }
 
   pub places_push : (gate i place : ℕ) (pin : Sig) (places : List ℕ) → AreBlocksOf net blocks → Rise gates → i < length (gate_at net gate).pins → ArePlacesRead net blocks cut gates gate i places → ((d : Sig) → get_or (gate_at net gate).pins i d ≡ pin) → IsPlaceRead net blocks cut gates gate pin place → ArePlacesRead net blocks cut gates gate (i + 1) (places ++ place ∷ [])
   places_push gate i place pin places blocks_are rise il are is read = record {
-    each = λ p j d l other.
-        elim (cases_eq j i) [
-          | inr ne ↦ Contains-append_left places (place ∷ []) p (are.each p j d (omega (arith, ne)) other)
-          | inl e ↦
-              let same : gate_sig net (get_or gates p 0) ≡ gate_sig net (get_or gates place 0) =
-              sym other.source.source.is ∙ ap (λ (k : ℕ). get_or (gate_at net gate).pins k d) e ∙ is d ∙ read.source.source.is in
-              let number = ap (λ (s : Sig). s.0) same in
-              let gate_is : get_or gates place 0 ≡ get_or gates p 0 = omega arith in
-              subst (λ (k : ℕ). Contains (places ++ place ∷ []) k) (same_place gates rise place p read.within other.within gate_is) (Contains-push places place)
-        ];
+    each = λ p.
+        each_more (λ s. IsPlaceRead net blocks cut gates gate s p → Contains (places ++ place ∷ []) p) (gate_at net gate).pins i pin is
+        (λ other.
+        let one = same_source net blocks gate pin (get_or gates p 0) (get_or gates place 0) other.source.source read.source.source in
+        rw (same_place gates rise p place other.within read.within one) (Contains-push places place))
+        (λ j d l other. Contains-append_left places (place ∷ []) p (are.each p j d l other));
     only = λ p c.
         elim (Contains-push_cases places place p c) [
           | inl there ↦ are.only p there
           | inr e ↦
               let a = get_or gates place 0 in
-              let told = told_parts net blocks blocks_are a gate read.source.source.loop in
-              let pin_of : IsUncutPin net blocks cut a gate = record {
-                pin = record {
-                  feeds = record { source = told.first; reader = told.second; pin = (i, il, is (gate_sig net a) ∙ read.source.source.is) };
-                  loop = read.source.source.loop;
-                };
-                uncut = read.source.uncut;
-              } in
+              let pin_of : IsUncutPin net blocks cut a gate = record { pin = pin_of_source net blocks gate i pin a blocks_are il is read.source.source; uncut = read.source.uncut } in
               subst (λ (k : ℕ). (k < length gates) × IsUncutPin net blocks cut (get_or gates k 0) gate) e (read.within, pin_of)
         ];
   }
@@ -118,21 +102,14 @@ range_ascends a (suc n) = (range_above a (a + 1) n (omega arith), range_ascends 
 
 filter_ascends : (p : ℕ → Bool) (xs : List ℕ) → Ascend xs → Ascend (filter p xs)
 filter_ascends p [] h = tt
-filter_ascends p (x ∷ xs) h = by (p x) refl (filter_ascends p xs h.1)
-  where
-    by : (b : Bool) → p x ≡ b → Ascend (filter p xs) → Ascend (filter p (x ∷ xs))
-    by true e rest = rw e (all_filter (λ y. x < y) p xs h.0, rest)
-    by false e rest = rw e rest
-
-all_at : (P : ℕ → Type 0) (xs : List ℕ) (k : ℕ) → k < length xs → AllByRecursion P xs → P (get_or xs k 0)
-all_at P [] k l h = absurd (omega arith)
-all_at P (x ∷ xs) zero l h = h.0
-all_at P (x ∷ xs) (suc k) l h = all_at P xs k (omega arith) h.1
+filter_ascends p (x ∷ xs) h =
+    let rest = filter_ascends p xs h.1 in
+    elim (cases_Bool (p x)) [ inl e ↦ rw e (all_filter (λ y. x < y) p xs h.0, rest) | inr e ↦ rw e rest ]
 
 rise_from : (xs : List ℕ) → Ascend xs → Rise xs
 rise_from [] h i j l k = absurd (omega arith)
 rise_from (x ∷ xs) h i zero l k = absurd (omega arith)
-rise_from (x ∷ xs) h zero (suc j) l k = all_at (λ y. x < y) xs j (omega arith) h.0
+rise_from (x ∷ xs) h zero (suc j) l k = All-from_recursion (λ y. x < y) xs h.0 j 0 (omega arith)
 rise_from (x ∷ xs) h (suc i) (suc j) l k = rise_from xs h.1 i j (omega arith) (omega arith)
 
 -- so each is at least its place
@@ -159,9 +136,17 @@ module _ (net : Parts) (blocks : Blocks) (are : AreBlocksOf net blocks) (b : ℕ
   pub block_within : (k : ℕ) → k < length (block_at blocks b).gates → get_or (block_at blocks b).gates k 0 < length net.gates
   block_within k l = (gate_home net blocks are b (get_or (block_at blocks b).gates k 0) bl (Contains-get_or (block_at blocks b).gates k 0 l)).0
 
-  module _ (cut : Cut) (cut_is : IsCutOf net cut) (graph : List (List ℕ)) (reads : AreUncutReads net blocks cut (block_at blocks b).gates (length (block_at blocks b).gates) graph) where
+-- the same of the gates as the code holds them
+module _ (net : Parts) (blocks : Blocks) (are : AreBlocksOf net blocks) (b : ℕ) (bl : b < length blocks.list) (gates : List ℕ) (same : gates ≡ (block_at blocks b).gates) where
+  pub gates_rise : Rise gates
+  gates_rise = subst Rise (sym same) (block_rises net blocks are b bl)
+
+  pub gates_within : (k : ℕ) → k < length gates → get_or gates k 0 < length net.gates
+  gates_within = subst (λ (xs : List ℕ). (k : ℕ) → k < length xs → get_or xs k 0 < length net.gates) (sym same) (block_within net blocks are b bl)
+
+  module _ (cut : Cut) (cut_is : IsCutOf net cut) (graph : List (List ℕ)) (reads : AreUncutReads net blocks cut gates (length gates) graph) where
     abbrev gate : ℕ → ℕ
-    gate k = get_or (block_at blocks b).gates k 0
+    gate k = get_or gates k 0
 
     edge_reads : (x y : ℕ) → Edge graph x y → IsUncutPin net blocks cut (gate y) (gate x)
     edge_reads x y e = (let n = reads.nodes in let s = e.source in (reads.only x y (omega arith) e.listed).1)
@@ -195,22 +180,22 @@ module _ (net : Parts) (blocks : Blocks) (are : AreBlocksOf net blocks) (b : ℕ
         no_walk_back x (r.0.via ++ (y ∷ r.1.via)) (graph-append x y x r.0.via r.1.via r.0.walk r.1.walk)
 
     module _ (found : Components) (components : AreComponentsOf graph found) where
-      pub homes_within : (x : ℕ) → x < length (block_at blocks b).gates → get_or found.home x 0 < found.count
+      pub homes_within : (x : ℕ) → x < length gates → get_or found.home x 0 < found.count
       homes_within x l = (let n = reads.nodes in components.within x (omega arith))
 
-      pub homes_size : length found.home ≡ length (block_at blocks b).gates
+      pub homes_size : length found.home ≡ length gates
       homes_size = components.nodes ∙ reads.nodes
 
-      pub homes_differ : (x y : ℕ) → x < y → y < length (block_at blocks b).gates → ¬ (get_or found.home x 0 ≡ get_or found.home y 0)
+      pub homes_differ : (x y : ℕ) → x < y → y < length gates → ¬ (get_or found.home x 0 ≡ get_or found.home y 0)
       homes_differ x y l yl e =
           let n = reads.nodes in
           not_connected x y l (components.connected x y (omega arith) (omega arith) e)
 
-      module _ (order : List ℕ) (placed : ArePlaced (block_at blocks b).gates found.home found.count order) where
+      module _ (order : List ℕ) (placed : ArePlaced gates found.home found.count order) where
         -- what stands at a place of the order
         record Stands (c : ℕ) : Type 0 where
           node : ℕ
-          within : node < length (block_at blocks b).gates
+          within : node < length gates
           home : get_or found.home node 0 ≡ c
           is : get_or order c 0 ≡ gate node
 
@@ -220,7 +205,7 @@ module _ (net : Parts) (blocks : Blocks) (are : AreBlocksOf net blocks) (b : ℕ
             let h = components.used c (omega arith) in
             let w = h.within in
             let n = homes_size in
-            let inside : h.node < length (block_at blocks b).gates = omega arith in
+            let inside : h.node < length gates = omega arith in
             record {
               node = h.node;
               within = inside;
@@ -233,7 +218,7 @@ module _ (net : Parts) (blocks : Blocks) (are : AreBlocksOf net blocks) (b : ℕ
             let first = stands c (omega arith) in
             let second = stands d dl in (
               λ e.
-                  let same = same_place (block_at blocks b).gates block_rises first.node second.node first.within second.within (sym first.is ∙ sym e ∙ second.is) in
+                  let same = same_place gates gates_rise first.node second.node first.within second.within (sym first.is ∙ sym e ∙ second.is) in
                   let home = ap (λ (k : ℕ). get_or found.home k 0) same in
                   let one = first.home in
                   let two = second.home in
@@ -241,13 +226,16 @@ module _ (net : Parts) (blocks : Blocks) (are : AreBlocksOf net blocks) (b : ℕ
               λ r. ordered first second r,
             )
           where
+            at_home : {k : ℕ} → (s : Stands k) → (gate s.node < length net.gates) × (home_of blocks (gate s.node) ≡ b)
+            at_home s = gate_home net blocks are b (gate s.node) bl (rw (← same) (Contains-get_or gates s.node 0 s.within))
+
             ordered : Stands c → Stands d → ¬ ReadsUncut net (is_cut cut.wires) (get_or order c 0) (get_or order d 0)
             ordered first second r =
                 let feeds : Feeds net (gate second.node) (gate first.node) =
                 subst (λ (k : ℕ). Feeds net (gate second.node) k) first.is (subst (λ (k : ℕ). Feeds net k (get_or order c 0)) second.is r.feeds) in
                 let uncut : is_cut cut.wires (gate second.node) ≡ false = subst (λ (k : ℕ). is_cut cut.wires k ≡ false) second.is r.uncut in
-                let a = gate_home net blocks are b (gate first.node) bl (Contains-get_or (block_at blocks b).gates first.node 0 first.within) in
-                let z = gate_home net blocks are b (gate second.node) bl (Contains-get_or (block_at blocks b).gates second.node 0 second.within) in
+                let a = at_home first in
+                let z = at_home second in
                 let one = first.home in
                 let two = second.home in
                 let nodes = reads.nodes in
@@ -255,7 +243,7 @@ module _ (net : Parts) (blocks : Blocks) (are : AreBlocksOf net blocks) (b : ℕ
                 elim ((are.same (gate second.node) (gate first.node) z.0 a.0).0 (z.1 ∙ sym a.1)) [
                   | inr s ↦ s
                   | inl e ↦
-                      let same = same_place (block_at blocks b).gates block_rises first.node second.node first.within second.within (sym e) in
+                      let same = same_place gates gates_rise first.node second.node first.within second.within (sym e) in
                       let home = ap (λ (k : ℕ). get_or found.home k 0) same in
                       absurd (omega arith)
                 ] in
@@ -272,22 +260,22 @@ module _ (net : Parts) (blocks : Blocks) (are : AreBlocksOf net blocks) (b : ℕ
                 omega arith
 
         pub order_is : IsOrderOf net (is_cut cut.wires) (block_at blocks b).gates order
-        order_is = record { only = only; each = each; follows = in_order order apart }
+        order_is = rw (← same) (record { only = only; each = each; follows = in_order order apart })
           where
-            only : (n : ℕ) → Contains order n → Contains (block_at blocks b).gates n
+            only : (n : ℕ) → Contains order n → Contains gates n
             only n c =
                 let s = stands c.0 c.1 in
                 let e : gate s.node ≡ n = sym s.is ∙ get_or_default order c.0 0 n c.1 ∙ c.2 in
-                (s.node, s.within, get_or_default (block_at blocks b).gates s.node n 0 s.within ∙ e)
+                (s.node, s.within, get_or_default gates s.node n 0 s.within ∙ e)
 
-            each : (n : ℕ) → Contains (block_at blocks b).gates n → Contains order n
+            each : (n : ℕ) → Contains gates n → Contains order n
             each n c =
                 let size = placed.size in
                 let l = homes_within c.0 c.1 in
                 let inside : get_or found.home c.0 0 < length order = omega arith in (
                   get_or found.home c.0 0,
                   inside,
-                  get_or_default order (get_or found.home c.0 0) n 0 inside ∙ placed.each c.0 c.1 ∙ get_or_default (block_at blocks b).gates c.0 0 n c.1 ∙ c.2,
+                  get_or_default order (get_or found.home c.0 0) n 0 inside ∙ placed.each c.0 c.1 ∙ get_or_default gates c.0 0 n c.1 ∙ c.2,
                 )
 
             all_from : (P : ℕ → Type 0) (xs : List ℕ) → ((k : ℕ) → k < length xs → P (get_or xs k 0)) → AllByRecursion P xs
@@ -300,37 +288,6 @@ module _ (net : Parts) (blocks : Blocks) (are : AreBlocksOf net blocks) (b : ℕ
               all_from (λ g. (¬ (g ≡ x)) × (¬ ReadsUncut net (is_cut cut.wires) x g)) xs (λ k l. h zero (suc k) (omega arith) (omega arith)),
               in_order xs (λ c d l dl. h (suc c) (suc d) (omega arith) (omega arith)),
             )
-
--- the same of the gates as the code holds them
-module _ (net : Parts) (blocks : Blocks) (are : AreBlocksOf net blocks) (b : ℕ) (bl : b < length blocks.list) (gates : List ℕ) (same : gates ≡ (block_at blocks b).gates) where
-  pub gates_rise : Rise gates
-  gates_rise = subst Rise (sym same) (block_rises net blocks are b bl)
-
-  pub gates_within : (k : ℕ) → k < length gates → get_or gates k 0 < length net.gates
-  gates_within = subst (λ (xs : List ℕ). (k : ℕ) → k < length xs → get_or xs k 0 < length net.gates) (sym same) (block_within net blocks are b bl)
-
-  module _ (cut : Cut) (cut_is : IsCutOf net cut) (graph : List (List ℕ)) (reads : AreUncutReads net blocks cut gates (length gates) graph) (found : Components) (components : AreComponentsOf graph found) where
-    block_reads : AreUncutReads net blocks cut (block_at blocks b).gates (length (block_at blocks b).gates) graph
-    block_reads = subst (λ (xs : List ℕ). AreUncutReads net blocks cut xs (length xs) graph) same reads
-
-    pub gates_size : length found.home ≡ length gates
-    gates_size = homes_size net blocks are b bl cut cut_is graph block_reads found components ∙ ap (λ (xs : List ℕ). length xs) (sym same)
-
-    pub gates_homes : (a : ℕ) → a < length gates → get_or found.home a 0 < found.count
-    gates_homes =
-        subst (λ (xs : List ℕ). (a : ℕ) → a < length xs → get_or found.home a 0 < found.count) (sym same)
-        (homes_within net blocks are b bl cut cut_is graph block_reads found components)
-
-    pub gates_differ : (x y : ℕ) → x < y → y < length gates → ¬ (get_or found.home x 0 ≡ get_or found.home y 0)
-    gates_differ =
-        subst (λ (xs : List ℕ). (x y : ℕ) → x < y → y < length xs → ¬ (get_or found.home x 0 ≡ get_or found.home y 0)) (sym same)
-        (homes_differ net blocks are b bl cut cut_is graph block_reads found components)
-
-    pub gates_order : (home order : List ℕ) → home ≡ found.home → ArePlaced gates home found.count order → IsOrderOf net (is_cut cut.wires) (block_at blocks b).gates order
-    gates_order home order e placed =
-        order_is net blocks are b bl cut cut_is graph block_reads found components order
-        (subst (λ (hs : List ℕ). ArePlaced (block_at blocks b).gates hs found.count order) e
-        (subst (λ (xs : List ℕ). ArePlaced xs home found.count order) same placed))
 
 pub block_gates : (blocks : Blocks) (items : List Block) (gates : List ℕ) (b : ℕ) (block : Block) → b < length blocks.list → items ≡ blocks.list → gates ≡ (get_or items b block).gates → gates ≡ (block_at blocks b).gates
 block_gates blocks items gates b block l e d =

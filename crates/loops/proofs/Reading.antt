@@ -1,11 +1,13 @@
 -- Reading lists, wires and gates by number.
-use Rattle.std.proofs.Common.{◌≡◌, ℕ, zero, suc, ◌-◌, ◌<◌, ◌≤◌, leb, Bool, true, false, if◌then◌else◌, List, [], ◌∷◌, ◌++◌, length, map, filter, get_or, refl, ap, ap₂, sym, ◌∙◌, arith, Contains}
-use Rattle.loops.proofs.Common.{and_parts, length-map, length-range_with_len, get_or-range_with_len, range_with_len, Sig, Trit, X, Parts, gate_at, fix, fix_gates, Loops, first_gate, gate_of, in_loop_of}
+use Rattle.std.proofs.Common.{◌≡◌, inl, inr, ℕ, zero, suc, ◌+◌, ◌-◌, ◌<◌, ◌≤◌, leb, Bool, true, false, if◌then◌else◌, List, [], ◌∷◌, ◌++◌, length, map, filter, get_or, refl, ap, ap₂, sym, ◌∙◌, subst, arith, Contains}
+use borrow.Author.Count.{below_more}
+use Rattle.loops.proofs.Common.{and_parts, cases_Bool, length-map, length-range_with_len, get_or-range_with_len, range_with_len, Sig, Trit, X, Parts, gate_at, fix, fix_gates, Loops, first_gate, gate_of, in_loop_of}
 use Rattle.std.proofs.lemmas.Bool.{leb-true}
 use Rattle.std.proofs.lemmas.List.{get_or-append_right}
 use Rattle.std.proofs.lemmas.List.FromFn.{fill_by_all}
+use Rattle.cyc_base.proofs.ListLemmas.{Contains-cases, Contains-here, Contains-nothing, Contains-there}
 use Rattle.cyc_base.specs.Values.{Below}
-use Rattle.netlist.specs.Fixpoint.{wires, gate_value}
+use Rattle.netlist.specs.Fixpoint.{gate_value}
 use Rattle.netlist.proofs.FixpointLemmas.{fix_is_fixpoint, get_or-fix}
 
 -- a choice among three
@@ -46,6 +48,10 @@ map_agree f g [] h = refl
 map_agree f g (x ∷ xs) h =
     ap₂ (λ y ys. y ∷ ys) (h zero x (omega arith)) (map_agree f g xs (λ k d l. h (suc k) d (omega arith)))
 
+-- what holds of the first k elements and of the next one
+pub each_more : {A : Type 0} (P : A → Type 0) (xs : List A) (k : ℕ) (x : A) → ((d : A) → get_or xs k d ≡ x) → P x → ((j : ℕ) (d : A) → j < k → P (get_or xs j d)) → (j : ℕ) (d : A) → j < k + 1 → P (get_or xs j d)
+each_more {A = A} P xs k x at here before j d l = below_more (λ i. (e : A) → P (get_or xs i e)) k (λ i m e. before i e m) (λ e. rw (at e) here) j l d
+
 pub fix_by_place : (net : Parts) (v : List Trit) → fix_gates net v ≡ map (λ n. gate_value (fix net v) (gate_at net n)) (range_with_len 0 (length net.gates))
 fix_by_place net v =
     fill_by_all (λ n. gate_value (fix net v) (gate_at net n)) (fix_gates net v) (length net.gates) X
@@ -53,23 +59,18 @@ fix_by_place net v =
     (λ n l. get_or-fix net v n l)
 
 pub Contains-filter_from : (p : ℕ → Bool) (xs : List ℕ) (x : ℕ) → Contains (filter p xs) x → (p x ≡ true) × Contains xs x
-Contains-filter_from p [] x c = absurd (let l = c.1 in omega arith)
-Contains-filter_from p (y ∷ ys) x c = by (p y) refl c (λ d. Contains-filter_from p ys x d)
-  where
-    by : (b : Bool) → p y ≡ b → Contains (filter p (y ∷ ys)) x → (Contains (filter p ys) x → (p x ≡ true) × Contains ys x) → (p x ≡ true) × Contains (y ∷ ys) x
-    by false is c rest =
-        let kept : Contains (filter p ys) x = rw is at c in
-        let r = rest kept in
-        (r.0, (suc r.1.0, (let l = r.1.1 in omega arith), r.1.2))
-    by true is c rest =
-        let kept : Contains (y ∷ filter p ys) x = rw is at c in
-        here kept.0 kept.1 kept.2
-      where
-        here : (k : ℕ) → k < length (y ∷ filter p ys) → get_or (y ∷ filter p ys) k x ≡ x → (p x ≡ true) × Contains (y ∷ ys) x
-        here zero l e = (ap p (sym e) ∙ is, (zero, omega arith, e))
-        here (suc k) l e =
-            let r = rest (k, omega arith, e) in
-            (r.0, (suc r.1.0, (let l2 = r.1.1 in omega arith), r.1.2))
+Contains-filter_from p [] x c = absurd (Contains-nothing x c)
+Contains-filter_from p (y ∷ ys) x c =
+    let there : Contains (filter p ys) x → (p x ≡ true) × Contains (y ∷ ys) x =
+    λ d. (let r = Contains-filter_from p ys x d in (r.0, Contains-there y ys x r.1)) in
+    elim (cases_Bool (p y)) [
+      | inr isnt ↦ there (rw isnt at c)
+      | inl is ↦
+          elim (Contains-cases y (filter p ys) x (rw is at c)) [
+            | inl e ↦ subst (λ (z : ℕ). (p z ≡ true) × Contains (y ∷ ys) z) e (is, Contains-here y ys)
+            | inr later ↦ there later
+          ]
+    ]
 
 pub Contains-range_from : (n k : ℕ) → Contains (range_with_len 0 n) k → k < n
 Contains-range_from n k c =

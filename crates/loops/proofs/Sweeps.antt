@@ -1,8 +1,9 @@
 -- Sweeps rise, stay below the fixpoint, and reach it.
-use Rattle.std.proofs.Common.{◌≡◌, ℕ, zero, suc, ◌<◌, Bool, true, false, ◌&&◌, List, [], ◌∷◌, length, map, filter, replicate, get_or, refl, ap, sym, ◌∙◌, subst, arith, ap₂, true≢false}
-use Rattle.loops.proofs.Common.{and_from, and_parts, length-map, length-replicate, get_or-range_with_len, length-range_with_len, range_with_len, Sig, Trit, X, ext, Parts, gate_at, wire, fix, fix_gates, Walk, Loops, AreLoopsOf, first_gate, gate_of, in_loop_of, pin_in, sweep}
+use Rattle.std.proofs.Common.{◌≡◌, inl, inr, ℕ, zero, suc, ◌<◌, Bool, true, ◌&&◌, List, [], ◌∷◌, length, map, filter, replicate, get_or, refl, ap, sym, ◌∙◌, subst, arith, ap₂, Contains}
+use Rattle.loops.proofs.Common.{and_from, and_parts, cases_Bool, length-map, length-replicate, range_with_len, Sig, Trit, X, ext, Parts, gate_at, wire, fix, fix_gates, Walk, Loops, AreLoopsOf, first_gate, gate_of, in_loop_of, pin_in, sweep}
 use Rattle.std.proofs.lemmas.List.{get_or-replicate}
 use Rattle.std.proofs.lemmas.List.FromFn.{length-map-range_with_len, get_or-map-range_with_len}
+use Rattle.cyc_base.proofs.ListLemmas.{Contains-cases, Contains-filter, Contains-nothing, Contains-range}
 use Rattle.cyc_base.specs.Values.{Below, EachBelow}
 use Rattle.netlist.specs.Fixpoint.{wires, gate_value, steps}
 use Rattle.cyc_base.proofs.OrderLemmas.{Below-refl, Below-antisym, EachBelow-refl, EachBelow-append, EachBelow-at, EachBelow-map, EachBelow-antisym}
@@ -98,30 +99,19 @@ module _ (net : Parts) (loops : Loops) (v : List Trit) where
 pub sweeps_stay_below_fix : SweepsStayBelowFix
 sweeps_stay_below_fix net loops v width k = sweeps_below net loops v width k
 
--- lists made by two functions of what a filter keeps agree at each number that passes
-agree_where_kept : (f g : ℕ → Trit) (p : ℕ → Bool) (xs : List ℕ) → map f (filter p xs) ≡ map g (filter p xs) → (k : ℕ) → k < length xs → p (get_or xs k 0) ≡ true → f (get_or xs k 0) ≡ g (get_or xs k 0)
-agree_where_kept f g p [] e k l h = absurd (omega arith)
-agree_where_kept f g p (x ∷ xs) e k l h = by (p x) refl k l h (λ rest i l2 h2. agree_where_kept f g p xs rest i l2 h2)
-  where
-    by : (b : Bool) → p x ≡ b → (k : ℕ) → k < length (x ∷ xs) → p (get_or (x ∷ xs) k 0) ≡ true → (map f (filter p xs) ≡ map g (filter p xs) → (i : ℕ) → i < length xs → p (get_or xs i 0) ≡ true → f (get_or xs i 0) ≡ g (get_or xs i 0)) → f (get_or (x ∷ xs) k 0) ≡ g (get_or (x ∷ xs) k 0)
-    by true is zero l h again =
-        let e' : f x ∷ map f (filter p xs) ≡ g x ∷ map g (filter p xs) = simp is at e in cc
-    by true is (suc k) l h again =
-        let e' : f x ∷ map f (filter p xs) ≡ g x ∷ map g (filter p xs) = simp is at e in
-        let rest : map f (filter p xs) ≡ map g (filter p xs) = cc in
-        again rest k (omega arith) h
-    by false is zero l h again = absurd (true≢false (sym h ∙ is))
-    by false is (suc k) l h again =
-        let rest : map f (filter p xs) ≡ map g (filter p xs) = simp is at e in
-        again rest k (omega arith) h
+-- lists that two functions make of the same numbers are equal where they agree, and nowhere else
+agree_at : (f g : ℕ → Trit) (xs : List ℕ) → map f xs ≡ map g xs → (x : ℕ) → Contains xs x → f x ≡ g x
+agree_at f g [] e x c = absurd (Contains-nothing x c)
+agree_at f g (y ∷ ys) e x c =
+    let here : f y ≡ g y = cc in
+    let rest : map f ys ≡ map g ys = cc in
+    elim (Contains-cases y ys x c) [ inl is ↦ subst (λ (z : ℕ). f z ≡ g z) is here | inr there ↦ agree_at f g ys rest x there ]
 
 map_where_kept : (f g : ℕ → Trit) (p : ℕ → Bool) (xs : List ℕ) → ((n : ℕ) → p n ≡ true → f n ≡ g n) → map f (filter p xs) ≡ map g (filter p xs)
 map_where_kept f g p [] h = refl
-map_where_kept f g p (x ∷ xs) h = by (p x) refl (map_where_kept f g p xs h)
-  where
-    by : (b : Bool) → p x ≡ b → map f (filter p xs) ≡ map g (filter p xs) → map f (filter p (x ∷ xs)) ≡ map g (filter p (x ∷ xs))
-    by true is again = rw is (ap₂ (λ y ys. y ∷ ys) (h x is) again)
-    by false is again = rw is again
+map_where_kept f g p (x ∷ xs) h =
+    let rest = map_where_kept f g p xs h in
+    elim (cases_Bool (p x)) [ inl is ↦ rw is (ap₂ (λ y ys. y ∷ ys) (h x is) rest) | inr is ↦ rw is rest ]
 
 pub reaches_within : (net : Parts) (a b : ℕ) (via : List ℕ) → Walk net a via b → b < length net.gates
 reaches_within net a b [] h = h.reader
@@ -139,12 +129,9 @@ module _ (net : Parts) (loops : Loops) (are : AreLoopsOf net loops) where
 
   pub cut_values_agree : (a : ℕ) (s t : List Trit) → cut_values net loops a s ≡ cut_values net loops a t → (n : ℕ) → loops.same a n ≡ true → loops.cut n ≡ true → get_or s n X ≡ get_or t n X
   cut_values_agree a s t e n same cut =
-      let l = same_within a n same in
-      let at : get_or (range_with_len 0 (length net.gates)) n 0 ≡ n = omega (arith, get_or-range_with_len 0 (length net.gates) n 0 l) in
-      subst (λ (k : ℕ). get_or s k X ≡ get_or t k X) at
-      (agree_where_kept (λ k. get_or s k X) (λ k. get_or t k X) (λ k. loops.same a k && loops.cut k) (range_with_len 0 (length net.gates)) e n
-      (let e2 = length-range_with_len 0 (length net.gates) in omega arith)
-      (subst (λ (k : ℕ). (loops.same a k && loops.cut k) ≡ true) (sym at) (and_from (loops.same a n) (loops.cut n) same cut)))
+      agree_at (λ k. get_or s k X) (λ k. get_or t k X) (cuts_of net loops a) e n
+      (Contains-filter (λ k. loops.same a k && loops.cut k) (range_with_len 0 (length net.gates)) n (and_from (loops.same a n) (loops.cut n) same cut)
+      (Contains-range (length net.gates) n (same_within a n same)))
 
   module _ (v : List Trit) (width : length v ≡ first_gate net) (a : ℕ) where
     -- where a sweep leaves the cut wires as they were, each step of the netlist stays below it in the loop

@@ -9,17 +9,20 @@ use Rattle.loops.proofs.Reading.{Contains-filter_from, Contains-range_from}
 use Rattle.loops.proofs.Walks.{begins_at, leads-any, leads-trans}
 
 module _ (net : Parts) (blocks : Blocks) (are : AreBlocksOf net blocks) where
+  tell : (a b : ℕ) → a < length net.gates → b < length net.gates → (block_at blocks (home_of blocks a)).looped ≡ true → home_of blocks a ≡ home_of blocks b → in_one_loop blocks a b ≡ true
+  tell a b al bl looped same =
+      let homes = are.homes in
+      and_from (ltb a (length blocks.home)) _ (lt-ltb a (length blocks.home) (omega arith))
+      (and_from (ltb b (length blocks.home)) _ (lt-ltb b (length blocks.home) (omega arith))
+      (and_from (block_at blocks (home_of blocks a)).looped (home_of blocks a == home_of blocks b) looped
+      (eq-eqb (home_of blocks a) (home_of blocks b) same)))
+
   -- two gates that lead to each other are in one loop, and a walk leads from each back to it
   pub told_from : (a b : ℕ) → SameLoop net a b → in_one_loop blocks a b ≡ true
   told_from a b s =
       let al = begins_at net a b s.there.via s.there.walk in
       let bl = begins_at net b a s.back.via s.back.walk in
-      let homes = are.homes in
-      and_from (ltb a (length blocks.home)) _ (lt-ltb a (length blocks.home) (omega arith))
-      (and_from (ltb b (length blocks.home)) _ (lt-ltb b (length blocks.home) (omega arith))
-      (and_from (block_at blocks (home_of blocks a)).looped (home_of blocks a == home_of blocks b)
-      ((are.looped a al).1 (leads-trans net a b a s.there s.back))
-      (eq-eqb (home_of blocks a) (home_of blocks b) ((are.same a b al bl).1 (inr s)))))
+      tell a b al bl ((are.looped a al).1 (leads-trans net a b a s.there s.back)) ((are.same a b al bl).1 (inr s))
 
   -- what it takes to be told of one loop
   pub record Told (a b : ℕ) : Type 0 where
@@ -71,12 +74,8 @@ module _ (net : Parts) (blocks : Blocks) (are : AreBlocksOf net blocks) where
 
   loop_gate : (a : ℕ) → a < length net.gates → (block_at blocks (home_of blocks a)).looped ≡ true → (n : ℕ) → Contains (block_at blocks (home_of blocks a)).gates n → in_one_loop blocks a n ≡ true
   loop_gate a l looped n c =
-      let homes = are.homes in
       let h = gate_home (home_of blocks a) n (are.home a l) c in
-      and_from (ltb a (length blocks.home)) _ (lt-ltb a (length blocks.home) (omega arith))
-      (and_from (ltb n (length blocks.home)) _ (lt-ltb n (length blocks.home) (omega arith))
-      (and_from (block_at blocks (home_of blocks a)).looped (home_of blocks a == home_of blocks n) looped
-      (eq-eqb (home_of blocks a) (home_of blocks n) (sym h.1))))
+      tell a n l h.0 looped (sym h.1)
 
 pub blocks_tell_loops : BlocksTellLoops
 blocks_tell_loops net blocks cut are is = record { same = λ a b. (told_to net blocks are a b, told_from net blocks are a b); cut = is.wires }

@@ -150,8 +150,7 @@ module _ (net : Parts) (loops : Loops) (are : AreLoopsOf net loops) where
   walk_within a b via h = walk_within_of net a b via h
 
   pub begins_within : (a b : ℕ) (via : List ℕ) → Walk net a via b → a < length net.gates
-  begins_within a b [] h = h.source
-  begins_within a b (x ∷ via) h = h.0.source
+  begins_within a b via h = begins_at net a b via h
 
   pub cuts_leave_no_loop : (a : ℕ) (via : List ℕ) → Walk net a via a → loops.cut a ≡ false → AllByRecursion (λ n. loops.cut n ≡ false) via → ⊥
   cuts_leave_no_loop a via walk not_cut kind =

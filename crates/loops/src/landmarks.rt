@@ -68,56 +68,26 @@ fn leads_past(landmark: &Landmark, ahead: &[u32], behind: &[u32]) -> bool
         && meets(behind, landmark.gate, &landmark.ahead.marks)
 }
 
-/// The landmark leads to a gate that was entered, if it leads to one that this gate reads.
-fn go_ahead(landmark: &mut Landmark, links: KeptLinks<'_>, gate: u32) -> Result<(), AllocError>
-    requires gate { gate < length links.levels.now }
-    requires back { ReadsBack links.readers.now links.sources.now gate }
-    requires landmark { IsLandmark links.readers.now (length links.levels.now) landmark.old }
-    ensures { OnOk result (IsLandmark links.entry.readers.now (length links.entry.levels.now) landmark.new) }
-{
-    if meets(
-        links.sources[gate as usize].gates(),
-        landmark.gate,
-        &landmark.ahead.marks,
-    ) {
-        landmark
-            .ahead
-            .spread(links.readers, links.levels, landmark.gate, gate)?;
+impl Landmark {
+    /// Goes on from a gate that was entered: the landmark leads to it where it leads to one that the gate reads, and
+    /// the gate leads to the landmark where one does that reads the gate.
+    fn go_on(&mut self, links: KeptLinks<'_>, gate: u32) -> Result<(), AllocError>
+        requires gate { gate < length links.levels.now }
+        requires back { ReadsBack links.readers.now links.sources.now gate }
+        requires landmark { IsLandmark links.readers.now (length links.levels.now) self.old }
+        ensures { OnOk result (IsLandmark links.entry.readers.now (length links.entry.levels.now) self.new) }
+    {
+        let KeptLinks {
+            readers,
+            sources,
+            levels,
+        } = links;
+        self.ahead
+            .extend(sources, readers, levels, self.gate, gate)?;
+        self.behind
+            .extend(readers, sources, levels, self.gate, gate)?;
+        Ok(())
     }
-    Ok(())
-}
-
-/// A gate that was entered leads to the landmark, if one does that reads it.
-fn go_back(landmark: &mut Landmark, links: KeptLinks<'_>, gate: u32) -> Result<(), AllocError>
-    requires gate { gate < length links.levels.now }
-    requires back { ReadsBack links.readers.now links.sources.now gate }
-    requires landmark { IsLandmark links.readers.now (length links.levels.now) landmark.old }
-    ensures { OnOk result (IsLandmark links.entry.readers.now (length links.entry.levels.now) landmark.new) }
-{
-    if meets(
-        links.readers[gate as usize].gates(),
-        landmark.gate,
-        &landmark.behind.marks,
-    ) {
-        landmark
-            .behind
-            .spread(links.sources, links.levels, landmark.gate, gate)?;
-    }
-    Ok(())
-}
-
-/// The landmarks go on from a gate that was entered.
-fn go_on(landmarks: &mut [Landmark], links: KeptLinks<'_>, gate: u32) -> Result<(), AllocError>
-    requires gate { gate < length links.levels.now }
-    requires back { ReadsBack links.readers.now links.sources.now gate }
-    requires landmarks { AreLandmarks links.readers.now (length links.levels.now) landmarks.old }
-    ensures { OnOk result (AreLandmarks links.entry.readers.now (length links.entry.levels.now) landmarks.new) }
-{
-    for landmark in landmarks.iter_mut() {
-        go_ahead(landmark, links, gate)?;
-        go_back(landmark, links, gate)?;
-    }
-    Ok(())
 }
 
 impl Landmarks {
@@ -140,12 +110,9 @@ impl Landmarks {
     {
         let ahead = links.readers[gate as usize].gates();
         let behind = links.sources[gate as usize].gates();
-        for landmark in &self.list {
-            if leads_past(landmark, ahead, behind) {
-                return true;
-            }
-        }
-        false
+        self.list
+            .iter()
+            .any(|landmark| leads_past(landmark, ahead, behind))
     }
 
     /// Goes on from a gate that was entered.
@@ -155,7 +122,10 @@ impl Landmarks {
         requires landmarks { AreLandmarks links.readers.now (length links.levels.now) self.old.list.items }
         ensures { OnOk result (AreLandmarks links.entry.readers.now (length links.entry.levels.now) self.new.list.items) }
     {
-        go_on(&mut self.list, links, gate)
+        for landmark in self.list.iter_mut() {
+            landmark.go_on(links, gate)?;
+        }
+        Ok(())
     }
 
     /// Puts a landmark in the next place.

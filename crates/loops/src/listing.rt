@@ -1,6 +1,6 @@
 //! The loops one by one, each by its first gate in flat order.
 
-ghost use Rattle.std.specs.Prelude.{◌≡◌, ◌<◌, true, false, length, cond, MatchOption};
+ghost use Rattle.std.specs.Prelude.{◌≡◌, ◌<◌, true, false, length, MatchOption};
 ghost use Rattle.loops.specs.Listed.{loop_of, begins_with as begins, first_gates};
 
 use crate::looped_netlist::LoopedNetlist;
@@ -42,25 +42,12 @@ impl<'a> LoopedNetlist<'a> {
         }
     }
 
-    // 1 where a loop begins at this gate, else 0.
-    fn begun_at(&self, gate: u32) -> u32
-        requires { gate < length self.now.net.gates }
-        ensures { result ≡ cond (begins (loop_of self.now.net gate) gate) 1 0 }
-    {
-        match self.loop_from(gate) {
-            Some(_) => 1,
-            None => 0,
-        }
-    }
-
     /// How many loops the netlist has.
     pub fn count(&self) -> u32
         ensures { result ≡ length (first_gates self.now.net) }
     {
-        let mut loops = 0;
-        for gate in 0..self.net().gates() {
-            loops += self.begun_at(gate);
-        }
-        loops
+        (0..self.net().gates())
+            .filter(|gate| self.begins_loop(*gate))
+            .count() as u32
     }
 }

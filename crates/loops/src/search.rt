@@ -1,8 +1,8 @@
 //! A search along rows of gates, from one gate on.
 
-ghost use Rattle.std.specs.Prelude.{◌≡◌, ◌<◌, ◌+◌, ◌^◌, ◌↔◌, ℕ, true, false, [], length, IfOk, OnOk, Contains, slice_index_or};
+ghost use Rattle.std.specs.Prelude.{◌≡◌, ◌⊎◌, ◌<◌, ◌+◌, ◌^◌, ◌↔◌, ℕ, true, false, [], length, IfOk, OnOk, Contains, slice_index_or};
 ghost use Rattle.std.specs.List.{All};
-ghost use Rattle.loops.specs.Searching.{Admits, Follows, HasAdvanced, HasSpread, IsMarked, IsNew, IsReady, IsSearching, Meets, row_at};
+ghost use Rattle.loops.specs.Searching.{Admits, Follows, HasAdvanced, HasSpread, IsMarked, IsNew, IsReady, IsSearching, Meets, Reaches, row_at};
 
 use crate::gate_list::GateList;
 use std::alloc::{AllocError, Global};
@@ -44,29 +44,6 @@ fn is_new(levels: &[u64], limit: Limit, goal: u32, marks: &[u32], gate: u32) -> 
     marks[gate as usize] != goal + 1 && admits(limit, levels[gate as usize])
 }
 
-/// Finds the gates of a row.
-fn follow(
-    levels: &[u64],
-    limit: Limit,
-    goal: u32,
-    row: &[u32],
-    marks: &mut [u32],
-    found: &mut Vec<u32>,
-) -> Result<(), AllocError>
-    requires fits { goal + 1 < 2 ^ 32 }
-    requires row { All (λ gate. gate < length levels.now) row.now }
-    requires marks { length marks.old ≡ length levels.now }
-    ensures { OnOk result (Follows levels.now limit goal row.now (length row.now) marks.old marks.new found.old.items found.new.items) }
-{
-    for gate in row {
-        if is_new(levels, limit, goal, marks, *gate) {
-            marks[*gate as usize] = goal + 1;
-            found.push(*gate)?;
-        }
-    }
-    Ok(())
-}
-
 /// Whether a search that marks these gates has found one of the row.
 pub(crate) fn meets(row: &[u32], goal: u32, marks: &[u32]) -> bool
     requires fits { goal + 1 < 2 ^ 32 }
@@ -95,6 +72,33 @@ impl Search {
         })
     }
 
+    /// Finds the gates of a gate's row.
+    fn follow(
+        &mut self,
+        rows: &[GateList],
+        levels: &[u64],
+        limit: Limit,
+        goal: u32,
+        gate: u32,
+    ) -> Result<(), AllocError>
+        requires fits { goal + 1 < 2 ^ 32 }
+        requires gate { gate < length levels.now }
+        requires size { length rows.now ≡ length levels.now }
+        requires rows { All (All (λ other. other < length levels.now)) rows.now }
+        requires marks { length self.old.marks.items ≡ length levels.now }
+        ensures follows { OnOk result (Follows levels.now limit goal (row_at rows.now gate) (length (row_at rows.now gate)) self.old.marks.items self.new.marks.items self.old.found.items self.new.found.items) }
+        ensures passed { self.new.passed ≡ self.old.passed }
+    {
+        let row = rows[gate as usize].gates();
+        for other in row {
+            if is_new(levels, limit, goal, &self.marks, *other) {
+                self.marks[*other as usize] = goal + 1;
+                self.found.push(*other)?;
+            }
+        }
+        Ok(())
+    }
+
     /// Begins the search from this gate with all gates of its row.
     pub fn start(
         &mut self,
@@ -113,15 +117,7 @@ impl Search {
     {
         self.found.clear();
         self.passed = 0;
-        let row = rows[goal as usize].gates();
-        follow(
-            levels,
-            Limit::AtLeast(0),
-            goal,
-            row,
-            &mut self.marks,
-            &mut self.found,
-        )?;
+        self.follow(rows, levels, Limit::AtLeast(0), goal, goal)?;
         Ok(())
     }
 
@@ -145,11 +141,11 @@ impl Search {
         if self.passed == self.found.len() {
             return Ok(Some(false));
         }
-        let row = rows[self.found[self.passed] as usize].gates();
-        if meets(row, goal, others) {
+        let gate = self.found[self.passed];
+        if meets(rows[gate as usize].gates(), goal, others) {
             return Ok(Some(true));
         }
-        follow(levels, limit, goal, row, &mut self.marks, &mut self.found)?;
+        self.follow(rows, levels, limit, goal, gate)?;
         self.passed += 1;
         Ok(None)
     }
@@ -174,16 +170,34 @@ impl Search {
         self.marks[gate as usize] = goal + 1;
         self.found.push(gate)?;
         while self.passed < self.found.len() {
-            let row = rows[self.found[self.passed] as usize].gates();
-            follow(
-                levels,
-                Limit::AtLeast(0),
-                goal,
-                row,
-                &mut self.marks,
-                &mut self.found,
-            )?;
+            let next = self.found[self.passed];
+            self.follow(rows, levels, Limit::AtLeast(0), goal, next)?;
             self.passed += 1;
+        }
+        Ok(())
+    }
+
+    /// Goes on from a gate along one kind of rows, if it has marked a gate of that one's row of the other kind.
+    pub fn extend(
+        &mut self,
+        from: &[GateList],
+        to: &[GateList],
+        levels: &[u64],
+        goal: u32,
+        gate: u32,
+    ) -> Result<(), AllocError>
+        requires fits { goal + 1 < 2 ^ 32 }
+        requires gate { gate < length levels.now }
+        requires from_size { length from.now ≡ length levels.now }
+        requires from { All (All (λ other. other < length levels.now)) from.now }
+        requires to_size { length to.now ≡ length levels.now }
+        requires to { All (All (λ other. other < length levels.now)) to.now }
+        requires marks { length self.old.marks.items ≡ length levels.now }
+        ensures size { OnOk result (length self.new.marks.items ≡ length self.old.marks.items) }
+        ensures marked { OnOk result ((x : ℕ) → IsMarked goal self.new.marks.items x → IsMarked goal self.old.marks.items x ⊎ (Meets goal (row_at from.now gate) self.old.marks.items × Reaches to.now gate x)) }
+    {
+        if meets(from[gate as usize].gates(), goal, &self.marks) {
+            self.spread(to, levels, goal, gate)?;
         }
         Ok(())
     }

@@ -40,30 +40,14 @@ record FoundCare (net : Parts) (care : CareSet) (p : List Bool → Bool) (v : Li
   pub least : (w : List Bool) → IsCareVector net care w → p w ≡ true → AtMost v w
 
 found_care : (net : Parts) (care : CareSet) (p : List Bool → Bool) (v : List Bool) → find p (care_vectors net care) ≡ Some v → FoundCare net care p v
-found_care net care p v is =
-    let found : find (λ w. is_care_vector net care w && p w) (vectors (columns net)) ≡ Some v = sym (care_test net care p) ∙ is in
-    let wide : length v ≡ columns net = found_wide (columns net) (λ w. is_care_vector net care w && p w) v found in
-    let passed = and_parts (is_care_vector net care v) (p v) (found_passes (λ w. is_care_vector net care w && p w) (vectors (columns net)) v found) in
-    record {
-      counts = care_vector_decides net care v wide passed.0;
-      passes = passed.1;
-      least = λ w counts passes.
-          found_least (columns net) (λ x. is_care_vector net care x && p x) v w found counts.width
-          (ap₂ (λ s t. s && t) (care_vector_is net care w counts) passes);
-    }
+found_care net care p v is = grind (arith, care_test, found_wide, and_parts, found_passes, care_vector_decides, found_least, care_vector_is)
 
 -- or none passes
 none_care : (net : Parts) (care : CareSet) (p : List Bool → Bool) (w : List Bool) → find p (care_vectors net care) ≡ None → IsCareVector net care w → p w ≡ false
-none_care net care p w is counts =
-    second_fails (is_care_vector net care w) (p w)
-    (none_passes (columns net) (λ x. is_care_vector net care x && p x) w (sym (care_test net care p) ∙ is) counts.width)
-    (care_vector_is net care w counts)
+none_care net care p w is counts = grind (arith, second_fails, none_passes, care_test, care_vector_is)
 
 no_care : (net : Parts) (care : CareSet) (p : List Bool → Bool) → ((w : List Bool) → IsCareVector net care w → p w ≡ false) → find p (care_vectors net care) ≡ None
-no_care net care p fails =
-    care_test net care p
-    ∙ find-none (columns net) (λ x. is_care_vector net care x && p x)
-    (λ w wide. fails_after (is_care_vector net care w) (p w) (λ counts. fails w (care_vector_decides net care w wide counts)))
+no_care net care p fails = grind (arith, care_test, find-none, fails_after, care_vector_decides)
 
 record FoundInitial (net : Parts) (p : List Bool → Bool) (q : List Bool) : Type 0 where
   pub width : length q ≡ length net.latches
@@ -72,41 +56,20 @@ record FoundInitial (net : Parts) (p : List Bool → Bool) (q : List Bool) : Typ
   pub least : (w : List Bool) → IsInitialState net w → p w ≡ true → AtMost q w
 
 found_initial : (net : Parts) (p : List Bool → Bool) (q : List Bool) → find p (initial_states net) ≡ Some q → FoundInitial net p q
-found_initial net p q is =
-    let found : find (λ w. is_initial net w && p w) (vectors (length net.latches)) ≡ Some q = sym (initial_test net p) ∙ is in
-    let wide : length q ≡ length net.latches = found_wide (length net.latches) (λ w. is_initial net w && p w) q found in
-    let passed = and_parts (is_initial net q) (p q) (found_passes (λ w. is_initial net w && p w) (vectors (length net.latches)) q found) in
-    record {
-      width = wide;
-      permitted = is_initial_decides net q wide passed.0;
-      passes = passed.1;
-      least = λ w permitted passes.
-          found_least (length net.latches) (λ x. is_initial net x && p x) q w found (length-initial_state net w permitted)
-          (ap₂ (λ s t. s && t) (initial_state_is net w permitted) passes);
-    }
+found_initial net p q is = grind (arith, initial_test, found_wide, and_parts, found_passes, is_initial_decides, found_least, length-initial_state, initial_state_is)
 
 none_initial : (net : Parts) (p : List Bool → Bool) (w : List Bool) → find p (initial_states net) ≡ None → IsInitialState net w → p w ≡ false
-none_initial net p w is permitted =
-    second_fails (is_initial net w) (p w)
-    (none_passes (length net.latches) (λ x. is_initial net x && p x) w (sym (initial_test net p) ∙ is) (length-initial_state net w permitted))
-    (initial_state_is net w permitted)
+none_initial net p w is permitted = grind (arith, second_fails, none_passes, initial_test, length-initial_state, initial_state_is)
 
 no_initial : (net : Parts) (p : List Bool → Bool) → ((w : List Bool) → IsInitialState net w → p w ≡ false) → find p (initial_states net) ≡ None
-no_initial net p fails =
-    initial_test net p
-    ∙ find-none (length net.latches) (λ x. is_initial net x && p x)
-    (λ w wide. fails_after (is_initial net w) (p w) (λ may. fails w (is_initial_decides net w wide may)))
+no_initial net p fails = grind (arith, initial_test, find-none, fails_after, is_initial_decides)
 
 -- whether a gate is unknown at some vector that counts
 abbrev pub is_loose : Parts → CareSet → Sig → Bool
 is_loose net care s = list_any (is_undetermined net s) (care_vectors net care)
 
 none_of_any : {T : Type 0} (p : T → Bool) (vs : List T) → list_any p vs ≡ false → find p vs ≡ None
-none_of_any p vs e = by_found (find p vs) (sym (any-find p vs) ∙ e)
-  where
-    by_found : {U : Type 0} (o : Option U) → not (is_none o) ≡ false → o ≡ None
-    by_found None e = refl
-    by_found (Some x) e = cc
+none_of_any p vs e = grind (arith, any-find)
 
 -- a test of the observed gates, as one of all gates
 pub observed_test : (net : Parts) (what : Observe) (p : Sig → Bool) → find p (observed_gates net what) ≡ find (λ s. is_among (observed net what) s && p s) (gate_sigs net)
@@ -148,13 +111,11 @@ find_nowhere p [] h = refl
 find_nowhere p (x ∷ xs) h = ap₂ (λ t o. cond t (Some x) o) (h x) (find_nowhere p xs h)
 
 not_empty : (t : Bool) → (let nothing : Option Refusal = None in if t then Some EmptyCare else nothing) ≡ None → t ≡ false
-not_empty true e = cc
-not_empty false e = refl
+not_empty t e = grind arith
 
 -- a vector that isn't missing
 there : {T : Type 0} (o : Option T) → is_none o ≡ false → (t : T) × (o ≡ Some t)
-there None e = cc
-there (Some t) e = (t, refl)
+there o e = grind arith
 
 accepts_without : (net : Parts) (care : CareSet) (what : Observe) → IsNetlist net → refusal net care what ≡ None → Accepts net care what
 accepts_without net care what valid none =
@@ -196,23 +157,10 @@ without_accepts net care what accepted =
     (ap (λ o. option_or (option_map (λ v. Leaves v (next_state net v)) o) None) fourth)))
   where
     by_empty : (t : Bool) → is_empty (care_vectors net care) ≡ t → is_empty (care_vectors net care) ≡ false
-    by_empty false e = e
-    by_empty true e =
-        absurd (true≢false (sym (care_vector_is net care accepted.possible.vector accepted.possible.counts)
-        ∙ none_passes (columns net) (is_care_vector net care) accepted.possible.vector
-        (missing (find (is_care_vector net care) (vectors (columns net))) (sym (empty-filter (is_care_vector net care) (vectors (columns net))) ∙ e)) accepted.possible.counts.width))
-      where
-        missing : {T : Type 0} (o : Option T) → is_none o ≡ true → o ≡ None
-        missing None e = refl
-        missing (Some t) e = cc
+    by_empty t e = grind (arith, true≢false, care_vector_is, none_passes, empty-filter)
 
     never_loose : (s : Sig) → is_among (observed net what) s ≡ true → is_loose net care s ≡ false
-    never_loose s seen =
-        any-find (is_undetermined net s) (care_vectors net care)
-        ∙ ap (λ o. not (is_none o)) (no_care net care (is_undetermined net s)
-        (λ w counts.
-        let c = member s (observed net what) seen in
-        known-is_x (wire (fix net (bits w)) s) (λ x. accepted.determined w counts c.0 s c.1 (ap (wire (fix net (bits w))) c.2 ∙ x))))
+    never_loose s seen = grind (arith, any-find, no_care, member, known-is_x)
 
     stays : (w : List Bool) → IsCareVector net care w → leaves net care w ≡ false
     stays w counts =
@@ -239,21 +187,8 @@ refusal_is_shown net care what r valid is = by_part (refused_at net care what r 
         subst (Shown net care) (sym r_is) (h.width, λ _. record { permitted = h.permitted; outside = not-true (is_in_invariant care q) h.passes })
     by_part (AtEmpty r_is) = subst (Shown net care) (sym r_is) (tt, λ other. absurd (other refl))
     by_part (AtUndetermined v s r_is found) =
-        let at = first_at (is_undetermined net) (observed_gates net what) (care_vectors net care) s v found in
-        let gate = found_observed net care what s at.first in
-        let h = found_care net care (is_undetermined net s) v at.least in
-        subst (Shown net care) (sym r_is)
-        (record { width = h.counts.width; gate = gate.gate }, λ _. record { counts = h.counts; unknown = is_x_decides (wire (fix net (bits v)) s) h.passes })
-    by_part (AtLeaves v r_is none found) =
-        let h = found_care net care (leaves net care) v found in
-        subst (Shown net care) (sym r_is) (
-          record { width = h.counts.width; latches = length-next_state net v },
-          λ _. record {
-            counts = h.counts;
-            is = next_state_is net v (sources_determined net care what v valid none h.counts);
-            outside = not-true (is_in_invariant care (next_state net v)) h.passes;
-          },
-        )
+        grind (arith, first_at (is_undetermined net) (observed_gates net what) (care_vectors net care) s v found, found_observed net care what s, found_care net care (is_undetermined net s) v, is_x_decides (wire (fix net (bits v)) s))
+    by_part (AtLeaves v r_is none found) = grind (arith, found_care net care (leaves net care) v found, length-next_state net v, next_state_is net v, sources_determined net care what v valid none, not-true (is_in_invariant care (next_state net v)))
 
 pub initial_is_least : InitialIsLeast
 initial_is_least net care what q w is permitted outside = by_part (refused_at net care what (Initial q) is)
@@ -272,12 +207,7 @@ undetermined_is_least net care what v w s is counts unknown = by_part (refused_a
     by_part : RefusedAt net care what (Undetermined v s) → AtMost v w
     by_part (AtInitial p r_is found) = cc
     by_part (AtEmpty r_is) = cc
-    by_part (AtUndetermined u t r_is found) =
-        let same_v : u ≡ v = cc in
-        let same_s : t ≡ s = cc in
-        let at = first_at (is_undetermined net) (observed_gates net what) (care_vectors net care) t u found in
-        subst (λ x. AtMost x w) same_v
-        ((found_care net care (is_undetermined net t) u at.least).least w counts (subst (λ x. is_undetermined net x w ≡ true) (sym same_s) unknown))
+    by_part (AtUndetermined u t r_is found) = grind (arith, first_at (is_undetermined net) (observed_gates net what) (care_vectors net care) t u found, found_care net care (is_undetermined net t) u)
     by_part (AtLeaves u r_is none found) = cc
 
 pub earlier_gates_are_determined : EarlierGatesAreDetermined
@@ -296,17 +226,7 @@ earlier_gates_are_determined net care what v w s t is counts seen behind before 
     by_part (AtLeaves u r_is none found) = cc
 
 pub undetermined_is_observed : UndeterminedIsObserved
-undetermined_is_observed net care what v s is = by_part (refused_at net care what (Undetermined v s) is)
-  where
-    by_part : RefusedAt net care what (Undetermined v s) → Contains (observed net what) s
-    by_part (AtInitial p r_is found) = cc
-    by_part (AtEmpty r_is) = cc
-    by_part (AtUndetermined u x r_is found) =
-        let same_s : x ≡ s = cc in
-        let at = first_at (is_undetermined net) (observed_gates net what) (care_vectors net care) x u found in
-        let gate = found_observed net care what x at.first in
-        subst (λ (y : Sig). Contains (observed net what) y) same_s (member x (observed net what) (and_parts (is_among (observed net what) x) (is_loose net care x) gate.passes).0)
-    by_part (AtLeaves u r_is none found) = cc
+undetermined_is_observed net care what v s is = grind (arith, refused_at net care what, first_at (is_undetermined net) (observed_gates net what) (care_vectors net care), found_observed net care what, member, and_parts)
 
 pub leaves_is_least : LeavesIsLeast
 leaves_is_least net care what v w q is counts out = by_part (refused_at net care what (Leaves v q) is)
@@ -315,9 +235,7 @@ leaves_is_least net care what v w q is counts out = by_part (refused_at net care
     by_part (AtInitial p r_is found) = cc
     by_part (AtEmpty r_is) = cc
     by_part (AtUndetermined u t r_is found) = cc
-    by_part (AtLeaves u r_is none found) =
-        let same : u ≡ v = cc in
-        subst (λ x. AtMost x w) same ((found_care net care (leaves net care) u found).least w counts out)
+    by_part (AtLeaves u r_is none found) = grind (arith, found_care net care (leaves net care) u found)
 
 -- Without care models.
 
@@ -327,23 +245,8 @@ filter_all p (x ∷ xs) h = ap₂ (λ t rest. cond t (x ∷ rest) rest) (h x) (f
 
 vectors_there : (n : ℕ) → is_empty (vectors n) ≡ false
 vectors_there zero = refl
-vectors_there (suc n) = first_half (vectors n) (vectors_there n)
-  where
-    first_half : (vs : List (List Bool)) → is_empty vs ≡ false → is_empty (map (λ v. false ∷ v) vs ++ map (λ v. true ∷ v) (vectors n)) ≡ false
-    first_half [] e = cc
-    first_half (v ∷ vs) e = refl
+vectors_there (suc n) = grind (arith, vectors_there n)
 
 pub without_care_gates_alone : WithoutCareGatesAlone
 without_care_gates_alone net care what no_assume no_invariant =
-    let inside : (q : List Bool) → is_in_invariant care q ≡ true = λ q. ap (λ o. option_map_or (λ m. holds_at m q) o true) no_invariant in
-    let allowed : (v : List Bool) → is_allowed care v ≡ true = λ v. ap (λ o. option_map_or (λ m. holds_at m v) o true) no_assume in
-    let every : care_vectors net care ≡ vectors (columns net) =
-    filter_all (is_care_vector net care) (vectors (columns net)) (λ v. ap₂ (λ s t. s && t) (inside (state_of net v)) (allowed v)) in
-    let first : find (λ q. not (is_in_invariant care q)) (initial_states net) ≡ None = find_nowhere (λ q. not (is_in_invariant care q)) (initial_states net) (λ q. ap not (inside q)) in
-    let some : is_empty (care_vectors net care) ≡ false = ap is_empty every ∙ vectors_there (columns net) in
-    let fourth : find (leaves net care) (care_vectors net care) ≡ None = find_nowhere (leaves net care) (care_vectors net care) (λ v. ap not (inside (next_state net v))) in
-    ap₂ option_or (ap (option_map Initial) first)
-    (ap₂ option_or (ap (λ t. let nothing : Option Refusal = None in if t then Some EmptyCare else nothing) some)
-    (ap₂ option_or (ap (λ vs. option_map (λ (u : Sig × List Bool). Undetermined u.1 u.0) (first_failing (is_undetermined net) (observed_gates net what) vs)) every)
-    (ap (λ o. option_or (option_map (λ v. Leaves v (next_state net v)) o) None) fourth)))
-    ∙ option_or-None (option_map (λ (u : Sig × List Bool). Undetermined u.1 u.0) (first_failing (is_undetermined net) (observed_gates net what) (vectors (columns net))))
+    grind (arith, filter_all (is_care_vector net care) (vectors (columns net)), find_nowhere, vectors_there (columns net), find_nowhere (leaves net care) (care_vectors net care), option_or-None)

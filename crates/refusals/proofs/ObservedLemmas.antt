@@ -53,10 +53,7 @@ length-outputs net = length-append net.outputs (map (λ (l : Latch). l.from) net
 
 -- they are signals of the netlist
 pub observed_within : (net : Parts) (what : Observe) → IsNetlist net → (k : ℕ) (d : Sig) → k < length (observed net what) → (get_or (observed net what) k d).0 < count net
-observed_within net observe.All valid k d inside =
-    let gate : k < length net.gates = omega (arith, length-gate_sigs net) in
-    let is : (get_or (gate_sigs net) k d).0 ≡ columns net + k = ap (λ (s : Sig). s.0) (gate_sig_at net k d gate) in
-    omega (arith, is, gate)
+observed_within net observe.All valid k d inside = grind (arith, length-gate_sigs, gate_sig_at)
 observed_within net observe.Outputs valid k d inside = elim (cases_lt k (length net.outputs)) [
   | inl output ↦
       let is = ap (λ (s : Sig). s.0) (get_or_append_left net.outputs (map (λ (l : Latch). l.from) net.latches) d k output) in
@@ -81,10 +78,8 @@ pub source_among : (net : Parts) (what : Observe) → IsNetlist net → (k : ℕ
     is_among (observed net what) (get_or net.latches k d).from ≡ true
 source_among net observe.All valid k d inside gate =
     let s : Sig = (get_or net.latches k d).from in
-    let within = valid.sources k d inside in
     let n : ℕ = s.0 - columns net in
-    let is : gate_sig net n ≡ s = ap signal (let e : columns net + n ≡ s.0 = omega (arith, gate) in e) in
-    ap (is_among (gate_sigs net)) (sym is) ∙ gate_among net n (omega (arith, gate, within))
+    grind (arith, gate_among net n)
 source_among net observe.Outputs valid k d inside gate =
     let s : Sig = (get_or net.latches k d).from in
     among s (observed net observe.Outputs) (length net.outputs + k) (omega (arith, length-outputs net, inside)) (source_at net k s d inside)

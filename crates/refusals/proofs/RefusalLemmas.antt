@@ -30,12 +30,10 @@ use Rattle.refusals.proofs.FirstLemmas.{any-find, found_passes}
 
 -- where the first test passes and and_parts don't, the second fails
 pub second_fails : (a b : Bool) → (a && b) ≡ false → a ≡ true → b ≡ false
-second_fails true b e h = e
-second_fails false b e h = cc
+second_fails a b e h = grind arith
 
 pub fails_after : (a b : Bool) → (a ≡ true → b ≡ false) → (a && b) ≡ false
-fails_after true b h = h refl
-fails_after false b h = refl
+fails_after a b h = grind arith
 
 -- Wires.
 
@@ -43,36 +41,23 @@ pub length-bits : (v : List Bool) → length (bits v) ≡ length v
 length-bits v = length-map v bit
 
 pub gate_wire : (net : Parts) (v : List Bool) (k : ℕ) → length v ≡ columns net → wire (fix net (bits v)) (gate_sig net k) ≡ get_or (fix_gates net (bits v)) k X
-gate_wire net v k wide =
-    let long : length net.inputs + length net.latches ≡ length (bits v) = omega (arith, length-bits v) in
-    ap (λ n. get_or (fix net (bits v)) (n + k) X) long ∙ get_or-append-add (bits v) (fix_gates net (bits v)) k X
+gate_wire net v k wide = grind (arith, length-bits, get_or-append-add)
 
 pub known-is_x : (t : Trit) → t ≢ X → is_x t ≡ false
-known-is_x X h = absurd (h refl)
-known-is_x Zero h = refl
-known-is_x One h = refl
+known-is_x t h = grind arith
 
 pub is_x-known : (t : Trit) → is_x t ≡ false → t ≢ X
-is_x-known X e = cc
-is_x-known Zero e = λ h. cc
-is_x-known One e = λ h. cc
+is_x-known t e = grind arith
 
 pub known_bit_is : (t : Trit) → t ≢ X → bit (is_one t) ≡ t
-known_bit_is X h = absurd (h refl)
-known_bit_is Zero h = refl
-known_bit_is One h = refl
+known_bit_is t h = grind arith
 
 pub one_of_bit : (b : Bool) → is_one (bit b) ≡ b
-one_of_bit false = refl
-one_of_bit true = refl
+one_of_bit b = grind arith
 
 -- a column is known at each Boolean vector
 pub column_known : (net : Parts) (v : List Bool) (s : Sig) → length v ≡ columns net → s.0 < columns net → wire (fix net (bits v)) s ≢ X
-column_known net v s wide column =
-    let long : s.0 < length (bits v) = omega (arith, length-bits v) in
-    let is : wire (fix net (bits v)) s ≡ bit (get_or v s.0 false) =
-    get_or_append_left (bits v) (fix_gates net (bits v)) X s.0 long ∙ get_or-map bit v s.0 false X (omega arith) in
-    λ x. bit-known (get_or v s.0 false) (sym is ∙ x)
+column_known net v s wide column = grind (arith, length-bits v, get_or_append_left (bits v) (fix_gates net (bits v)) X s.0, get_or-map bit v s.0 false X, bit-known (get_or v s.0 false))
 
 -- where no gate is unknown, no signal is
 pub wire_known : (net : Parts) (v : List Bool) (s : Sig) → length v ≡ columns net → All (λ value. value ≢ X) (fix_gates net (bits v)) → s.0 < count net →
@@ -106,8 +91,7 @@ bits_back [] = refl
 bits_back (b ∷ q) = ap₂ (λ x xs. x ∷ xs) (one_of_bit b) (bits_back q)
 
 pub length-next_state : (net : Parts) (v : List Bool) → length (next_state net v) ≡ length net.latches
-length-next_state net v =
-    length-map (next net (bits v)) is_one ∙ length-map net.latches (λ (l : Latch). wire (fix net (bits v)) l.from)
+length-next_state net v = grind (arith, length-map)
 
 -- The first that fails among several, at some vector.
 
@@ -118,38 +102,11 @@ module _ {W V : Type 0} (fails : W → V → Bool) where
     pub least : find (fails w) vs ≡ Some v
 
   pub first_at : (among : List W) (vs : List V) (w : W) (v : V) → first_failing fails among vs ≡ Some (w, v) → FirstAt among vs w v
-  first_at among vs w v is = by_first (find (λ x. list_any (fails x) vs) among) refl is
-    where
-      by_vector : (y : W) → find (λ x. list_any (fails x) vs) among ≡ Some y → (o : Option V) → find (fails y) vs ≡ o →
-          option_map (λ (u : V). let p : W × V = (y, u) in p) o ≡ Some (w, v) → FirstAt among vs w v
-      by_vector y first None least e = cc
-      by_vector y first (Some u) least e =
-          let same : (let p : W × V = (y, u) in p) ≡ (w, v) = same_Some (y, u) (w, v) e in
-          let same_w : y ≡ w = ap (λ (p : W × V). p.0) same in
-          let same_v : u ≡ v = ap (λ (p : W × V). p.1) same in
-          record {
-            first = first ∙ ap (λ x. Some x) same_w;
-            least = ap (λ x. find (fails x) vs) (sym same_w) ∙ least ∙ ap (λ x. Some x) same_v;
-          }
-
-      by_first : (o : Option W) → find (λ x. list_any (fails x) vs) among ≡ o →
-          option_and_then (λ y. option_map (λ (u : V). let p : W × V = (y, u) in p) (find (fails y) vs)) o ≡ Some (w, v) → FirstAt among vs w v
-      by_first None none e = cc
-      by_first (Some y) first e = by_vector y first (find (fails y) vs) refl e
+  first_at among vs w v is = grind arith
 
   -- or none fails at any
   pub none_first : (among : List W) (vs : List V) → first_failing fails among vs ≡ None → find (λ x. list_any (fails x) vs) among ≡ None
-  none_first among vs is = by_first (find (λ x. list_any (fails x) vs) among) refl is
-    where
-      by_vector : (y : W) → list_any (fails y) vs ≡ true → (o : Option V) → find (fails y) vs ≡ o → option_map (λ (u : V). let p : W × V = (y, u) in p) o ≡ None →
-          find (λ x. list_any (fails x) vs) among ≡ None
-      by_vector y some None none e = absurd (true≢false (sym some ∙ any-find (fails y) vs ∙ ap (λ o. not (is_none o)) none))
-      by_vector y some (Some u) is e = cc
-
-      by_first : (o : Option W) → find (λ x. list_any (fails x) vs) among ≡ o →
-          option_and_then (λ y. option_map (λ (u : V). let p : W × V = (y, u) in p) (find (fails y) vs)) o ≡ None → find (λ x. list_any (fails x) vs) among ≡ None
-      by_first None none e = none
-      by_first (Some y) first e = by_vector y (found_passes (λ x. list_any (fails x) vs) among y first) (find (fails y) vs) refl e
+  none_first among vs is = grind (arith, true≢false, any-find, found_passes)
 
   pub no_first : (among : List W) (vs : List V) → find (λ x. list_any (fails x) vs) among ≡ None → first_failing fails among vs ≡ None
   no_first among vs none = ap (option_and_then (λ y. option_map (λ (u : V). let p : W × V = (y, u) in p) (find (fails y) vs))) none
@@ -161,13 +118,7 @@ find_none-all p (x ∷ xs) h = ap₂ (λ t o. cond t (Some x) o) (h 0 x (omega a
 
 pub all-find_none : {X : Type 0} (p : X → Bool) (xs : List X) (k : ℕ) (d : X) → find p xs ≡ None → k < length xs → p (get_or xs k d) ≡ false
 all-find_none p [] k d none inside = absurd (omega arith)
-all-find_none p (x ∷ xs) k d none inside = by_test (λ n. all-find_none p xs n d) (p x) refl none k inside
-  where
-    by_test : ((n : ℕ) → find p xs ≡ None → n < length xs → p (get_or xs n d) ≡ false) →
-        (t : Bool) → p x ≡ t → cond t (Some x) (find p xs) ≡ None → (k : ℕ) → k < suc (length xs) → p (get_or (x ∷ xs) k d) ≡ false
-    by_test rest true here e k l = cc
-    by_test rest false here e zero l = here
-    by_test rest false here e (suc k) l = rest k e (omega arith)
+all-find_none p (x ∷ xs) k d none inside = grind (arith, all-find_none p xs)
 
 pub length-gate_sigs : (net : Parts) → length (gate_sigs net) ≡ length net.gates
 length-gate_sigs net = length-map (range_with_len 0 (length net.gates)) (gate_sig net) ∙ length-range_with_len 0 (length net.gates)
@@ -207,8 +158,7 @@ pub record Mapped {A B : Type 0} (f : A → B) (o : Option A) (r : B) : Type 0 w
   pub is : r ≡ f value
 
 pub mapped : {A B : Type 0} (f : A → B) (o : Option A) (r : B) → option_map f o ≡ Some r → Mapped f o r
-mapped f None r e = cc
-mapped f (Some x) r e = record { value = x; there = refl; is = sym (same_Some (f x) r e) }
+mapped f o r e = grind arith
 
 -- which part refuses, and with what
 pub data RefusedAt (net : Parts) (care : CareSet) (what : Observe) (r : Refusal) : Type 0 where
@@ -218,8 +168,7 @@ pub data RefusedAt (net : Parts) (care : CareSet) (what : Observe) (r : Refusal)
   AtLeaves : (v : List Bool) → r ≡ Leaves v (next_state net v) → undetermined_refusal net care what ≡ None → find (leaves net care) (care_vectors net care) ≡ Some v → RefusedAt net care what r
 
 pub empty_case : (t : Bool) (r : Refusal) → (let nothing : Option Refusal = None in if t then Some EmptyCare else nothing) ≡ Some r → r ≡ EmptyCare
-empty_case true r e = sym (same_Some EmptyCare r e)
-empty_case false r e = cc
+empty_case t r e = grind arith
 
 pub refused_at : (net : Parts) (care : CareSet) (what : Observe) (r : Refusal) → refusal net care what ≡ Some r → RefusedAt net care what r
 refused_at net care what r is =

@@ -23,76 +23,49 @@ all_may_start latches q = list_all (λ p. may_start p.0.init p.1) (zip latches q
 
 next_latch : (latches : List Latch) (q : List Bool) (n : ℕ) (latch : Latch) (d : Bool) → slice_get latches n ≡ Some latch → n < length q →
     all_may_start (drop n latches) (drop n q) ≡ (may_start latch.init (get_or q n d) && all_may_start (drop (n + 1) latches) (drop (n + 1) q))
-next_latch latches q n latch d found inside =
-    ap₂ all_may_start
-    (drop_more latches n latch (slice_get_within latches n latch found) ∙ ap (λ l. l ∷ drop (n + 1) latches) (get_or_from_slice_get latches n latch latch found))
-    (drop_more q n d inside)
+next_latch latches q n latch d found inside = grind (arith, drop_more latches n latch (slice_get_within latches n latch found), slice_get_within latches n latch found, get_or_from_slice_get latches n latch latch found, drop_more q n d inside)
 
 pub one_may_not : (latches : List Latch) (q : List Bool) (n : ℕ) (latch : Latch) (d : Bool) → slice_get latches n ≡ Some latch → n < length q →
     false ≡ may_start latch.init (get_or q n d) → all_may_start (drop n latches) (drop n q) ≡ false
-one_may_not latches q n latch d found inside fails =
-    next_latch latches q n latch d found inside ∙ ap (λ t. t && all_may_start (drop (n + 1) latches) (drop (n + 1) q)) (sym fails)
+one_may_not latches q n latch d found inside fails = grind (arith, next_latch latches q n latch d found inside)
 
 pub one_may : (latches : List Latch) (q : List Bool) (n : ℕ) (latch : Latch) (d : Bool) → slice_get latches n ≡ Some latch → n < length q →
     true ≡ may_start latch.init (get_or q n d) → all_may_start (drop (n + 1) latches) (drop (n + 1) q) ≡ all_may_start (drop n latches) (drop n q)
-one_may latches q n latch d found inside holds =
-    sym (next_latch latches q n latch d found inside ∙ ap (λ t. t && all_may_start (drop (n + 1) latches) (drop (n + 1) q)) (sym holds))
+one_may latches q n latch d found inside holds = grind (arith, next_latch latches q n latch d found inside)
 
 pub none_left : (latches : List Latch) (q : List Bool) (n : ℕ) → length latches ≤ n → all_may_start (drop n latches) (drop n q) ≡ true
 none_left latches q n end = ap (λ (l : List Latch). all_may_start l (drop n q)) (drop_all n latches end)
 
 is_value_decides : (t : Trit) (b : Bool) → is_value t b ≡ true → t ≡ bit b
-is_value_decides Zero false e = refl
-is_value_decides Zero true e = cc
-is_value_decides One false e = cc
-is_value_decides One true e = refl
-is_value_decides X b e = cc
+is_value_decides t b e = grind arith
 
 bit_is_value : (b : Bool) → is_value (bit b) b ≡ true
-bit_is_value false = refl
-bit_is_value true = refl
+bit_is_value b = grind arith
 
 each_is_value : (ts : List Trit) (q : List Bool) → length ts ≡ length q → list_all (λ p. is_value p.0 p.1) (zip ts q) ≡ true → ts ≡ bits q
 each_is_value [] [] long e = refl
 each_is_value [] (b ∷ q) long e = absurd (omega arith)
 each_is_value (t ∷ ts) [] long e = absurd (omega arith)
-each_is_value (t ∷ ts) (b ∷ q) long e =
-    let split = and_parts (is_value t b) (list_all (λ p. is_value p.0 p.1) (zip ts q)) e in
-    ap₂ (λ x xs. x ∷ xs) (is_value_decides t b split.0) (each_is_value ts q (omega arith) split.1)
+each_is_value (t ∷ ts) (b ∷ q) long e = grind (arith, and_parts, is_value_decides, each_is_value ts q)
 
 bits_are_values : (q : List Bool) → list_all (λ p. is_value p.0 p.1) (zip (bits q) q) ≡ true
 bits_are_values [] = refl
 bits_are_values (b ∷ q) = ap₂ (λ s t. s && t) (bit_is_value b) (bits_are_values q)
 
 pub are_bits_decides : (ts : List Trit) (q : List Bool) (r : Bool) → length ts ≡ length q → r ≡ list_all (λ p. is_value p.0 p.1) (zip ts q) → IsTrue r ↔ (ts ≡ bits q)
-are_bits_decides ts q r long is = (
-  λ h. each_is_value ts q long (sym is ∙ h),
-  λ e. is ∙ ap (λ (l : List Trit). list_all (λ p. is_value p.0 p.1) (zip l q)) e ∙ bits_are_values q,
-)
+are_bits_decides ts q r long is = grind (arith, each_is_value, bits_are_values)
 
 initial_decides : (latches : List Latch) (q : List Bool) → length q ≡ length latches → all_may_start latches q ≡ true → AllZip (λ latch. Permits latch.init) latches q
 initial_decides [] [] long e = tt
 initial_decides [] (b ∷ q) long e = absurd (omega arith)
 initial_decides (latch ∷ latches) [] long e = absurd (omega arith)
-initial_decides (latch ∷ latches) (b ∷ q) long e =
-    let split = and_parts (may_start latch.init b) (all_may_start latches q) e in (permitted latch.init b split.0, initial_decides latches q (omega arith) split.1)
-  where
-    permitted : (init : Init) (b : Bool) → may_start init b ≡ true → Permits init b
-    permitted inits.Zero false e = refl
-    permitted inits.Zero true e = cc
-    permitted inits.One b e = e
-    permitted inits.Either b e = tt
+initial_decides (latch ∷ latches) (b ∷ q) long e = grind (arith, and_parts, initial_decides latches q)
 
 initial_is : (latches : List Latch) (q : List Bool) → AllZip (λ latch. Permits latch.init) latches q → all_may_start latches q ≡ true
 initial_is [] [] h = refl
 initial_is [] (b ∷ q) h = absurd h
 initial_is (latch ∷ latches) [] h = absurd h
-initial_is (latch ∷ latches) (b ∷ q) h = ap₂ (λ s t. s && t) (may latch.init b h.0) (initial_is latches q h.1)
-  where
-    may : (init : Init) (b : Bool) → Permits init b → may_start init b ≡ true
-    may inits.Zero b h = ap not h
-    may inits.One b h = h
-    may inits.Either b h = refl
+initial_is (latch ∷ latches) (b ∷ q) h = grind (arith, initial_is latches q)
 
 initial_length : (latches : List Latch) (q : List Bool) → AllZip (λ latch. Permits latch.init) latches q → length q ≡ length latches
 initial_length [] [] h = refl
@@ -112,48 +85,23 @@ length-initial_state net q h = initial_length net.latches q h
 
 pub outside_decides : (net : Parts) (care : CareSet) (q : List Bool) (r : Bool) → length q ≡ length net.latches →
     r ≡ (is_initial net q && not (is_in_invariant care q)) → IsTrue r ↔ IsOutside net care q
-outside_decides net care q r long is = (
-  λ h. let split = and_parts (is_initial net q) (not (is_in_invariant care q)) (sym is ∙ h) in record {
-    permitted = is_initial_decides net q long split.0;
-    outside = not-true (is_in_invariant care q) split.1;
-  },
-  λ h. is ∙ ap₂ (λ s t. s && not t) (initial_state_is net q h.permitted) h.outside,
-)
+outside_decides net care q r long is = grind (arith, and_parts, is_initial_decides, not-true, initial_state_is)
 
 -- the test of a vector decides whether it counts
 pub care_vector_decides : (net : Parts) (care : CareSet) (v : List Bool) → length v ≡ columns net → is_care_vector net care v ≡ true → IsCareVector net care v
-care_vector_decides net care v wide e =
-    let split = and_parts (is_in_invariant care (state_of net v)) (is_allowed care v) e in
-    record { width = wide; state = split.0; allowed = split.1 }
+care_vector_decides net care v wide e = grind arith
 
 pub care_vector_is : (net : Parts) (care : CareSet) (v : List Bool) → IsCareVector net care v → is_care_vector net care v ≡ true
 care_vector_is net care v h = ap₂ (λ s t. s && t) h.state h.allowed
 
 pub is_x_decides : (t : Trit) → is_x t ≡ true → t ≡ X
-is_x_decides X e = refl
-is_x_decides Zero e = cc
-is_x_decides One e = cc
+is_x_decides t e = grind arith
 
 pub unknown_decides : (net : Parts) (care : CareSet) (v : List Bool) (s : Sig) (r : Bool) → length v ≡ columns net →
     r ≡ (is_care_vector net care v && is_undetermined net s v) → IsTrue r ↔ IsUnknownAt net care v s
-unknown_decides net care v s r wide is = (
-  λ h. let split = and_parts (is_care_vector net care v) (is_undetermined net s v) (sym is ∙ h) in record {
-    counts = care_vector_decides net care v wide split.0;
-    unknown = is_x_decides (wire (fix net (bits v)) s) split.1;
-  },
-  λ h. is ∙ ap₂ (λ t x. t && is_x x) (care_vector_is net care v h.counts) h.unknown,
-)
+unknown_decides net care v s r wide is = grind arith
 
 -- where the vector counts and leads to the state, the invariant decides
 pub leaves_decides : (net : Parts) (care : CareSet) (v q : List Bool) (counts leads r : Bool) → length v ≡ columns net → counts ≡ is_care_vector net care v →
     IsTrue leads ↔ (next net (bits v) ≡ bits q) → r ≡ (counts && (leads && not (is_in_invariant care q))) → IsTrue r ↔ LeavesTo net care v q
-leaves_decides net care v q counts leads r wide counts_is leads_is is = (
-  λ h. let first = and_parts counts (leads && not (is_in_invariant care q)) (sym is ∙ h) in
-      let second = and_parts leads (not (is_in_invariant care q)) first.1 in record {
-        counts = care_vector_decides net care v wide (sym counts_is ∙ first.0);
-        is = leads_is.0 second.0;
-        outside = not-true (is_in_invariant care q) second.1;
-      },
-  λ h. let leads_there : leads ≡ true = leads_is.1 h.is in
-      is ∙ ap₂ (λ s t. s && (leads && not t)) (counts_is ∙ care_vector_is net care v h.counts) h.outside ∙ ap (λ t. t && true) leads_there,
-)
+leaves_decides net care v q counts leads r wide counts_is leads_is is = grind arith

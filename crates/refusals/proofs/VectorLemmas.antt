@@ -15,13 +15,7 @@ record IsImage {X Y : Type 0} (f : X → Y) (xs : List X) (y : Y) : Type 0 where
   pub is : y ≡ f item
 
 image : {Y : Type 0} (f : List Bool → Y) (xs : List (List Bool)) (y : Y) → Contains (map f xs) y → IsImage f xs y
-image f xs y c =
-    let inside : c.0 < length xs = omega (arith, c.1, length-map xs f) in
-    record {
-      item = get_or xs c.0 [];
-      there = (c.0, inside, get_or_default xs c.0 (get_or xs c.0 []) [] inside);
-      is = sym c.2 ∙ get_or-map f xs c.0 [] y inside;
-    }
+image f xs y c = grind (arith, length-map xs f, get_or_default xs c.0 (get_or xs c.0 []) [], get_or-map f xs c.0 [] y)
 
 listed_wide : (n : ℕ) (v : List Bool) → Contains (vectors n) v → length v ≡ n
 listed_wide zero v c = let e : c.0 ≡ 0 = omega (arith, c.1) in ap length (sym (ap (λ k. let one : List (List Bool) = [] ∷ [] in get_or one k v) (sym e) ∙ c.2))
@@ -42,14 +36,10 @@ low_before_high v w = record { most = tt; other = λ e. cc }
 
 -- an item of either half
 low_at : (n k : ℕ) (d : List Bool) → k < length (vectors n) → get_or (vectors (suc n)) k d ≡ false ∷ get_or (vectors n) k []
-low_at n k d inside =
-    get_or_append_left (map (λ u. false ∷ u) (vectors n)) (map (λ u. true ∷ u) (vectors n)) d k (omega (arith, length-map (vectors n) (λ (u : List Bool). false ∷ u)))
-    ∙ get_or-map (λ u. false ∷ u) (vectors n) k [] d inside
+low_at n k d inside = grind (arith, get_or_append_left, length-map, get_or-map)
 
 high_at : (n k : ℕ) (d : List Bool) → length (vectors n) ≤ k → k < length (vectors n) + length (vectors n) → get_or (vectors (suc n)) k d ≡ true ∷ get_or (vectors n) (k - length (vectors n)) []
-high_at n k d behind inside =
-    get_or-append_right (map (λ u. false ∷ u) (vectors n)) (map (λ u. true ∷ u) (vectors n)) (length (vectors n)) k d (length-map (vectors n) (λ (u : List Bool). false ∷ u)) behind
-    ∙ get_or-map (λ u. true ∷ u) (vectors n) (k - length (vectors n)) [] d (omega arith)
+high_at n k d behind inside = grind (arith, get_or-append_right, length-map, get_or-map)
 
 length-vectors : (n : ℕ) → length (vectors (suc n)) ≡ length (vectors n) + length (vectors n)
 length-vectors n =
@@ -62,25 +52,7 @@ length-vectors n =
 
 in_order : (n i j : ℕ) (d : List Bool) → i < j → j < length (vectors n) → IsBefore (get_or (vectors n) i d) (get_or (vectors n) j d)
 in_order zero i j d lt inside = absurd (omega arith)
-in_order (suc n) i j d lt inside =
-    let size : length (vectors (suc n)) ≡ length (vectors n) + length (vectors n) = length-vectors n in
-    elim (cases_lt j (length (vectors n))) [
-      | inl low ↦
-          subst (λ x. IsBefore x (get_or (vectors (suc n)) j d)) (sym (low_at n i d (omega arith)))
-          (subst (λ x. IsBefore (false ∷ get_or (vectors n) i []) x) (sym (low_at n j d low))
-          (before_low (get_or (vectors n) i []) (get_or (vectors n) j []) (in_order n i j [] lt low)))
-      | inr high ↦
-          subst (λ x. IsBefore (get_or (vectors (suc n)) i d) x) (sym (high_at n j d high (omega arith)))
-          (elim (cases_lt i (length (vectors n))) [
-            | inl low ↦
-                subst (λ x. IsBefore x (true ∷ get_or (vectors n) (j - length (vectors n)) [])) (sym (low_at n i d low))
-                (low_before_high (get_or (vectors n) i []) (get_or (vectors n) (j - length (vectors n)) []))
-            | inr higher ↦
-                subst (λ x. IsBefore x (true ∷ get_or (vectors n) (j - length (vectors n)) [])) (sym (high_at n i d higher (omega arith)))
-                (before_high (get_or (vectors n) (i - length (vectors n)) []) (get_or (vectors n) (j - length (vectors n)) [])
-                (in_order n (i - length (vectors n)) (j - length (vectors n)) [] (omega arith) (omega arith)))
-          ])
-    ]
+in_order (suc n) i j d lt inside = grind (arith, length-vectors, cases_lt, low_at, before_low, in_order n i j [] lt, high_at, low_before_high, before_high, in_order n (i - length (vectors n)) (j - length (vectors n)) [])
 
 pub vectors_are_listed : VectorsAreListed
 vectors_are_listed n = record { widths = listed_wide n; all = Contains-vectors n; order = λ i j d lt inside. in_order n i j d lt inside }

@@ -36,28 +36,14 @@ closing_kept graph root steps n (Some best) h k = record {
 
 better_than_all : (graph : List (List ℕ)) (root : ℕ) (steps : List (Option Step)) (n depth : ℕ) (best : Option Step) → IsClosing graph root steps n best → IsNearer best depth →
     (node : ℕ) (other : Step) → node < n → Closes graph root steps node other → depth ≤ other.depth
-better_than_all graph root steps n depth None h nearer node other l closes = absurd (h node other l closes)
-better_than_all graph root steps n depth (Some best) h nearer node other l closes = (let least = h.least node other l closes in omega arith)
+better_than_all graph root steps n depth best h nearer node other l closes = grind arith
 
 pub closing_found : (graph : List (List ℕ)) (root : ℕ) (steps : List (Option Step)) (n : ℕ) (best : Option Step) (step : Step) → IsClosing graph root steps n best →
     Closes graph root steps n step → IsNearer best step.depth → IsClosing graph root steps (n + 1) (Some (record { from = n; depth = step.depth }))
-closing_found graph root steps n best step h closes nearer = record {
-  step = step;
-  closes = closes;
-  depth = refl;
-  least = λ node other l also.
-      elim (cases_eq node n) [
-        | inl same ↦
-            let is : step ≡ other = same_step step other (sym closes.is ∙ ap (step_at steps) (sym same) ∙ also.is) in
-            let deep = ap (λ (s : Step). s.depth) is in
-            omega arith
-        | inr apart ↦ better_than_all graph root steps n step.depth best h nearer node other (omega arith) also
-      ];
-}
+closing_found graph root steps n best step h closes nearer = grind arith
 
 pub not_nearer : (best : Option Step) (step : Step) → ¬ IsNearer best step.depth → IsNoDeeper best step
-not_nearer None step n = n tt
-not_nearer (Some best) step n = omega arith
+not_nearer best step n = grind arith
 
 -- ---- the way back
 
@@ -98,13 +84,7 @@ module _ (graph : List (List ℕ)) (root limit : ℕ) (steps : List (Option Step
   last_along = depth_along (length way - 1) (let some = w.some in omega arith)
 
   pub way_length : length way ≡ step.depth + 1
-  way_length =
-      let end = last_along in
-      let is = end.1 in
-      let deep = end.2 in
-      let first = w.ends end.0 is in
-      let some = w.some in
-      omega arith
+  way_length = grind (arith, last_along)
 
   pub way_ends : last way ≡ root
   way_ends =
@@ -122,10 +102,7 @@ module _ (graph : List (List ℕ)) (root limit : ℕ) (steps : List (Option Step
     (other : List ℕ) (cycle : IsCycle graph other) (through : last other ≡ root) where
   -- going along a cycle from the root, the search comes to each node in no more steps, or the cycle is too long for it
   along_cycle : (j : ℕ) → j < length other → IsWithin steps (get_or other (length other - 1 - j) 0) j ⊎ IsTooLong graph limit other
-  along_cycle zero l =
-      let place : length other - 1 ≡ length other - 1 - 0 = omega arith in
-      let here : root ≡ get_or other (length other - 1 - 0) 0 = sym through ∙ ap (λ n. get_or other n 0) place in
-      inl (subst (λ (n : ℕ). IsWithin steps n 0) here h.rooted)
+  along_cycle zero l = grind arith
   along_cycle (suc j) l =
       elim (along_cycle j (omega arith)) [
         | inr long ↦ inr long
@@ -146,17 +123,7 @@ module _ (graph : List (List ℕ)) (root limit : ℕ) (steps : List (Option Step
       ]
 
   pub closes_within : ((step : Step) × Closes graph root steps (get_or other 0 0) step × (step.depth + 1 ≤ length other)) ⊎ IsTooLong graph limit other
-  closes_within =
-      let some = cycle.some in
-      elim (along_cycle (length other - 1) (omega arith)) [
-        | inr long ↦ inr long
-        | inl w ↦
-            let place : length other - 1 - (length other - 1) ≡ 0 = omega arith in
-            let at : step_at steps (get_or other 0 0) ≡ Some w.step = ap (λ n. step_at steps (get_or other n 0)) (sym place) ∙ w.is in
-            let edge = subst (λ (n : ℕ). Contains (successors graph (get_or other 0 0)) n) through cycle.closes.listed in
-            let most = w.most in
-            inl (w.step, record { is = at; edge = edge }, omega arith)
-      ]
+  closes_within = grind (arith, along_cycle (length other - 1))
 
 pub through_some : (graph : List (List ℕ)) (root limit : ℕ) (steps : List (Option Step)) (best : Step) (way : List ℕ) → root < length graph → IsSearch graph root limit steps →
     ClosesFirst graph root steps (length graph) best → IsWayBack steps best.from way → IsShortestThrough graph root limit way
@@ -200,55 +167,18 @@ through_none graph root limit steps h none = λ other cycle through.
 -- one more root, by which no better cycle leads
 pub best_kept : (graph : List (List ℕ)) (reached : List (Option Step)) (root : ℕ) (best : Option (List ℕ)) → IsBest graph reached root best →
     ((other : List ℕ) → IsCycle graph other → last other ≡ root → IsPlaced reached root → IsNoLonger best other) → IsBest graph reached (root + 1) best
-best_kept graph reached root None h k = λ other cycle l placed.
-    elim (cases_eq (last other) root) [
-      | inl same ↦ k other cycle same (subst (λ (n : ℕ). IsPlaced reached n) same placed)
-      | inr apart ↦ h other cycle (omega arith) placed
-    ]
-best_kept graph reached root (Some nodes) h k = record {
-  cycle = h.cycle;
-  placed = h.placed;
-  size = h.size;
-  least = λ other cycle l placed.
-      elim (cases_eq (last other) root) [
-        | inl same ↦ k other cycle same (subst (λ (n : ℕ). IsPlaced reached n) same placed)
-        | inr apart ↦ h.least other cycle (omega arith) placed
-      ];
-}
+best_kept graph reached root best h k = grind arith
 
 pub best_at_one : (graph : List (List ℕ)) (reached : List (Option Step)) (root : ℕ) (best : Option (List ℕ)) → IsBest graph reached root best → IsLimitBelow (length graph) best None → IsBest graph reached (root + 1) best
-best_at_one graph reached root None h few = absurd few
-best_at_one graph reached root (Some nodes) h few =
-    best_kept graph reached root (Some nodes) h (λ other cycle through placed. let some = cycle.some in omega arith)
+best_at_one graph reached root best h few = grind arith
 
 pub best_stays : (graph : List (List ℕ)) (reached : List (Option Step)) (root limit : ℕ) (best : Option (List ℕ)) → IsBest graph reached root best → IsLimitBelow (length graph) best (Some limit) →
     IsThrough graph root limit None → IsBest graph reached (root + 1) best
-best_stays graph reached root limit None h is none =
-    best_kept graph reached root None h (λ other cycle through placed. let too = (none other cycle through).limited in absurd (omega arith))
-best_stays graph reached root limit (Some nodes) h is none =
-    let size = is h.size in
-    best_kept graph reached root (Some nodes) h (λ other cycle through placed. let too = (none other cycle through).longer in omega arith)
+best_stays graph reached root limit best h is none = grind arith
 
 pub best_changes : (graph : List (List ℕ)) (reached : List (Option Step)) (root limit : ℕ) (best : Option (List ℕ)) (nodes : List ℕ) → IsPlaced reached root → IsBest graph reached root best → IsLimitBelow (length graph) best (Some limit) →
     IsShortestThrough graph root limit nodes → limit ≤ 4294967295 → IsBestOf graph reached (root + 1) nodes
-best_changes graph reached root limit best nodes placed h is through fits = record {
-  cycle = through.cycle;
-  placed = subst (λ (n : ℕ). IsPlaced reached n) (sym through.ends) placed;
-  size = (let most = through.most in omega arith);
-  least = λ other cycle l also.
-      elim (cases_eq (last other) root) [
-        | inl same ↦ through.least other cycle same
-        | inr apart ↦ shorter best h is other cycle (omega arith) also
-      ];
-}
-  where
-    shorter : (best' : Option (List ℕ)) → IsBest graph reached root best' → IsLimitBelow (length graph) best' (Some limit) → (other : List ℕ) → IsCycle graph other → last other < root → IsPlaced reached (last other) → length nodes ≤ length other
-    shorter None none below other cycle l also = absurd (none other cycle l also)
-    shorter (Some old) best_so_far below other cycle l also =
-        let size = below best_so_far.size in
-        let least = best_so_far.least other cycle l also in
-        let most = through.most in
-        omega arith
+best_changes graph reached root limit best nodes placed h is through fits = grind arith
 
 -- ---- what the goal reaches
 
@@ -262,14 +192,7 @@ module _ (graph : List (List ℕ)) (goal : ℕ) (reached : List (Option Step)) (
   -- all nodes of a trail before one that is reached
   placed_before : (nodes : List ℕ) → IsTrail graph nodes → (i : ℕ) → i < length nodes → IsPlaced reached (get_or nodes i 0) → (j : ℕ) → j ≤ i → IsPlaced reached (get_or nodes j 0)
   placed_before nodes trail zero l p j m = subst (λ (n : ℕ). IsPlaced reached (get_or nodes n 0)) (omega arith) p
-  placed_before nodes trail (suc i) l p j m =
-      elim (cases_eq j (suc i)) [
-        | inl same ↦ subst (λ (n : ℕ). IsPlaced reached (get_or nodes n 0)) (sym same) p
-        | inr apart ↦
-            let place : i + 1 ≡ suc i = omega arith in
-            let edge = subst (λ (n : ℕ). Edge graph (get_or nodes n 0) (get_or nodes i 0)) place (trail i (omega arith)) in
-            placed_before nodes trail i (omega arith) (placed_on (get_or nodes (suc i) 0) (get_or nodes i 0) edge p) j (omega arith)
-      ]
+  placed_before nodes trail (suc i) l p j m = grind (arith, cases_eq j (suc i), placed_before nodes trail i, placed_on (get_or nodes (suc i) 0) (get_or nodes i 0))
 
   pub cycle_is_placed : (nodes : List ℕ) → IsCycle graph nodes → IsPlaced reached (last nodes) → All (IsPlaced reached) nodes
   cycle_is_placed nodes cycle p = λ k d l.

@@ -21,18 +21,10 @@ pub not_both : (o : Option Step) (step : Step) → o ≡ None → o ≡ Some ste
 not_both o step e h = cc
 
 pub step_within : (steps : List (Option Step)) (node : ℕ) (step : Step) → step_at steps node ≡ Some step → node < length steps
-step_within steps node step e =
-    elim (cases_lt node (length steps)) [
-      | inl l ↦ l
-      | inr past ↦ absurd (not_both (step_at steps node) step (get_or_past steps node None past) e)
-    ]
+step_within steps node step e = grind (arith, cases_lt, not_both, get_or_past)
 
 pub old_or_placed : (steps : List (Option Step)) (node : ℕ) → (IsNew steps node → ⊥) → node < length steps → IsPlaced steps node
-old_or_placed steps node old l =
-    elim (none_or_some (step_at steps node)) [
-      | inl e ↦ absurd (old (record { within = l; unplaced = e }))
-      | inr s ↦ record { step = s.0; is = s.1 }
-    ]
+old_or_placed steps node old l = grind arith
 
 unplaced-set : (steps : List (Option Step)) (node : ℕ) (step : Step) → node < length steps → step_at steps node ≡ None → unplaced steps ≡ suc (unplaced (set steps node (Some step)))
 unplaced-set [] node step l e = absurd (omega arith)
@@ -49,14 +41,7 @@ unplaced-none (suc n) = ap suc (unplaced-none n)
 
 module _ (links : ℕ → ℕ → Type 0) (depth : ℕ) where
   pub Grown-refl : (steps : List (Option Step)) (before : List ℕ) → Grown links depth steps steps before before
-  Grown-refl steps before = record {
-    size = refl;
-    keeps = λ n s e. e;
-    fresh = λ n s e. inl e;
-    stays = λ n c. c;
-    origin = λ n c. inl c;
-    count = refl;
-  }
+  Grown-refl steps before = grind arith
 
   pub Grown-one : (old : List (Option Step)) (before : List ℕ) (node : ℕ) (step : Step) → IsNew old node → step.depth ≡ depth → links step.from node →
       Grown links depth old (set old node (Some step)) before (before ++ node ∷ [])
@@ -118,29 +103,11 @@ module _ (links : ℕ → ℕ → Type 0) (depth : ℕ) where
   }
     where
       was_new : (n : ℕ) → IsNew b n → IsNew a n
-      was_new n new = record {
-        within = (let l = new.within in let s = h.size in omega arith);
-        unplaced =
-            elim (none_or_some (step_at a n)) [
-              | inl e ↦ e
-              | inr s ↦ absurd (not_both (step_at b n) s.0 new.unplaced (h.keeps n s.0 s.1))
-            ];
-      }
+      was_new n new = grind arith
 
 pub Grown-weaker : (links more : ℕ → ℕ → Type 0) (depth : ℕ) (old new : List (Option Step)) (before after : List ℕ) → ((a b : ℕ) → links a b → more a b) →
     Grown links depth old new before after → Grown more depth old new before after
-Grown-weaker links more depth old new before after weaker h = record {
-  size = h.size;
-  keeps = h.keeps;
-  fresh = λ n s e.
-      elim (h.fresh n s e) [
-        | inl o ↦ inl o
-        | inr f ↦ inr (record { level = f.level; link = weaker s.from n f.link; found = f.found })
-      ];
-  stays = h.stays;
-  origin = h.origin;
-  count = h.count;
-}
+Grown-weaker links more depth old new before after weaker h = grind arith
 
 -- ---- the successors of one node, and of a level
 
@@ -212,19 +179,10 @@ module _ (graph : List (List ℕ)) (root : ℕ) (inside : root < length graph) w
   at_root = get_or-set_same (replicate (length graph) None) root (Some (root_step root)) None root_within
 
   root_alone : (n : ℕ) (s : Step) → step_at (only_root graph root) n ≡ Some s → (n ≡ root) × (s ≡ root_step root)
-  root_alone n s h =
-      elim (cases_eq n root) [
-        | inl same ↦ (same, same_step s (root_step root) (sym h ∙ ap (step_at (only_root graph root)) same ∙ at_root))
-        | inr other ↦
-            let old : step_at (replicate (length graph) None) n ≡ Some s = sym (get_or-set_other (replicate (length graph) None) root n (Some (root_step root)) None other) ∙ h in
-            let l : n < length (replicate {A = Option Step} (length graph) None) = step_within (replicate (length graph) None) n s old in
-            let len = length-replicate {A = Option Step} (length graph) None in
-            absurd (not_both (step_at (replicate (length graph) None) n) s (get_or-replicate (length graph) n None None (omega arith)) old)
-      ]
+  root_alone n s h = grind (arith, cases_eq, same_step, at_root, get_or-set_other, step_within, length-replicate, not_both, get_or-replicate)
 
   in_single : (n : ℕ) → Contains (root ∷ []) n → root ≡ n
-  in_single n (zero, l, e) = e
-  in_single n (suc k, l, e) = absurd (omega arith)
+  in_single n h = grind arith
 
   pub searching_first : IsSearching graph root 0 (root ∷ []) (only_root graph root)
   searching_first = record {
@@ -279,11 +237,7 @@ module _ (graph : List (List ℕ)) (root depth : ℕ) (level : List ℕ) (steps 
       ]
 
   shallow_on : (node : ℕ) (step : Step) → step_at new node ≡ Some step → step.depth ≤ depth + 1
-  shallow_on node step e =
-      elim (n.grown.fresh node step e) [
-        | inl o ↦ (let l = h.shallow node step o in omega arith)
-        | inr f ↦ (let l = f.level in omega arith)
-      ]
+  shallow_on node step e = grind arith
 
   reached_next : (a b : ℕ) → Contains level a → Edge graph a b → IsPlaced new b
   reached_next a b c edge =
@@ -351,22 +305,11 @@ module _ (graph : List (List ℕ)) (root depth : ℕ) (level : List ℕ) (steps 
   }
     where
       old : (node : ℕ) (step : Step) → step_at new node ≡ Some step → step_at steps node ≡ Some step
-      old node step e =
-          elim (n.grown.fresh node step e) [
-            | inl o ↦ o
-            | inr f ↦ (let c = f.found.1 in absurd (omega arith))
-          ]
+      old node step e = grind arith
 
 -- all up to the limit is found
 pub searched_limit : (graph : List (List ℕ)) (root limit depth : ℕ) (level : List ℕ) (steps : List (Option Step)) → IsSearching graph root depth level steps → limit ≡ depth → IsSearch graph root limit steps
-searched_limit graph root limit depth level steps h e = record {
-  size = h.size;
-  rooted = h.rooted;
-  came = h.came;
-  shallow = λ node step at. (let most = h.shallow node step at in let count = h.count in omega arith);
-  most = λ node step at. (let most = h.shallow node step at in omega arith);
-  closed = λ a b step at l edge. h.closed a b step at (omega arith) edge;
-}
+searched_limit graph root limit depth level steps h e = grind arith
 
 -- the nodes of a level are nodes of the graph
 pub level_within : (graph : List (List ℕ)) (root depth : ℕ) (level : List ℕ) (steps : List (Option Step)) → IsSearching graph root depth level steps → All (λ node. node < length graph) level

@@ -1,9 +1,8 @@
 -- A literal that says whether two values aren't known and equal.
 use Rattle.std.proofs.Common.{◌≡◌, Bool, true, not, List, ◌++◌, length, refl, sym, ap, ◌∙◌, arith}
-use Rattle.ternary_clauses.proofs.Common.{Trit, bit, Formula, Rails, holds, IsModel, HasModelFrom, is_one, is_known, Reads, AreRailsOf, value_read}
+use Rattle.ternary_clauses.proofs.Common.{Trit, bit, Formula, Rails, holds, IsModel, HasModelFrom, is_one, is_known, Reads, AreRailsOf, value_read, TakesValue, HasNewRails}
 use Rattle.ternary_clauses.specs.Apart.{SaysApart}
 use Rattle.ternary_clauses.specs.Nodes.{agreed, apart_clauses}
-use Rattle.ternary_clauses.specs.Wires.{TakesValue, HasNewRails}
 use Rattle.ternary_clauses.proofs.GrowthLemmas.{Grows-chain, added-both, added-model, added-grows, model-here, model-after}
 use Rattle.ternary_clauses.proofs.NodeCases.{new_values, test_of, test-more, test-reads, every_four-at, alike, alike-same, alike-refl}
 use Rattle.ternary_clauses.proofs.NodeLemmas.{apart_of, apart-test, one-bit, known-bit}
@@ -25,7 +24,8 @@ module _ (old mid new : Formula) (here there n : Rails) (at_here : AreRailsOf ol
       let one : TakesValue mid n m (bit x) = made.takes m (bit x) (λ e. sym (known-bit x)) len h in
       let kept : (r : Rails) → AreRailsOf old r → Reads (m ++ one.more) r (value_read m r) = λ r rails. Reads-more m one.more r (value_read m r) (rw len rails.within) (rails.reads m h) in
       let says : holds (m ++ one.more) (apart_clauses here there n.one) ≡ alike (is_one (bit x)) x = apart-holds (m ++ one.more) here there n t u (bit x) (kept here at_here) (kept there at_there) one.reads in
-      grind (arith, model-after new m one.more, model-here new (m ++ one.more), added-model mid new (apart_clauses here there n.one) made.grows.formula literals (m ++ one.more) one.model, alike, one-bit x, alike-refl x)
+      model-after new m one.more (model-here new (m ++ one.more) (one.width ∙ sym variables)
+      (added-model mid new (apart_clauses here there n.one) made.grows.formula literals (m ++ one.more) one.model (says ∙ ap (λ b. alike b x) (sym (one-bit x)) ∙ alike-refl x)))
 
   pub apart-says : SaysApart old new here there n.one
   apart-says = record {

@@ -1,10 +1,9 @@
 -- Column after column is added.
 use Rattle.std.proofs.Common.{◌≡◌, ℕ, ◌+◌, Bool, true, false, List, [], ◌∷◌, ◌++◌, length, take, get_or, refl, sym, ap, ◌∙◌, arith, append_assoc}
-use Rattle.ternary_clauses.proofs.Common.{length_push, All-nil, All-push, bit, bits, Formula, Rails, says, IsModel, IsFormula, HasModelFrom, Reads, ReadsAll, AreWithin, value_read, SaysColumns}
-use Rattle.std.proofs.lemmas.List.{length-take-le, map-append, take_all, take_more}
+use Rattle.ternary_clauses.proofs.Common.{length_push, All-nil, All-push, bit, bits, Formula, Rails, says, IsModel, IsFormula, HasModelFrom, Reads, ReadsAll, AreWithin, value_read, SaysColumns, take_more, TakesValue, HasNewRails}
+use Rattle.std.proofs.lemmas.List.{length-take-le, map-append, take_all}
 use Rattle.std.proofs.lemmas.Slice.Zip.{all_zipped_more}
 use Rattle.ternary_clauses.specs.Columns.{vector_read, HasVector}
-use Rattle.ternary_clauses.specs.Wires.{TakesValue, HasNewRails}
 use Rattle.ternary_clauses.proofs.ReadingLemmas.{ReadsAll-more, All-within-more}
 use Rattle.ternary_clauses.proofs.GrowthLemmas.{Grows-refl, Grows-chain, model-here}
 use Rattle.ternary_clauses.proofs.NodeLemmas.{known-bit, known-read}
@@ -34,7 +33,12 @@ module _ (old mid new : Formula) (rails : List Rails) (k : ℕ) (r : Rails) (was
       let before : ReadsAll (long ++ has.more) rails (bits (take k v)) = ReadsAll-more long has.more rails (bits (take k v)) (rw had.width was.within) had.reads in
       let all : ReadsAll (long ++ has.more) (rails ++ r ∷ []) (bits (take k v) ++ bit b ∷ []) = all_zipped_more (Reads (long ++ has.more)) rails (bits (take k v)) r (bit b) before has.reads in
       let whole : bits (take k v) ++ bit b ∷ [] ≡ bits v = sym (map-append bit (take k v) (b ∷ [])) ∙ ap bits split in
-      grind (arith, append_assoc m had.more has.more)
+      record {
+        more = had.more ++ has.more;
+        width = rw (append_assoc m had.more has.more) at has.width;
+        model = rw (append_assoc m had.more has.more) at has.model;
+        reads = rw (append_assoc m had.more has.more, whole) at all;
+      }
 
   pub column-step : SaysColumns old new (rails ++ r ∷ []) (k + 1)
   column-step = record {

@@ -1,7 +1,6 @@
 -- New variables as rails.
 use Rattle.std.proofs.Common.{◌≡◌, ℕ, ◌+◌, ◌*◌, Bool, true, false, not, List, [], ◌∷◌, ◌++◌, get_or, refl, ap, subst, ◌∙◌, arith, length-append}
-use Rattle.ternary_clauses.proofs.Common.{bit, Formula, says, holds, IsModel, IsFormula, Grows, is_one, Reads, AreWithin, column_rails, new_rails, wire_clauses}
-use Rattle.ternary_clauses.specs.Wires.{HasNewRails}
+use Rattle.ternary_clauses.proofs.Common.{bit, Formula, says, holds, IsModel, IsFormula, Grows, is_one, Reads, AreWithin, column_rails, new_rails, wire_clauses, HasNewRails}
 use Rattle.ternary_clauses.proofs.ClauseLemmas.{says-even, says-odd, get_or-after}
 use Rattle.ternary_clauses.proofs.GrowthLemmas.{variables-grow, added-both, added-model, added-grows, model-kept}
 use Rattle.ternary_clauses.proofs.NodeCases.{new_values, test-more}
@@ -11,7 +10,11 @@ use Rattle.ternary_clauses.proofs.ReadingLemmas.{new-read}
 -- ---- one variable
 
 Reads-column : (m : List Bool) (w : ℕ) (b : Bool) → get_or m w false ≡ b → says m 0 ≡ true → Reads m (column_rails w) (bit b)
-Reads-column m w b e truth = grind arith
+Reads-column m w b e truth = record {
+  one = says-even m (2 * w) w (omega arith) (omega arith) ∙ e ∙ one-bit b;
+  zero = says-odd m (2 * w + 1) w (omega arith) (omega arith) ∙ ap not e ∙ zero-bit b;
+  known = truth ∙ known-bit b;
+}
 
 module _ (old new : Formula) (formula : IsFormula old) where
   pub column-new : new.variables ≡ old.variables + 1 → new.literals.items ≡ old.literals.items → HasNewRails old new true (column_rails old.variables)

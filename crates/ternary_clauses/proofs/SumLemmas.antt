@@ -1,11 +1,10 @@
 -- Literals that sum up others.
 use Rattle.std.proofs.Common.{◌≡◌, inl, inr, ℕ, ◌<◌, ◌+◌, ◌*◌, Bool, true, false, not, ◌&&◌, ◌||◌, List, [], ◌∷◌, ◌++◌, length, refl, sym, ap, ◌∙◌, arith}
-use Rattle.ternary_clauses.proofs.Common.{cases_lt, and_parts, and_from, length_push, get_or_append_left, All-nil, All-push, All-weaker, list_any, bit, Formula, Rails, says, negation, holds, IsModel, IsFormula, HasModelFrom, SaysAny}
-use Rattle.std.proofs.lemmas.List.{take-append-le, take_all, get_or_push}
+use Rattle.ternary_clauses.proofs.Common.{cases_lt, and_parts, and_from, length_push, get_or_append_left, All-nil, All-push, All-weaker, list_any, bit, Formula, Rails, says, negation, holds, IsModel, IsFormula, HasModelFrom, SaysAny, get_or_push, TakesValue, HasNewRails}
+use Rattle.std.proofs.lemmas.List.{take-append-le, take_all}
 use Rattle.std.proofs.lemmas.List.Folds.{list_any-append}
 use Rattle.cyc_base.proofs.TruthLemmas.{or_with_false}
 use Rattle.ternary_clauses.specs.Sums.{SaysOr}
-use Rattle.ternary_clauses.specs.Wires.{TakesValue, HasNewRails}
 use Rattle.ternary_clauses.proofs.ClauseLemmas.{says-negation, says-more}
 use Rattle.ternary_clauses.proofs.GrowthLemmas.{Grows-refl, Grows-chain, model-here, model-after}
 use Rattle.ternary_clauses.proofs.NodeCases.{alike, alike-same, alike-refl}
@@ -14,7 +13,15 @@ use Rattle.ternary_clauses.proofs.NodeLemmas.{one-bit, known-bit}
 -- ---- one of two
 
 or-cases : (k a b s : Bool) → (((k && (not a || (s || false))) && (not b || (s || false))) && (not s || (a || (b || false)))) ≡ (k && alike s (a || b))
-or-cases k a b s = grind arith
+or-cases false a b s = refl
+or-cases true true true true = refl
+or-cases true true true false = refl
+or-cases true true false true = refl
+or-cases true true false false = refl
+or-cases true false true true = refl
+or-cases true false true false = refl
+or-cases true false false true = refl
+or-cases true false false false = refl
 
 module _ (old mid one two new : Formula) (a b : ℕ) (n : Rails) (a_in : a < 2 * old.variables) (b_in : b < 2 * old.variables) (made : HasNewRails old mid true n) (variables : new.variables ≡ mid.variables) (last : IsFormula new)
     (first_says : (m : List Bool) → holds m one.literals.items ≡ (holds m mid.literals.items && list_any (says m) (negation a ∷ n.one ∷ [])))
@@ -37,7 +44,12 @@ module _ (old mid one two new : Formula) (a b : ℕ) (n : Rails) (a_in : a < 2 *
       (or-holds (m ++ has.more) ∙ and_from _ _ has.model ((λ j. alike (sum j) (at_a j || at_b j)) ∙ alike-refl x)))
 
   pub or-says : SaysOr old new a b n.one
-  or-says = grind (arith, or-parts, alike-same, or-complete)
+  or-says = record {
+    grows = record { formula = last; more = (let x = made.grows.more in omega (arith, x, variables)); sound = λ m h. made.grows.sound m (or-parts m h).0 };
+    within = (let x = made.own.within.one in omega (arith, x, variables));
+    says_it = λ m h. alike-same (says m n.one) (says m a || says m b) (or-parts m h).1;
+    complete = or-complete;
+  }
 
 -- ---- one of many
 
@@ -47,7 +59,13 @@ pub record IsLast (f : Formula) (literals : List ℕ) (last : ℕ) : Type 0 wher
   pub is : (m : List Bool) → IsModel m f → says m last ≡ list_any (says m) literals
 
 pub any-none : (f : Formula) → IsFormula f → SaysAny f f [] []
-any-none f formula = grind (arith, Grows-refl, All-nil, model-here)
+any-none f formula = record {
+  grows = Grows-refl f formula;
+  within = All-nil (λ l. l < 2 * f.variables);
+  size = refl;
+  says_each = λ m h i less. absurd (omega (arith, less));
+  complete = λ m len h. model-here f m len h;
+}
 
 pub last-none : (f : Formula) → IsFormula f → IsLast f [] 1
 last-none f formula = record { within = (let x = formula.some in omega (arith, x)); is = λ m h. ap not (formula.truth m h) }

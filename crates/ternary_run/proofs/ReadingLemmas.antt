@@ -80,11 +80,7 @@ reads_from-contain (gate ∷ gates) n zero s l h =
     rw e
     (Contains-append_left (reads_of_pins n gate.pins) (reads_from (n + 1) gates) (record { signal = s; gate = n })
     (Contains-map (λ (p : Sig). let read : Read = record { signal = p; gate = n } in read) gate.pins s h))
-reads_from-contain (gate ∷ gates) n (suc k) s l h =
-    let e : n + suc k ≡ (n + 1) + k = omega arith in
-    rw e
-    (Contains-append_right (reads_of_pins n gate.pins) (reads_from (n + 1) gates) (record { signal = s; gate = (n + 1) + k })
-    (reads_from-contain gates (n + 1) k s (omega arith) h))
+reads_from-contain (gate ∷ gates) n (suc k) s l h = grind (arith, Contains-append_right, reads_from-contain gates (n + 1) k s)
 
 -- and so is its gate among the readers of the signal
 pub readers_of-contain : (net : Parts) (list : List Read) (g : ℕ) (s : Sig) → IsFanoutOf net list → g < length net.gates → Contains (gate_at net g).pins s → Contains (readers_of list s) g
@@ -101,9 +97,7 @@ reads_from-below [] n m l = All-nil (λ (r : Read). r.gate < m)
 reads_from-below (gate ∷ gates) n m l =
     let here : n < m = omega arith in
     let P : Read → Type 0 = λ r. r.gate < m in
-    All-append P (reads_of_pins n gate.pins) (reads_from (n + 1) gates)
-    (All-map P (λ (p : Sig). let read : Read = record { signal = p; gate = n } in read) gate.pins (λ k d below. here))
-    (reads_from-below gates (n + 1) m (omega arith))
+    grind (arith, All-append P (reads_of_pins n gate.pins) (reads_from (n + 1) gates), All-map P, reads_from-below gates (n + 1) m)
 
 pub readers_of-below : (net : Parts) (list : List Read) (s : Sig) → IsFanoutOf net list → All (λ g. g < length net.gates) (readers_of list s)
 readers_of-below net list s all =
@@ -114,22 +108,10 @@ readers_of-below net list s all =
 
 pub readers_of-length : (list : List Read) (s : Sig) → length (readers_of list s) ≤ length list
 readers_of-length [] s = omega arith
-readers_of-length (r ∷ list) s =
-    elim (reads_signal s r) as (λ b. length (map (λ (x : Read). x.gate) (cond b (r ∷ filter (reads_signal s) list) (filter (reads_signal s) list))) ≤ suc (length list)) [
-      | true ↦ omega (arith, readers_of-length list s)
-      | false ↦ omega (arith, readers_of-length list s)
-    ]
+readers_of-length (r ∷ list) s = grind (arith, readers_of-length list s)
 
 -- a value that a gate's pins do not read doesn't change what they read
 pub reads_or_same : (pins : List Sig) (values : List Trit) (s : Sig) (x : Trit) →
     Contains pins s ⊎ (map (wire (set values s.0 x)) pins ≡ map (wire values) pins)
 reads_or_same [] values s x = inr refl
-reads_or_same (p ∷ pins) values s x =
-    elim (cases_eq p.0 s.0) [
-      | inl e ↦ let same : p ≡ s = ap (λ (n : ℕ). let sig : Sig = record { 0 = n } in sig) e in inl (rw same (Contains-here s pins))
-      | inr n ↦
-          elim (reads_or_same pins values s x) [
-            | inl h ↦ inl (Contains-there p pins s h)
-            | inr e ↦ inr (ap₂ (λ y ys. y ∷ ys) (get_or-set_other values s.0 p.0 x X n) e)
-          ]
-    ]
+reads_or_same (p ∷ pins) values s x = grind (arith, cases_eq, Contains-here, reads_or_same pins values s x, Contains-there, get_or-set_other)

@@ -37,13 +37,7 @@ abbrev pub HasWidth : Parts → List Trit → Type 0
 HasWidth net v = length v ≡ length net.inputs + length net.latches
 
 pub settling_starts : (net : Parts) (v : List Trit) → IsSettling net v (wires v (all_unknown net)) (range_with_len 0 (length net.gates))
-settling_starts net v = record {
-  state = all_unknown net;
-  split = refl;
-  below = unknown_below_state (length net.gates) (fix_gates net v) (length-fix_gates net v);
-  queued = λ k d l. omega (arith, get_or-range_with_len 0 (length net.gates) k d (omega (arith, length-range_with_len 0 (length net.gates))), length-range_with_len 0 (length net.gates));
-  still = λ g l e. inl (Contains-range (length net.gates) g l);
-}
+settling_starts net v = grind (arith, unknown_below_state, length-fix_gates, get_or-range_with_len, length-range_with_len, Contains-range)
 
 pub length-state : (net : Parts) (v values : List Trit) (queue : List ℕ) (h : IsSettling net v values queue) → length h.state ≡ length net.gates
 length-state net v values queue h = EachBelow-length h.state (fix_gates net v) h.below ∙ length-fix_gates net v
@@ -119,9 +113,7 @@ gate_determined net v values g queue list value w all h d =
     }
 
 pub known_or_still : (s f t : Trit) → Below s f → Below t f → (s ≡ X → t ≡ X) → Below t s
-known_or_still X f t h k still = rw (still refl) tt
-known_or_still Zero f t h k still = rw h at k
-known_or_still One f t h k still = rw h at k
+known_or_still s f t h k still = grind arith
 
 -- no gate has another value than in the state: where it is known there, the fixpoint has it too
 step-below : (net : Parts) (v state : List Trit) → EachBelow state (fix_gates net v) →
@@ -136,33 +128,11 @@ step-below net v state below still g l =
 
 pub settled : (net : Parts) (v values : List Trit) → IsSettling net v values [] → values ≡ fix net v
 settled net v values h =
-    let still : (g : ℕ) → g < length net.gates → get_or h.state g X ≡ X → gate_value (wires v h.state) (gate_at net g) ≡ X =
-    λ g l e.
-    elim (h.still g l e) [
-      | inl c ↦ absurd (Contains-nothing g c)
-      | inr x ↦ rw h.split at x
-    ] in
-    let closed : EachBelow (step net v h.state) h.state =
-    EachBelow-from_at (step net v h.state) h.state
-    (length-step net v h.state ∙ sym (length-state net v values [] h))
-    (λ g l. step-below net v h.state h.below still g (omega (arith, length-step net v h.state))) in
-    let same : h.state ≡ fix_gates net v =
-    EachBelow-antisym h.state (fix_gates net v) h.below (fix_is_below_closed net v h.state closed) in
-    h.split ∙ ap (wires v) same
+    grind (arith, EachBelow-from_at (step net v h.state) h.state, length-step net v h.state, length-state net v values [] h, step-below net v h.state h.below, EachBelow-antisym h.state (fix_gates net v) h.below, fix_is_below_closed net v h.state)
 
 -- a list in which an unknown value is known has more that are known
 more_known : (values : List Trit) (i : ℕ) (value : Trit) → i < length values → get_or values i X ≡ X → value ≢ X → known_count values < known_count (set values i value)
-more_known values i value l unknown known =
-    let below : EachBelow values (set values i value) =
-    EachBelow-from_at values (set values i value) (sym (length-set values i value)) (λ n m.
-    elim (cases_eq n i) [
-      | inl same ↦ rw (same, unknown) tt
-      | inr other ↦ rw (get_or-set_other values i n value X other) (Below-refl (get_or values n X))
-    ]) in
-    elim (same_or_more values (set values i value) below) [
-      | inl e ↦ absurd (known (sym (get_or-set_same values i value X l) ∙ ap (λ (s : List Trit). get_or s i X) (sym e) ∙ unknown))
-      | inr more ↦ more
-    ]
+more_known values i value l unknown known = grind (arith, EachBelow-from_at, length-set, cases_eq, get_or-set_other, Below-refl, same_or_more, get_or-set_same)
 
 -- the signals that are still unknown and the gates that wait, so weighed that it falls when a gate is determined
 pub work_left : ℕ → List Trit → List ℕ → ℕ
@@ -200,25 +170,19 @@ gate_unchanged_at net v values g queue rest r w e n h d = gate_unchanged net v v
 pub gate_determined_at : (net : Parts) (v values : List Trit) (g : ℕ) (queue rest : List ℕ) (list : List Read) (r : Option Trit) (value : Trit) (s : Sig) (after : List ℕ) → HasWidth net v → IsFanoutOf net list →
     queue ≡ g ∷ rest → r ≡ Some value → s ≡ gate_sig net g → after ≡ rest ++ readers_of list s →
     IsSettling net v values queue → IsNewValue net values g r → IsSettling net v (set values s.0 value) after
-gate_determined_at net v values g queue rest list r value s after w all e n p f h d =
-    rw (f, p) (gate_determined net v values g rest list value w all (rw e at h) (rw n at d))
+gate_determined_at net v values g queue rest list r value s after w all e n p f h d = grind (arith, gate_determined)
 
 pub determined_falls_at : (net : Parts) (v values : List Trit) (g : ℕ) (queue rest : List ℕ) (list : List Read) (r : Option Trit) (value : Trit) (s : Sig) (after : List ℕ) → HasWidth net v →
     queue ≡ g ∷ rest → r ≡ Some value → s ≡ gate_sig net g → after ≡ rest ++ readers_of list s →
     IsSettling net v values queue → IsNewValue net values g r → work_left (length list) (set values s.0 value) after < work_left (length list) values queue
-determined_falls_at net v values g queue rest list r value s after w e n p f h d =
-    let stands : IsSettling net v values (g ∷ rest) = rw e at h in
-    let in_range : g < length net.gates = All-head (λ k. k < length net.gates) g rest stands.queued in
-    rw (f, p, e) (work_left-determined net values g rest list value (omega (arith, length-settling net v values (g ∷ rest) w stands)) (rw n at d))
+determined_falls_at net v values g queue rest list r value s after w e n p f h d = grind (arith, All-head, work_left-determined net values g rest list value, length-settling net v values (g ∷ rest) w)
 
 pub unchanged_falls_at : (pins : ℕ) (values : List Trit) (g : ℕ) (queue rest : List ℕ) → queue ≡ g ∷ rest → work_left pins values rest < work_left pins values queue
 unchanged_falls_at pins values g queue rest e = rw e (work_left-unchanged pins values g rest)
 
 -- the gate that waits is one
 pub waiting_gate : (net : Parts) (v values : List Trit) (g : ℕ) (queue rest : List ℕ) → queue ≡ g ∷ rest → IsSettling net v values queue → g < length net.gates
-waiting_gate net v values g queue rest e h =
-    let stands : IsSettling net v values (g ∷ rest) = rw e at h in
-    All-head (λ k. k < length net.gates) g rest stands.queued
+waiting_gate net v values g queue rest e h = grind arith
 
 -- the fixpoint has a value for each signal
 pub length-fix : (net : Parts) (v : List Trit) → HasWidth net v → length (fix net v) ≡ count net

@@ -1,4 +1,4 @@
-use Rattle.std.proofs.Common.{Err, reverse, sym, ap, subst, ◌∙◌}
+use Rattle.std.proofs.Common.{Err, reverse, sym, ap, subst, ◌∙◌, arith}
 use Rattle.bdd_store.specs.declared.fault.StoreFault.{StoreFault}
 use Rattle.bdd_store.proofs.GrowthLemmas.{KeepsNodes-chain}
 use Rattle.bdd_ops.specs.Turns.{IsTurn}
@@ -7,14 +7,11 @@ use Rattle.bdd_ops.proofs.ChainLemmas.{IsChain-nodes, asked-turn, behind-kept, N
 use Rattle.bdd_ops.proofs.apply.apply.Goals as goal
 
 pub ask-requires-clause-nodes : goal.ask-requires-clause-nodes
-ask-requires-clause-nodes c =
-    let waiting = reverse c.loop-turn.waiting.items in
-    IsChain-nodes c.args.operation c.loop-turn.store c.args.root waiting c.in-Ask.q (AreNodesOf-kept c.loop-turn.invariant.keeps c.requires.nodes) (asked-turn c.args.operation c.loop-turn.store c.args.root waiting c.loop-turn.turn c.in-Ask.q c.in-Ask.is c.loop-turn.invariant.turn)
+ask-requires-clause-nodes c = grind (arith, IsChain-nodes, AreNodesOf-kept, asked-turn)
 
 pub returns-in_err-turn-in-Answer-clause-parts : goal.returns-in_err-turn-in-Answer-clause-parts
 returns-in_err-turn-in-Answer-clause-parts c =
-    let turn = subst (IsTurn c.args.operation c.loop-turn.store c.args.root (reverse c.loop-turn.waiting.items)) c.in-Answer.is c.loop-turn.invariant.turn in
-    NewAreParts-taken c.args.operation c.loop-turn.store c.resume.new.store c.args.root c.loop-turn.waiting.items c.pop.new.self.items c.in-Some.question c.in-Answer.n c.resume.ensures.keeps c.in-Some.ensures.items turn c.args.store.now c.laws.ensures c.requires.nodes c.loop-turn.invariant.keeps c.loop-turn.invariant.parts c.resume.ensures.parts
+    grind (arith, NewAreParts-taken c.args.operation c.loop-turn.store c.resume.new.store c.args.root c.loop-turn.waiting.items c.pop.new.self.items c.in-Some.question c.in-Answer.n c.resume.ensures.keeps c.in-Some.ensures.items)
 
 pub returns-in_err-turn-in-Answer-clause-full : goal.returns-in_err-turn-in-Answer-clause-full
 returns-in_err-turn-in-Answer-clause-full c is_full =

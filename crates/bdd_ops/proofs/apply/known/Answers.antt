@@ -1,4 +1,4 @@
-use Rattle.std.proofs.Common.{sym, subst}
+use Rattle.std.proofs.Common.{sym, subst, arith}
 use Rattle.bdd_ops.specs.Apply.{IsAnswer}
 use Rattle.bdd_ops.proofs.StandardLemmas.{StandsFor-chain}
 use Rattle.bdd_ops.proofs.ComputedLemmas.{IsAnswer-found, IsAnswer-decided}
@@ -9,8 +9,7 @@ returns-in-Some-clause-found c s are nodes = IsAnswer-decided c.args.operation c
 
 pub returns-in-Some-get-clause-found : goal.returns-in-Some-get-clause-found
 returns-in-Some-get-clause-found c s are nodes =
-    subst (IsAnswer c.args.operation s c.args.q) (sym c.complement_if.ensures.complement)
-    (IsAnswer-found c.args.operation s c.args.computed.now c.args.q c.simplified-simple.result c.standard_form-form.result.mark c.standard_form-form.result.operands c.in-Some-get.n c.simplified-simple.ensures c.standard_form-form.ensures.stands c.in-Some-get.ensures.found are)
+    grind (arith, IsAnswer-found c.args.operation s c.args.computed.now c.args.q c.simplified-simple.result c.standard_form-form.result.mark c.standard_form-form.result.operands c.in-Some-get.n c.simplified-simple.ensures c.standard_form-form.ensures.stands c.in-Some-get.ensures.found are)
 
 pub returns-in-None-clause-form : goal.returns-in-None-clause-form
 returns-in-None-clause-form c s = StandsFor-chain (c.simplified-simple.ensures s) (c.standard_form-form.ensures.stands s)

@@ -1,4 +1,4 @@
-use Rattle.std.proofs.Common.{◌≡◌, ◌<◌, ◌≤◌, ◌∙◌, false, true, true≢false, refl, replicate, ap, sym, inl, inr}
+use Rattle.std.proofs.Common.{◌≡◌, ◌<◌, ◌≤◌, ◌∙◌, false, true, true≢false, refl, replicate, ap, sym, inl, inr, arith}
 use Rattle.std.proofs.lemmas.Bool.{cases_lt}
 use Rattle.bdd_store.specs.declared.node.Node.{Node}
 use Rattle.bdd_store.specs.Arena.{constant, den}
@@ -34,6 +34,4 @@ loop-no-preserved c =
     }
 
 pub returns-clause-least : goal.returns-clause-least
-returns-clause-least c =
-    let low : c.loop-no.at.number < 2 = elim (cases_lt c.loop-no.at.number 2) [ inl h ↦ h | inr h ↦ absurd (true≢false (sym (c.loop-no-test.ensures.1 h))) ] in
-    IsLeast-end c.args.store.now c.laws.ensures c.args.n c.loop-no.at c.loop-no.out c.loop-no.invariant.way low
+returns-clause-least c = grind (arith, cases_lt c.loop-no.at.number 2, true≢false, IsLeast-end c.args.store.now c.laws.ensures c.args.n c.loop-no.at c.loop-no.out c.loop-no.invariant.way)

@@ -37,7 +37,4 @@ pub returns : goal.returns
 returns c =
     let found = c.loop-position.found in
     let n = c.args.n in
-    let long : length found ≡ index n + 1 = c.loop-position.auto.found ∙ length-set c.args.found.now 0 (record { one = true; zero = false }) ∙ c.requires.room in
-    let there : slice_get found (index n) ≡ Some (get_or found (index n) none) = slice_get-get_or found (index n) none (omega (arith, long)) in
-    let are = of_index c.args.store.now c.args.columns.now c.args.first.now found c.loop-position.position n (get_or found (index n) none) c.loop-position.invariant.found (omega (arith, c.loop-position-test.false, c.index-position-end.ensures)) there in
-    (subst (AreValuesOf (λ w. den c.args.store.now n (by_variable c.args.columns.now w)) c.args.store.now.vars c.args.first.now) (sym (c.values_of.ensures (get_or found (index n) none) there)) are).one
+    grind (arith, length-set c.args.found.now 0, none, slice_get-get_or found (index n) none, of_index c.args.store.now c.args.columns.now c.args.first.now found c.loop-position.position n (get_or found (index n) none) c.loop-position.invariant.found)

@@ -1,4 +1,4 @@
-use Rattle.std.proofs.Common.{sym, subst}
+use Rattle.std.proofs.Common.{sym, subst, arith}
 use Rattle.bdd_ops.specs.declared.operands.Operation.{Operation}
 use Rattle.bdd_ops.specs.Standard.{StandsFor}
 use Rattle.bdd_ops.proofs.StandardLemmas.{StandsFor-chain}
@@ -6,5 +6,4 @@ use Rattle.bdd_ops.proofs.standard.standard_form.Goals as goal
 
 pub returns-in-Ite-clause-stands : goal.returns-in-Ite-clause-stands
 returns-in-Ite-clause-stands c s =
-    subst (λ (o : Operation). StandsFor o s c.args.q c.unmarked_branch.result.mark c.unmarked_branch.result.operands) (sym c.in-Ite.is)
-    (StandsFor-chain (StandsFor-chain (c.ordered.ensures.stands s) (c.unmarked_choice.ensures.stands s)) (c.unmarked_branch.ensures.stands s))
+    grind (arith, StandsFor-chain (StandsFor-chain (c.ordered.ensures.stands s) (c.unmarked_choice.ensures.stands s)) (c.unmarked_branch.ensures.stands s), StandsFor-chain (c.ordered.ensures.stands s) (c.unmarked_choice.ensures.stands s))

@@ -1,5 +1,5 @@
 use Rattle.std.proofs.Common.{◌-◌, length}
-use Rattle.blif_read.specs.Readers.{progress_of}
+use Rattle.blif_read.proofs.Common.{progress_of}
 use Rattle.blif_read.proofs.PartLinesLemmas.{PartsAt}
 use Rattle.blif_read.proofs.parts.read_parts.Given as goal
 

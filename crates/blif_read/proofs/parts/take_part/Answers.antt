@@ -1,5 +1,5 @@
 use Rattle.std.proofs.Common.{arith}
-use Rattle.blif_read.specs.Readers.{progress_of}
+use Rattle.blif_read.proofs.Common.{progress_of}
 use Rattle.blif_read.proofs.PartLinesLemmas.{leads_start, leads_next, leads_end}
 use Rattle.blif_read.proofs.parts.take_part.Goals as goal
 

@@ -1,4 +1,4 @@
-use Rattle.blif_read.specs.Readers.{progress_of}
+use Rattle.blif_read.proofs.Common.{progress_of}
 use Rattle.blif_read.proofs.PartLinesLemmas.{LeadsOn}
 use Rattle.blif_read.proofs.parts.take_part.Given as goal
 

@@ -1,6 +1,5 @@
 use Rattle.std.proofs.Common.{◌≡◌, drop}
-use Rattle.std.specs.List.{list_all}
-use Rattle.blif_read.specs.Faults.{is_pair}
+use Rattle.blif_read.proofs.Common.{list_all, is_pair}
 use Rattle.blif_read.proofs.subckts.are_pairs.Given as goal
 
 abbrev pub invariant-loop-k : goal.invariant-loop-k

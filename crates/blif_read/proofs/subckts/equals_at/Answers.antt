@@ -1,6 +1,6 @@
 use Rattle.std.proofs.Common.{sym, arith, length}
 use Rattle.std.proofs.lemmas.List.Sums.{position_or_len_is}
-use Rattle.blif_read.specs.Faults.{is_equals}
+use Rattle.blif_read.proofs.Common.{is_equals}
 use Rattle.blif_read.proofs.subckts.equals_at.Goals as goal
 
 pub returns-clause-place : goal.returns-clause-place

@@ -1,5 +1,5 @@
 use Rattle.std.proofs.Common.{◌≡◌, ℕ, ◌<◌, get_or, false}
-use Rattle.blif_read.specs.Faults.{is_equals}
+use Rattle.blif_read.proofs.Common.{is_equals}
 use Rattle.blif_read.proofs.subckts.equals_at.Given as goal
 
 abbrev pub invariant-loop-at : goal.invariant-loop-at

@@ -1,6 +1,6 @@
 use Rattle.std.proofs.Common.{◌≡◌}
-use Rattle.std.specs.Prelude.{map, slice_range}
-use Rattle.blif_read.specs.Statements.{pair_of}
+use Rattle.blif_read.proofs.Common.{slice_range, pair_of}
+use Rattle.std.specs.Prelude.{map}
 use Rattle.blif_read.proofs.subckts.pairs_of.Given as goal
 
 abbrev pub invariant-loop-k : goal.invariant-loop-k

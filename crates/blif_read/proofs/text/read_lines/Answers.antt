@@ -1,7 +1,6 @@
 use Rattle.std.proofs.Common.{arith, ap, sym, ◌∙◌}
 use Rattle.std.proofs.lemmas.Result.{err_from_is_err_and}
-use Rattle.blif_read.specs.Reads.{if_any}
-use Rattle.blif_read.specs.Readers.{progress_of}
+use Rattle.blif_read.proofs.Common.{if_any, progress_of}
 use Rattle.blif_read.proofs.ReadLemmas.{at_next, at_fault, at_end, answers_same}
 use Rattle.blif_read.proofs.text.read_lines.Goals as goal
 

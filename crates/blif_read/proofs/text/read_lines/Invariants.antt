@@ -1,4 +1,4 @@
-use Rattle.blif_read.specs.Readers.{progress_of}
+use Rattle.blif_read.proofs.Common.{progress_of}
 use Rattle.blif_read.proofs.ReadLemmas.{ReadsAt}
 use Rattle.blif_read.proofs.text.read_lines.Given as goal
 

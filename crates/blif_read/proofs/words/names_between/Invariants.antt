@@ -1,5 +1,5 @@
 use Rattle.std.proofs.Common.{◌≡◌}
-use Rattle.std.specs.Prelude.{slice_range}
+use Rattle.blif_read.proofs.Common.{slice_range}
 use Rattle.blif_read.proofs.words.names_between.Given as goal
 
 abbrev pub invariant-loop-k : goal.invariant-loop-k

@@ -1,5 +1,4 @@
-use Rattle.std.proofs.Common.{arith}
-use Rattle.std.proofs.Common.{[], ◌∷◌}
+use Rattle.std.proofs.Common.{arith, [], ◌∷◌}
 use Rattle.blif_write.proofs.Common.{lit_byte, appended_none, appended_items}
 use Rattle.cyc_io.proofs.ItemLemmas.{appended_copied, appended_in_copied}
 use Rattle.blif_write.proofs.gates.put_lits.Goals as goal

@@ -41,12 +41,4 @@ returns-clause-late c =
     columns_from_first c.args.first c.in_ok-columns.columns.items none
 
 pub returns-clause-sound : goal.returns-clause-sound
-returns-clause-sound c =
-    let net = c.args.net.now in
-    let model = c.args.model.now in
-    let columns = c.in_ok-columns.columns.items in
-    let none : position_from (λ column. nat_lt column c.args.first) 0 columns ≡ None =
-    ap (position_from (λ column. nat_lt column c.args.first) 0) (sym c.deref.ensures.value) ∙ sym c.first_before.ensures ∙ c.in_default.is in
-    no_fault net c.args.first model c.in_ok-refuse_shape.ensures.latches c.in_ok-refuse_shape.ensures.outputs
-    (no_unknown_name net model.inputs columns c.in_ok-columns.ensures.columns)
-    (no_early_name net c.args.first model.inputs columns c.in_ok-columns.ensures.columns none)
+returns-clause-sound c = grind (arith, no_fault, no_unknown_name, no_early_name)

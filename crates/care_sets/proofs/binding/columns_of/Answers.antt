@@ -9,19 +9,10 @@ loop-number-init c = rw c.new-columns.ensures.items (columns_start c.args.net.no
 
 pub returns-in_err-column-clause-fault : goal.returns-in_err-column-clause-fault
 returns-in_err-column-clause-fault c =
-    let p = err_from_is_err_and c.from_residual.result c.from_residual.ensures.1 in
-    rw (p.1, p.2)
-    (first_unknown_name c.args.net.now c.args.model.now.inputs c.loop-number.number c.loop-number.columns.items c.input_name.result.now _
-    c.loop-number.invariant c.input_name.ensures c.in_err-column.ensures.fault)
+    grind (arith, err_from_is_err_and c.from_residual.result c.from_residual.ensures.1, first_unknown_name c.args.net.now c.args.model.now.inputs c.loop-number.number c.loop-number.columns.items c.input_name.result.now _ c.loop-number.invariant c.input_name.ensures c.in_err-column.ensures.fault)
 
 pub loop-number-preserved : goal.loop-number-preserved
-loop-number-preserved c =
-    subst (λ (columns : List ℕ). AreColumnsOf c.args.net.now (take (c.loop-number.number + 1) c.args.model.now.inputs) columns)
-    (sym c.in_ok-push.ensures.items)
-    (columns_more c.args.net.now c.args.model.now.inputs c.loop-number.number c.loop-number.columns.items c.input_name.result.now c.in_ok-column.column
-    c.loop-number.invariant c.input_name.ensures c.in_ok-column.ensures.column)
+loop-number-preserved c = grind (arith, columns_more)
 
 pub returns-clause-columns : goal.returns-clause-columns
-returns-clause-columns c =
-    columns_all c.args.net.now c.args.model.now.inputs c.loop-number.number c.loop-number.columns.items
-    (omega (arith, c.inputs-number-end.ensures.inputs)) c.loop-number.invariant
+returns-clause-columns c = grind (arith, columns_all)

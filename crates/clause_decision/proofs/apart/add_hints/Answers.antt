@@ -1,12 +1,9 @@
-use Rattle.std.proofs.Common.{ℕ, List, get_or, sym, subst}
-use Rattle.clause_decision.proofs.Common.{AddLiterals}
+use Rattle.std.proofs.Common.{get_or}
 use Rattle.clause_decision.proofs.ApartLemmas.{no_hint, literals-none, literals-step, rails-still}
 use Rattle.clause_decision.proofs.apart.add_hints.Goals as goal
 
 pub loop-hint-init : goal.loop-hint-init
-loop-hint-init c =
-    let f = c.args.formula.now in
-    subst (AddLiterals f f) (sym c.new-literals.ensures.items) (literals-none f c.requires.formula)
+loop-hint-init c = rw c.new-literals.ensures.items (literals-none c.args.formula.now c.requires.formula)
 
 pub add_hint-requires-clause-rails : goal.add_hint-requires-clause-rails
 add_hint-requires-clause-rails c =
@@ -14,9 +11,4 @@ add_hint-requires-clause-rails c =
     rails-still c.args.formula.now c.loop-hint.formula c.args.rails.now c.loop-hint.invariant.grows (get_or c.args.hints.now place no_hint).pair (c.requires.rails place no_hint c.loop-hint-test.true)
 
 pub loop-hint-preserved : goal.loop-hint-preserved
-loop-hint-preserved c =
-    let old = c.args.formula.now in
-    let mid = c.loop-hint.formula in
-    let new = c.add_hint.new.formula in
-    subst (AddLiterals old new) (sym {A = List ℕ} c.in_ok-push.ensures.items)
-    (literals-step old mid new c.loop-hint.literals.items c.in_ok-add_hint.field-0 c.loop-hint.invariant c.in_ok-add_hint.ensures)
+loop-hint-preserved c = rw c.in_ok-push.ensures.items (literals-step c.args.formula.now c.loop-hint.formula c.add_hint.new.formula c.loop-hint.literals.items c.in_ok-add_hint.field-0 c.loop-hint.invariant c.in_ok-add_hint.ensures)

@@ -3,6 +3,7 @@ use Rattle.clause_decision.proofs.Common.{Parts, first_number, NeedAtLeast, IsSw
 use Rattle.clause_decision.specs.Countings.{IsCountedTo, TellsNeeded}
 use Rattle.clause_decision.proofs.SweepingLemmas.{few-needed}
 use Rattle.clause_decision.proofs.counting.count_sweeps.Goals as goal
+use Rattle.clause_decision.proofs.counting.count_sweeps.Goals.{In_ok-next_needed}
 
 pub loop-sweeps-init : goal.loop-sweeps-init
 loop-sweeps-init c =
@@ -20,27 +21,28 @@ loop-sweeps-init c =
       more = c.in_ok-needed.ensures.1;
     }
 
+-- what one more sweep tells
+counted : (c : In_ok-next_needed) → IsCountedTo c.args.block.now.net c.args.care.now c.args.scope.now.gates (loops_in c.args.block.now) (gates_in c.args.block.now) c.next_needed.new.swept
+    (c.loop-sweeps.sweeps - first_number c.args.search.sign + 1) c.loop-sweeps.sweeps c.in_ok-next_needed.field-0
+counted c =
+    c.in_ok-next_needed.ensures c.args.care.now c.args.scope.now (c.loop-sweeps.sweeps - first_number c.args.search.sign) c.requires.scope c.requires.within c.requires.serves c.loop-sweeps.invariant.swept
+    (let first = c.loop-sweeps.invariant.first in omega (arith, first)) c.loop-sweeps.invariant.more
+
 pub returns-in-These : goal.returns-in-These
 returns-in-These c =
-    let l : LoopAt = c.args.block.now in
-    let first = c.loop-sweeps.invariant.first in
-    let before : c.loop-sweeps.sweeps - first_number c.args.search.sign + first_number c.args.search.sign ≡ c.loop-sweeps.sweeps = omega (arith, first) in
-    let on : IsCountedTo l.net c.args.care.now c.args.scope.now.gates (loops_in l) (gates_in l) c.next_needed.new.swept (c.loop-sweeps.sweeps - first_number c.args.search.sign + 1) c.loop-sweeps.sweeps c.in_ok-next_needed.field-0 =
-    c.in_ok-next_needed.ensures c.args.care.now c.args.scope.now (c.loop-sweeps.sweeps - first_number c.args.search.sign) c.requires.scope c.requires.within c.requires.serves c.loop-sweeps.invariant.swept before c.loop-sweeps.invariant.more in
-    subst (TellsNeeded l.net (loops_in l) c.args.care.now (gates_in l) c.loop-sweeps.sweeps) c.in-These.is on.tells
+    subst (TellsNeeded c.args.block.now.net (loops_in c.args.block.now) c.args.care.now (gates_in c.args.block.now) c.loop-sweeps.sweeps) c.in-These.is (counted (goal.at.returns-in-These c).In_ok-next_needed).tells
 
 pub loop-sweeps-preserved : goal.loop-sweeps-preserved
 loop-sweeps-preserved c =
     let l : LoopAt = c.args.block.now in
+    let at = goal.at.loop-sweeps-preserved c in
     let first = c.loop-sweeps.invariant.first in
-    let before : c.loop-sweeps.sweeps - first_number c.args.search.sign + first_number c.args.search.sign ≡ c.loop-sweeps.sweeps = omega (arith, first) in
-    let on : IsCountedTo l.net c.args.care.now c.args.scope.now.gates (loops_in l) (gates_in l) c.next_needed.new.swept (c.loop-sweeps.sweeps - first_number c.args.search.sign + 1) c.loop-sweeps.sweeps c.in_ok-next_needed.field-0 =
-    c.in_ok-next_needed.ensures c.args.care.now c.args.scope.now (c.loop-sweeps.sweeps - first_number c.args.search.sign) c.requires.scope c.requires.within c.requires.serves c.loop-sweeps.invariant.swept before c.loop-sweeps.invariant.more in
-    let told : (c.loop-sweeps.sweeps < c.in-AtLeast.number) × NeedAtLeast l.net (loops_in l) c.args.care.now (gates_in l) c.in-AtLeast.number = subst (TellsNeeded l.net (loops_in l) c.args.care.now (gates_in l) c.loop-sweeps.sweeps) c.in-AtLeast.is on.tells in
+    let told : (c.loop-sweeps.sweeps < c.in-AtLeast.number) × NeedAtLeast l.net (loops_in l) c.args.care.now (gates_in l) c.in-AtLeast.number =
+    subst (TellsNeeded l.net (loops_in l) c.args.care.now (gates_in l) c.loop-sweeps.sweeps) c.in-AtLeast.is (counted at.In_ok-next_needed).tells in
     let same : c.loop-sweeps.sweeps - first_number c.args.search.sign + 1 ≡ c.loop-sweeps.sweeps + 1 - first_number c.args.search.sign = omega (arith, first) in
     let more = told.0 in
     record {
-      swept = subst (λ (n : ℕ). IsSwept l.net c.args.care.now c.args.scope.now.gates (loops_in l) (gates_in l) c.next_needed.new.swept n) same on.swept;
+      swept = subst (λ (n : ℕ). IsSwept l.net c.args.care.now c.args.scope.now.gates (loops_in l) (gates_in l) c.next_needed.new.swept n) same (counted at.In_ok-next_needed).swept;
       first = omega (arith, first);
       low = omega (arith, more);
       more = told.1;
@@ -62,11 +64,7 @@ returns-then-needed-most c =
 pub returns-then-needed-most-2 : goal.returns-then-needed-most-2
 returns-then-needed-most-2 c =
     let l : LoopAt = c.args.block.now in
-    let first = c.loop-sweeps.invariant.first in
-    let before : c.loop-sweeps.sweeps - first_number c.args.search.sign + first_number c.args.search.sign ≡ c.loop-sweeps.sweeps = omega (arith, first) in
-    let on : IsCountedTo l.net c.args.care.now c.args.scope.now.gates (loops_in l) (gates_in l) c.next_needed.new.swept (c.loop-sweeps.sweeps - first_number c.args.search.sign + 1) c.loop-sweeps.sweeps c.in_ok-next_needed.field-0 =
-    c.in_ok-next_needed.ensures c.args.care.now c.args.scope.now (c.loop-sweeps.sweeps - first_number c.args.search.sign) c.requires.scope c.requires.within c.requires.serves c.loop-sweeps.invariant.swept before c.loop-sweeps.invariant.more in
-    let told : (c.loop-sweeps.sweeps < c.in-AtLeast.number) × NeedAtLeast l.net (loops_in l) c.args.care.now (gates_in l) c.in-AtLeast.number = subst (TellsNeeded l.net (loops_in l) c.args.care.now (gates_in l) c.loop-sweeps.sweeps) c.in-AtLeast.is on.tells in
+    let told : (c.loop-sweeps.sweeps < c.in-AtLeast.number) × NeedAtLeast l.net (loops_in l) c.args.care.now (gates_in l) c.in-AtLeast.number =
+    subst (TellsNeeded l.net (loops_in l) c.args.care.now (gates_in l) c.loop-sweeps.sweeps) c.in-AtLeast.is (counted (goal.at.returns-then-needed-most-2 c).In_ok-next_needed).tells in
     let high = c.if-needed-most-2.true in
-    few-needed l c.cut_count-most.ensures.is c.args.care.now c.cut_count-most.result c.cut_count-most.ensures.count
-    (λ a j inside less. told.1 a j inside (omega (arith, less, high)))
+    few-needed l c.cut_count-most.ensures.is c.args.care.now c.cut_count-most.result c.cut_count-most.ensures.count (λ a j inside less. told.1 a j inside (omega (arith, less, high)))

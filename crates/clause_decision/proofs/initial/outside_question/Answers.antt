@@ -1,12 +1,11 @@
-use Rattle.std.proofs.Common.{◌≡◌, ◌∙◌, ◌∷◌, ℕ, ◌*◌, ◌<◌, List, length, map, subst, sym, ap}
+use Rattle.std.proofs.Common.{◌≡◌, ◌∙◌, ◌∷◌, ℕ, ◌*◌, ◌<◌, List, length, map, refl, subst, sym, ap}
 use Rattle.std.specs.Prelude.{IfSome}
-use Rattle.clause_decision.proofs.Common.{list_all, length-map, is_in_invariant, SaysColumns, Rails, negation, IsOver, ReadsWithin, SaysTest, asked_starts}
-use Rattle.std.specs.List.{All}
-use Rattle.ternary_clauses.specs.Formulas.{says as says_lit}
+use Rattle.clause_decision.proofs.Common.{length-map, All-cons, is_in_invariant, SaysColumns, Rails, negation, IsOver, ReadsWithin, SaysTest, asked_starts}
 use Rattle.clause_decision.specs.Tests.{is_outside}
-use Rattle.clause_decision.proofs.FormulaLemmas.{asks-over, ones-within, over-columns, over-grows}
+use Rattle.clause_decision.proofs.FormulaLemmas.{asks-over, ones-within, over-columns, over-grows, question-of}
 use Rattle.clause_decision.proofs.ModelLemmas.{invariant-reads}
-use Rattle.clause_decision.proofs.StartLemmas.{cons-within, negation-within, outside-told, starts-within}
+use Rattle.clause_decision.proofs.SignalLemmas.{negation-within}
+use Rattle.clause_decision.proofs.StartLemmas.{outside-told, starts-within}
 use Rattle.clause_decision.proofs.initial.outside_question.Goals as goal
 use Rattle.clause_decision.proofs.initial.outside_question.Goals.{In_ok-latches}
 
@@ -34,12 +33,7 @@ returns g =
     let now : IsOver f rails (length net.latches) = over-grows g.add_columns.new.formula f rails (length net.latches) (over c) says.grows (λ m v long is reads. says.complete m v long is reads) in
     let ones : g.in_ok-columns.columns.items ≡ map (λ r. r.one) rails = g.in_ok-columns.ensures ∙ ap (λ (rs : List Rails). map (λ (r : Rails). r.one) rs) g.deref-2.ensures.value in
     let assumed : g.in_ok-assumed.assumed.items ≡ (negation inside ∷ asked_starts net.latches rails) = g.in_ok-assumed.ensures ∙ ap (λ (rs : List Rails). negation inside ∷ asked_starts net.latches rs) g.deref-3.ensures.value in
-    record {
-      askable = record {
-        columns = subst (All (λ l. l < 2 * f.variables)) (sym ones) (ones-within f rails now.within);
-        assumed = subst (All (λ l. l < 2 * f.variables)) (sym assumed) (cons-within (2 * f.variables) (negation inside) (asked_starts net.latches rails) (negation-within f.variables inside says.within) (starts-within f.variables net.latches rails now.within));
-      };
-      wide = ap (λ (cs : List ℕ). length cs) ones ∙ length-map rails (λ (r : Rails). r.one) ∙ now.size;
-      asks = asks-over f rails (length net.latches) g.in_ok-columns.columns.items g.in_ok-assumed.assumed.items (is_outside net care) now ones
-          (λ m v is reads. ap (list_all (says_lit m)) assumed ∙ outside-told net care m rails v inside now.size reads (says.says_it m v is reads));
-    }
+    question-of (record { formula = f; columns = g.in_ok-columns.columns; assumed = g.in_ok-assumed.assumed }) refl ones assumed (ones-within f rails now.within)
+    (All-cons (λ l. l < 2 * f.variables) (negation inside) (asked_starts net.latches rails) (negation-within inside f.variables says.within) (starts-within f.variables net.latches rails now.within))
+    (length-map rails (λ (r : Rails). r.one) ∙ now.size)
+    (asks-over f rails (length net.latches) (negation inside ∷ asked_starts net.latches rails) (is_outside net care) now (λ m v is reads. outside-told net care m rails v inside now.size reads (says.says_it m v is reads)))

@@ -1,5 +1,4 @@
-use Rattle.std.proofs.Common.{◌∙◌, ◌+◌, sym, ap, subst}
-use Rattle.clause_decision.proofs.Common.{is_cut, AreCutPlacesBelow}
+use Rattle.clause_decision.proofs.Common.{is_cut}
 use Rattle.clause_decision.proofs.LoopLemmas.{places-cut, places-uncut}
 use Rattle.clause_decision.proofs.looped_block.cut_places.Goals.{then-wires-gates+in_ok-push, else-wires-gates}
 use Rattle.clause_decision.proofs.looped_block.cut_places.Goals as goal
@@ -7,9 +6,6 @@ use Rattle.clause_decision.proofs.looped_block.cut_places.Goals as goal
 pub loop-place-preserved : goal.loop-place-preserved
 loop-place-preserved c = elim c.if-wires-gates.branch [
   | then-wires-gates+in_ok-push w ↦
-      subst (AreCutPlacesBelow (is_cut c.args.wires.now) c.args.gates.now (c.loop-place.place + 1)) (sym w.in_ok-push.ensures.items ∙ sym (ap (λ p. p.items) w.places-is))
-      (places-cut (is_cut c.args.wires.now) c.args.gates.now c.loop-place.place c.loop-place.places.items c.loop-place-test.true w.if-wires-gates.true c.loop-place.invariant)
-  | else-wires-gates w ↦
-      subst (AreCutPlacesBelow (is_cut c.args.wires.now) c.args.gates.now (c.loop-place.place + 1)) (sym (ap (λ p. p.items) w.places-is))
-      (places-uncut (is_cut c.args.wires.now) c.args.gates.now c.loop-place.place c.loop-place.places.items c.loop-place-test.true w.if-wires-gates.false c.loop-place.invariant)
+      rw (w.places-is, w.in_ok-push.ensures.items) (places-cut (is_cut c.args.wires.now) c.args.gates.now c.loop-place.place c.loop-place.places.items c.loop-place-test.true w.if-wires-gates.true c.loop-place.invariant)
+  | else-wires-gates w ↦ rw w.places-is (places-uncut (is_cut c.args.wires.now) c.args.gates.now c.loop-place.place c.loop-place.places.items c.loop-place-test.true w.if-wires-gates.false c.loop-place.invariant)
 ]

@@ -1,4 +1,4 @@
-use Rattle.std.proofs.Common.{◌≡◌, ◌∙◌, ◌<◌, ◌+◌, [], ◌∷◌, ◌++◌, ℕ, List, length, take, get_or, set, ap, sym, subst, arith}
+use Rattle.std.proofs.Common.{◌≡◌, ◌∙◌, ◌<◌, [], ◌∷◌, ◌++◌, ℕ, List, length, take, get_or, set, subst, ap, sym, arith}
 use Rattle.clause_decision.proofs.Common.{get_or_default, Sig, Parts, gate_at, LoopAt, HasGainedReader}
 use Rattle.netlist.specs.declared.parts.Gate.{Gate}
 use Rattle.clause_decision.proofs.ReaderLemmas.{gained-nothing, gained-pin, taken-next}
@@ -19,13 +19,12 @@ loop-pin-preserved c =
           let fits = w.in-Some.ensures.fits in
           let low : n < length c.loop-pin.readers = omega (arith, fits, c.loop-pin.auto.readers, c.requires.size) in
           let row : List ℕ = get_or c.loop-pin.readers n w.index-readers-source.result in
-          subst (λ (rows : List (List ℕ)). HasGainedReader l gate (take (i + 1) pins) c.args.readers.now rows)
-          (sym (w.readers-is ∙ ap (λ (r : List ℕ). set c.loop-pin.readers n r) w.in_ok-push.ensures))
+          rw (w.readers-is, w.in_ok-push.ensures)
           (subst (λ (ps : List Sig). HasGainedReader l gate ps c.args.readers.now (set c.loop-pin.readers n (row ++ gate ∷ []))) (taken-next _ pins i _ read c.loop-pin-test.true)
           (gained-pin l c.net.ensures.is gate (take i pins) _ n c.args.readers.now c.loop-pin.readers row (sym c.source.ensures.source ∙ w.in-Some.is) low
           (get_or_default c.loop-pin.readers n w.index-readers-source.result [] low) c.loop-pin.invariant))
       | in_default w ↦
-          subst (λ (rows : List (List ℕ)). HasGainedReader l gate (take (i + 1) pins) c.args.readers.now rows) (sym w.readers-is)
+          rw w.readers-is
           (subst (λ (ps : List Sig). HasGainedReader l gate ps c.args.readers.now c.loop-pin.readers) (taken-next _ pins i _ read c.loop-pin-test.true)
           (gained-nothing l c.net.ensures.is gate (take i pins) _ c.args.readers.now c.loop-pin.readers (sym c.source.ensures.source ∙ w.in_default.is) c.loop-pin.invariant))
     ]

@@ -1,6 +1,6 @@
-use Rattle.std.proofs.Common.{◌≡◌, ◌+◌, ℕ, List, length, take, get_or, sym, subst, arith}
+use Rattle.std.proofs.Common.{◌≡◌, ℕ, List, length, take, get_or, subst, arith}
 use Rattle.std.proofs.lemmas.List.{with_items_is}
-use Rattle.clause_decision.proofs.Common.{gate_at, LoopAt, gates_in, HasGainedReader, AreReaders}
+use Rattle.clause_decision.proofs.Common.{gate_at, LoopAt, gates_in, HasGainedReader}
 use Rattle.clause_decision.proofs.LoopLemmas.{gates-fit}
 use Rattle.clause_decision.proofs.ReaderLemmas.{readers-more, taken-next}
 use Rattle.clause_decision.proofs.readers.readers_in.Goals as goal
@@ -17,6 +17,5 @@ loop-gate-preserved c =
     let new : List (List ℕ) = c.add_reader.new.readers in
     let gained : HasGainedReader l n (gate_at l.net n).pins old new = subst (λ (rows : List (List ℕ)). HasGainedReader l n (gate_at l.net n).pins rows new) c.deref_mut.ensures.value c.in_ok-add_reader.ensures in
     let size : length new ≡ c.loop-gate.readers.len = omega (arith, gained.size, c.loop-gate.readers.ok.0) in
-    subst (λ (rows : List (List ℕ)). AreReaders l (take (i + 1) (gates_in l)) rows) (sym (with_items_is c.loop-gate.readers new size))
-    (subst (λ (gates : List ℕ). AreReaders l gates new) (taken-next c.gates-gate-items.result.now (gates_in l) i 0 c.gates-gate-items.ensures.gates c.loop-gate-test.true)
-    (readers-more l (take i (gates_in l)) n old new gained c.loop-gate.invariant))
+    rw (with_items_is c.loop-gate.readers new size, ← taken-next c.gates-gate-items.result.now (gates_in l) i 0 c.gates-gate-items.ensures.gates c.loop-gate-test.true)
+    (readers-more l (take i (gates_in l)) n old new gained c.loop-gate.invariant)

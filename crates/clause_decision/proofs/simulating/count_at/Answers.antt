@@ -1,14 +1,13 @@
 use Rattle.std.proofs.Common.{rules, ◌≡◌, ◌∙◌, ◌+◌, ◌<◌, inl, inr, ℕ, Bool, List, length, get_or, replicate, refl, sym, ap, ap₂, subst, arith, length-append}
 use Rattle.std.specs.List.{Contains}
-use Rattle.std.specs.Vec.{with_items}
 use Rattle.clause_decision.proofs.Common.{cases_lt, length-map, Contains-get_or, Trit, X, bit, bits, Parts, fix, fix_gates, CutsAreFixed, value_in, IsReady, LoopAt, gates_in, loops_in, AreReaders}
 use Rattle.std.proofs.lemmas.Bool.Decides.{nat_tests}
 use Rattle.std.proofs.lemmas.List.{with_items_is}
 use Rattle.loops.proofs.Sweeps.{length-fix}
 use Rattle.clause_decision.specs.Events.{IsSwept}
 use Rattle.clause_decision.proofs.EventLemmas.{ready-first}
-use Rattle.clause_decision.proofs.LoopLemmas.{cuts-enough, gate-fits}
-use Rattle.clause_decision.proofs.SimulationLemmas.{changed-needs, still-fixed, swept-next, unknown-first}
+use Rattle.clause_decision.proofs.LoopLemmas.{cuts-enough}
+use Rattle.clause_decision.proofs.SimulationLemmas.{changed-fits, changed-needs, still-fixed, swept-next, swept_at}
 use Rattle.clause_decision.proofs.simulating.count_at.Goals as goal
 use Rattle.clause_decision.proofs.simulating.count_at.Goals.{After-deref-2}
 
@@ -23,15 +22,12 @@ loop-sweeps-init c =
     c.in_ok-before.ensures.items_if_clones_equal (search rules) ∙ ap (λ (n : ℕ). replicate n X) (c.gates.ensures.gates ∙ ap (λ (net : Parts). length net.gates) c.net-2.ensures.net) in
     let after : c.in_ok-after.after.items ≡ replicate (length l.net.gates) X =
     c.in_ok-after.ensures.items_if_clones_equal (search rules) ∙ ap (λ (n : ℕ). replicate n X) (c.gates-2.ensures.gates ∙ ap (λ (net : Parts). length net.gates) c.net-3.ensures.net) in
+    let waiting : c.in_ok-waiting.waiting.items ≡ gates_in l = c.in_ok-waiting.ensures.items_if_clones_equal (search rules) ∙ c.gates-3.ensures.gates in
     record {
-      ready = ready-first l (fix l.net (bits c.args.vector.now)) c.in_ok-before.before.items c.in_ok-after.after.items c.in_ok-waiting.waiting.items before after
-          (c.in_ok-waiting.ensures.items_if_clones_equal (search rules) ∙ c.gates-3.ensures.gates);
-      at = λ n there cut. unknown-first l.net (loops_in l) (bits c.args.vector.now) c.in_ok-before.before.items before n;
+      ready = rw (before, after, waiting) (ready-first l (fix l.net (bits c.args.vector.now)));
+      at = λ n there cut. ap (λ (s : List Trit). value_in s n) before;
       more = λ a j inside low. absurd (omega (arith, low));
     }
-
-pub sweep-requires-clause-block : goal.sweep-requires-clause-block
-sweep-requires-clause-block c = c.cut_count-most.ensures.is
 
 pub sweep-requires-clause-readers : goal.sweep-requires-clause-readers
 sweep-requires-clause-readers c = subst (λ (rows : List (List ℕ)). AreReaders c.args.block.now (gates_in c.args.block.now) rows) (sym c.deref.ensures.value) c.in_ok-readers.ensures
@@ -48,11 +44,8 @@ invariant_of-simulation g =
 pub sweep-requires-clause-ready : goal.sweep-requires-clause-ready
 sweep-requires-clause-ready c =
     let l : LoopAt = c.args.block.now in
-    let outside : List Trit = fix l.net (bits c.args.vector.now) in
-    let waiting : List ℕ = c.loop-sweeps.waiting.items in
-    subst (λ (s : List Trit). IsReady l s c.deref-in-loop-sweeps.result.now c.deref_mut.result.now waiting) (sym (outside_is (goal.at.sweep-requires-clause-ready c).After-deref-2))
-    (subst (λ (s : List Trit). IsReady l outside s c.deref_mut.result.now waiting) (sym c.deref-in-loop-sweeps.ensures.value)
-    (subst (λ (s : List Trit). IsReady l outside c.loop-sweeps.before.items s waiting) (sym c.deref_mut.ensures.value) c.loop-sweeps.invariant.ready))
+    let outside_at : c.deref-2.result.now ≡ fix l.net (bits c.args.vector.now) = outside_is (goal.at.sweep-requires-clause-ready c).After-deref-2 in
+    rw (outside_at, c.deref-in-loop-sweeps.ensures.value, c.deref_mut.ensures.value) c.loop-sweeps.invariant.ready
 
 pub returns-then-is_empty : goal.returns-then-is_empty
 returns-then-is_empty c =
@@ -66,8 +59,7 @@ returns-then-is_empty c =
     let changed : List ℕ = c.in_ok-changed.changed.items in
     let inv = c.loop-sweeps.invariant in
     let swept : IsSwept l outside before after changed =
-    subst (λ (s : List Trit). IsSwept l s before after changed) (outside_is (goal.at.returns-then-is_empty c).After-deref-2)
-    (subst (λ (s : List Trit). IsSwept l c.deref-2.result.now s after changed) c.deref-in-loop-sweeps.ensures.value c.in_ok-changed.ensures) in
+    swept_at l _ outside _ before after changed (outside_is (goal.at.returns-then-is_empty c).After-deref-2) c.deref-in-loop-sweeps.ensures.value c.in_ok-changed.ensures in
     let none : length changed ≡ 0 = (let empty = c.if-is_empty.ensures in let own = c.in_ok-changed.changed.ok.0 in grind (arith, nat_tests)) in
     let next = swept-next l is (bits v) outside before after k refl swept.sweeping inv.at in
     record {
@@ -78,28 +70,19 @@ returns-then-is_empty c =
 
 pub show-requires-clause-readers : goal.show-requires-clause-readers
 show-requires-clause-readers c k d low =
-    let l : LoopAt = c.args.block.now in
-    let n : ℕ = get_or c.deref-in-loop-sweeps-3.result.now k d in
-    let listed : Contains c.in_ok-changed.changed.items n = subst (λ (ns : List ℕ). Contains ns n) c.deref-in-loop-sweeps-3.ensures.value (Contains-get_or c.deref-in-loop-sweeps-3.result.now k d low) in
-    let fits = gate-fits l c.cut_count-most.ensures.is n (c.in_ok-changed.ensures.unseen.inside n listed) in
+    let fits = changed-fits c.args.block.now c.cut_count-most.ensures.is _ _ _ _ c.deref-in-loop-sweeps-3.result.now c.deref-in-loop-sweeps-3.ensures.value c.in_ok-changed.ensures k d low in
     let size = ap length c.deref-in-loop-sweeps-2.ensures.value in
     omega (arith, fits, size, c.in_ok-readers.ensures.size)
 
 pub show-requires-clause-before : goal.show-requires-clause-before
 show-requires-clause-before c k d low =
-    let l : LoopAt = c.args.block.now in
-    let n : ℕ = get_or c.deref-in-loop-sweeps-3.result.now k d in
-    let listed : Contains c.in_ok-changed.changed.items n = subst (λ (ns : List ℕ). Contains ns n) c.deref-in-loop-sweeps-3.ensures.value (Contains-get_or c.deref-in-loop-sweeps-3.result.now k d low) in
-    let fits = gate-fits l c.cut_count-most.ensures.is n (c.in_ok-changed.ensures.unseen.inside n listed) in
+    let fits = changed-fits c.args.block.now c.cut_count-most.ensures.is _ _ _ _ c.deref-in-loop-sweeps-3.result.now c.deref-in-loop-sweeps-3.ensures.value c.in_ok-changed.ensures k d low in
     let size = ap length c.deref_mut-in-loop-sweeps.ensures.value in
     omega (arith, fits, size, c.loop-sweeps.invariant.ready.sweeping.width_before)
 
 pub show-requires-clause-after : goal.show-requires-clause-after
 show-requires-clause-after c k d low =
-    let l : LoopAt = c.args.block.now in
-    let n : ℕ = get_or c.deref-in-loop-sweeps-3.result.now k d in
-    let listed : Contains c.in_ok-changed.changed.items n = subst (λ (ns : List ℕ). Contains ns n) c.deref-in-loop-sweeps-3.ensures.value (Contains-get_or c.deref-in-loop-sweeps-3.result.now k d low) in
-    let fits = gate-fits l c.cut_count-most.ensures.is n (c.in_ok-changed.ensures.unseen.inside n listed) in
+    let fits = changed-fits c.args.block.now c.cut_count-most.ensures.is _ _ _ _ c.deref-in-loop-sweeps-3.result.now c.deref-in-loop-sweeps-3.ensures.value c.in_ok-changed.ensures k d low in
     let width = c.in_ok-changed.ensures.sweeping.width_after in
     let owned : length c.sweep.new.after ≡ c.loop-sweeps.after.len = omega (arith, width, c.loop-sweeps.invariant.ready.sweeping.width_after, c.loop-sweeps.after.ok.0) in
     let size = ap length (c.deref-in-loop-sweeps-4.ensures.value ∙ with_items_is c.loop-sweeps.after c.sweep.new.after owned) in
@@ -119,16 +102,13 @@ loop-sweeps-preserved c =
     let waiting : List ℕ = c.in_ok-waiting-2.waiting.items in
     let inv = c.loop-sweeps.invariant in
     let swept : IsSwept l outside before after changed =
-    subst (λ (s : List Trit). IsSwept l s before after changed) (outside_is (goal.at.loop-sweeps-preserved c).After-deref-2)
-    (subst (λ (s : List Trit). IsSwept l c.deref-2.result.now s after changed) c.deref-in-loop-sweeps.ensures.value c.in_ok-changed.ensures) in
+    swept_at l _ outside _ before after changed (outside_is (goal.at.loop-sweeps-preserved c).After-deref-2) c.deref-in-loop-sweeps.ensures.value c.in_ok-changed.ensures in
     let owned : length after ≡ c.loop-sweeps.after.len = omega (arith, swept.sweeping.width_after, inv.ready.sweeping.width_after, c.loop-sweeps.after.ok.0) in
     let after_is = with_items_is c.loop-sweeps.after after owned in
     let read : c.deref-in-loop-sweeps-4.result.now ≡ after = c.deref-in-loop-sweeps-4.ensures.value ∙ after_is in
     let readers : AreReaders l (gates_in l) c.deref-in-loop-sweeps-2.result.now = subst (λ (rows : List (List ℕ)). AreReaders l (gates_in l) rows) (sym c.deref-in-loop-sweeps-2.ensures.value) c.in_ok-readers.ensures in
     let given : IsSwept l outside c.deref_mut-in-loop-sweeps.result.now c.deref-in-loop-sweeps-4.result.now c.deref-in-loop-sweeps-3.result.now =
-    subst (λ (s : List Trit). IsSwept l outside s c.deref-in-loop-sweeps-4.result.now c.deref-in-loop-sweeps-3.result.now) (sym c.deref_mut-in-loop-sweeps.ensures.value)
-    (subst (λ (s : List Trit). IsSwept l outside before s c.deref-in-loop-sweeps-3.result.now) (sym read)
-    (subst (λ (ns : List ℕ). IsSwept l outside before after ns) (sym c.deref-in-loop-sweeps-3.ensures.value) swept)) in
+    rw (c.deref_mut-in-loop-sweeps.ensures.value, read, c.deref-in-loop-sweeps-3.ensures.value) swept in
     let ready : IsReady l outside shown after waiting = subst (λ (s : List Trit). IsReady l outside shown s waiting) read (c.in_ok-waiting-2.ensures l outside readers given) in
     let owned_before : length shown ≡ c.loop-sweeps.before.len = omega (arith, ready.sweeping.width_before, inv.ready.sweeping.width_before, c.loop-sweeps.before.ok.0) in
     let before_is = with_items_is c.loop-sweeps.before shown owned_before in
@@ -137,9 +117,7 @@ loop-sweeps-preserved c =
     let listed : Contains changed wire = Contains-get_or changed 0 0 some in
     let next = swept-next l is (bits v) outside before after k refl swept.sweeping inv.at in
     record {
-      ready =
-          subst (λ (s : List Trit). IsReady l outside s (with_items c.loop-sweeps.after after).items waiting) (sym before_is)
-          (subst (λ (s : List Trit). IsReady l outside shown s waiting) (sym after_is) ready);
+      ready = rw (before_is, after_is) ready;
       at = λ n there cut.
           ap (λ (s : List Trit). value_in s n) before_is
           ∙ elim (ready.unseen.each n there cut) [ inl alike ↦ alike | inr none ↦ absurd (omega (arith, none.1)) ]

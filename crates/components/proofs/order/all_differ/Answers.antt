@@ -9,20 +9,13 @@ loop-number-init c = rw (c.in_ok-seen.ensures.items_if_clones_equal (λ y e. e))
 
 pub returns-then-index-clause-pair : goal.returns-then-index-clause-pair
 returns-then-index-clause-pair c e =
-    let below = c.requires c.loop-number.number-index 0 c.loop-number-test.true in
-    let size = c.loop-number.invariant.size in
-    seen_pair c.args.numbers.now c.loop-number.seen.items c.args.count c.loop-number.number-index c.loop-number.invariant c.loop-number-test.true
-    (get_or_default c.loop-number.seen.items (get_or c.args.numbers.now c.loop-number.number-index 0) false c.index.result.now (omega arith) ∙ sym c.index.ensures ∙ c.if-index.true)
+    grind (arith, seen_pair c.args.numbers.now c.loop-number.seen.items c.args.count c.loop-number.number-index c.loop-number.invariant c.loop-number-test.true, get_or_default c.loop-number.seen.items (get_or c.args.numbers.now c.loop-number.number-index 0) false c.index.result.now)
 
 pub loop-number-preserved : goal.loop-number-preserved
 loop-number-preserved c =
-    let below = c.requires c.loop-number.number-index 0 c.loop-number-test.true in
-    let size = c.loop-number.invariant.size in
-    seen_more c.args.numbers.now c.loop-number.seen.items c.args.count c.loop-number.number-index c.loop-number.invariant c.loop-number-test.true (omega arith)
-    (get_or_default c.loop-number.seen.items (get_or c.args.numbers.now c.loop-number.number-index 0) false c.index.result.now (omega arith) ∙ sym c.index.ensures ∙ c.if-index.false)
+    grind (arith, seen_more c.args.numbers.now c.loop-number.seen.items c.args.count c.loop-number.number-index c.loop-number.invariant c.loop-number-test.true, get_or_default c.loop-number.seen.items (get_or c.args.numbers.now c.loop-number.number-index 0) false c.index.result.now)
 
 pub returns-clause-all : goal.returns-clause-all
 returns-clause-all c e =
     let end : c.loop-number.number-index ≡ length c.args.numbers.now = omega arith in
-    all_seen c.args.numbers.now c.loop-number.seen.items c.args.count
-    (subst (λ (n : ℕ). HasSeen c.args.numbers.now c.loop-number.seen.items c.args.count n) end c.loop-number.invariant)
+    grind (arith, all_seen c.args.numbers.now c.loop-number.seen.items c.args.count)

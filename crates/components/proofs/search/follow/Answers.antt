@@ -6,10 +6,7 @@ use Rattle.components.proofs.StepLemmas.{passed_advances, opened_advances, merge
 use Rattle.components.proofs.search.follow.Goals as goal
 
 pub returns-then-target-as_slice : goal.returns-then-target-as_slice
-returns-then-target-as_slice c =
-    let size = c.requires.following.sound.size in
-    let len = ap (λ marks. length marks) c.as_slice.ensures.value in
-    passed_advances c.args.graph.now (state_of c.args.search.now) c.args.target c.requires.following (inr (omega (arith, size, len)))
+returns-then-target-as_slice c = grind (arith, passed_advances c.args.graph.now (state_of c.args.search.now) c.args.target c.requires.following)
 
 pub returns-in-New : goal.returns-in-New
 returns-in-New c =
@@ -23,14 +20,7 @@ returns-in-New c =
 
 pub returns-in-Open : goal.returns-in-Open
 returns-in-Open c =
-    let len = ap (λ marks. length marks) c.as_slice.ensures.value in
-    let within : c.args.target < length c.args.search.now.marks.items = omega (arith, len) in
-    let is_open = mark_read c.args.search.now.marks.items c.args.target c.index.result.now (Open c.in-Open.place) within c.index.ensures c.in-Open.is in
-    merged_advances c.args.graph.now (state_of c.args.search.now) c.args.target c.in-Open.place c.merge.new.groups.items c.requires.following is_open c.merge.ensures
+    grind (arith, mark_read c.args.search.now.marks.items c.args.target c.index.result.now (Open c.in-Open.place), merged_advances c.args.graph.now (state_of c.args.search.now) c.args.target c.in-Open.place c.merge.new.groups.items c.requires.following)
 
 pub returns-in-Closed : goal.returns-in-Closed
-returns-in-Closed c =
-    let len = ap (λ marks. length marks) c.as_slice.ensures.value in
-    let within : c.args.target < length c.args.search.now.marks.items = omega (arith, len) in
-    let is_closed = mark_read c.args.search.now.marks.items c.args.target c.index.result.now (Closed c.in-Closed.field-0) within c.index.ensures c.in-Closed.is in
-    passed_advances c.args.graph.now (state_of c.args.search.now) c.args.target c.requires.following (inl (c.in-Closed.field-0, is_closed))
+returns-in-Closed c = grind (arith, mark_read c.args.search.now.marks.items c.args.target c.index.result.now (Closed c.in-Closed.field-0), passed_advances c.args.graph.now (state_of c.args.search.now) c.args.target c.requires.following)

@@ -4,13 +4,10 @@ use Rattle.components.proofs.StepLemmas.{last_begins, taken_following, closed_ad
 use Rattle.components.proofs.search.step.Goals as goal
 
 pub follow-requires-clause-following : goal.follow-requires-clause-following
-follow-requires-clause-following c =
-    taken_following c.args.graph.now (state_of c.args.search.now) c.next_edge.new.waiting.items c.args.group c.in-Some.target c.requires.searching c.requires.last c.in-Some.ensures.some
+follow-requires-clause-following c = grind (arith, taken_following c.args.graph.now (state_of c.args.search.now) c.next_edge.new.waiting.items c.args.group c.in-Some.target c.requires.searching c.requires.last c.in-Some.ensures.some)
 
 pub close-requires-clause-nodes : goal.close-requires-clause-nodes
-close-requires-clause-nodes c =
-    let begins = last_begins c.args.graph.now (state_of c.args.search.now) c.requires.searching.sound c.args.group c.requires.last in
-    omega (arith, begins)
+close-requires-clause-nodes c = grind (arith, last_begins c.args.graph.now (state_of c.args.search.now) c.requires.searching.sound c.args.group c.requires.last)
 
 pub close-requires-clause-within : goal.close-requires-clause-within
 close-requires-clause-within c = path_marked c.args.graph.now (state_of c.args.search.now) c.requires.searching.sound

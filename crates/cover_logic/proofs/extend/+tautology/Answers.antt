@@ -31,11 +31,7 @@ rows_are_tautology-returns-then-not-any_row_maybe_matches t c =
     sym (never c.args.rows.now c.args.pins.now (sym c.any_row_maybe_matches.ensures ∙ c.if-not-any_row_maybe_matches.true))
 
 pub rows_are_tautology-returns-in_default : goal.rows_are_tautology-returns-in_default
-rows_are_tautology-returns-in_default t c =
-    absurd (true≢false
-    (sym (decided c.args.rows.now c.args.pins.now (rw c.in_default.is at c.in_ok-pin.ensures.none) (sym c.any_row_maybe_matches.ensures ∙ c.if-not-any_row_maybe_matches.false))
-    ∙ sym c.any_row_surely_matches.ensures
-    ∙ c.if-any_row_surely_matches.false))
+rows_are_tautology-returns-in_default t c = grind (arith, true≢false, decided)
 
 pub rows_are_tautology-returns-in-Some-harder_value :
     goal.rows_are_tautology-returns-in-Some-harder_value
@@ -47,18 +43,10 @@ rows_are_tautology-returns-in-Some-harder_value t c =
     c.cofactor_is_tautology.ensures
 
 pub rows_are_tautology-returns-then-low : goal.rows_are_tautology-returns-then-low
-rows_are_tautology-returns-then-low t c =
-    let unknown = rw c.in-Some.is at c.in_ok-pin.ensures.unknown in
-    subst (λ b. IfOk c.cofactor_is_tautology-then-low.result (λ all. all ≡ b))
-    (first_holds c.args.rows.now c.args.pins.now c.in-Some.pin
-    (get_or_from_slice_get c.args.pins.now c.in-Some.pin X X unknown) (sym c.in_ok-low-in-None.ensures ∙ c.if-low.true))
-    c.cofactor_is_tautology-then-low.ensures
+rows_are_tautology-returns-then-low t c = grind (arith, first_holds, get_or_from_slice_get)
 
 pub rows_are_tautology-returns-else-low : goal.rows_are_tautology-returns-else-low
-rows_are_tautology-returns-else-low t c =
-    let unknown = rw c.in-Some.is at c.in_ok-pin.ensures.unknown in
-    sym (first_fails c.args.rows.now c.args.pins.now c.in-Some.pin
-    (get_or_from_slice_get c.args.pins.now c.in-Some.pin X X unknown) (sym c.in_ok-low-in-None.ensures ∙ c.if-low.false))
+rows_are_tautology-returns-else-low t c = grind (arith, first_fails, get_or_from_slice_get)
 
 pub cofactor_is_tautology-returns-then-any_row_surely_matches :
     goal.cofactor_is_tautology-returns-then-any_row_surely_matches
@@ -78,16 +66,4 @@ open_are_tautology-rows_are_tautology-requires t c =
     (omega arith, tt)
 
 pub open_are_tautology-returns : goal.open_are_tautology-returns
-open_are_tautology-returns t c =
-    let value = c.deref.ensures.value in
-    let value-2 = c.deref-2.ensures.value in
-    let value-3 = c.deref-3.ensures.value in
-    let kept = c.in_ok-open.ensures in
-    let kept-2 = c.unknown_pins-unknown.ensures in
-    let rows : c.deref-2.result.now ≡ open_rows c.args.rows.now c.args.pins.items = cc in
-    let pins : c.deref-3.result.now ≡ open_pins c.args.pins.items = cc in
-    let same : is_tautology c.deref-2.result.now c.deref-3.result.now ≡ is_tautology c.args.rows.now c.args.pins.items =
-    ap (λ r. is_tautology r c.deref-3.result.now) rows
-    ∙ ap (is_tautology (open_rows c.args.rows.now c.args.pins.items)) pins
-    ∙ same_open c.args.rows.now c.args.pins.items in
-    subst (λ b. IfOk c.rows_are_tautology.result (λ all. all ≡ b)) same c.rows_are_tautology.ensures
+open_are_tautology-returns t c = grind (arith, same_open)

@@ -1,7 +1,7 @@
 use Rattle.std.proofs.Common.{[], ◌∷◌, ◌+◌, ◌*◌, sym, ◌∙◌, subst, get_or, true≢false, arith}
 use Rattle.fixpoint.proofs.Common.{get_or_default, GrowsWithin, NoOtherCause, within_then, within_moved, within_more, within_refused, within_answered, Rails, SameRailsOn, IsCompared, rails_at, unknown, IsWide}
 use Rattle.fixpoint.proofs.CompareLemmas.{place-wide}
-use Rattle.fixpoint.proofs.CountLemmas.{SameRailsOn-back, SameRailsOn-forth, more_agree}
+use Rattle.fixpoint.proofs.CountLemmas.{SameRailsOn-moved, more_agree}
 use Rattle.fixpoint.proofs.counting.agree_on.Goals as goal
 use Rattle.fixpoint.proofs.counting.agree_on.Goals.{After-same_rails_on}
 
@@ -19,7 +19,7 @@ returns-then-not-branch-clause-agree c =
     let width = c.requires.width in (
       λ e. absurd (true≢false (sym e)),
       λ agree. sym c.if-not-branch.true ∙ c.in_ok-same_rails_on.ensures.same.1
-          (SameRailsOn-forth c.loop-place.invariant.grows.keeps c.requires.care (c.requires.step place unknown (omega arith)) (c.requires.last place unknown less) (agree place unknown less)),
+          (SameRailsOn-moved c.args.d.now c.loop-place.d c.args.d.now c.args.care (λ n bits is. sym (c.loop-place.invariant.grows.keeps.function n bits is)) c.requires.care (rails_at c.args.step.now place) (rails_at c.args.last.now place) (c.requires.step place unknown (omega arith)) (c.requires.last place unknown less) (agree place unknown less)),
     )
 
 pub loop-place-preserved : goal.loop-place-preserved
@@ -30,7 +30,7 @@ loop-place-preserved c =
     let xs = c.args.step.now in
     let ys = c.args.last.now in
     let here : SameRailsOn c.args.d.now c.args.care (rails_at xs place) (rails_at ys place) =
-    SameRailsOn-back c.loop-place.invariant.grows.keeps c.requires.care (c.requires.step place unknown (omega arith)) (c.requires.last place unknown less) (c.in_ok-same_rails_on.ensures.same.0 c.if-not-branch.false) in
+    SameRailsOn-moved c.loop-place.d c.args.d.now c.args.d.now c.args.care c.loop-place.invariant.grows.keeps.function c.requires.care (rails_at xs place) (rails_at ys place) (c.requires.step place unknown (omega arith)) (c.requires.last place unknown less) (c.in_ok-same_rails_on.ensures.same.0 c.if-not-branch.false) in
     record {
       grows = within_more (omega arith) (within_answered (step ((goal.at.loop-place-preserved c).After-same_rails_on)));
       within = omega (arith, less);

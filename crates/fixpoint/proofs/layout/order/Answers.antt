@@ -1,5 +1,5 @@
 use Rattle.std.proofs.Common.{◌≡◌, ◌∙◌, ◌+◌, ◌++◌, [], ℕ, Bool, List, false, length, drop, take, replicate, sym, ap, ap₂, subst, arith}
-use Rattle.fixpoint.proofs.Common.{range_with_len, append-nil, length-replicate, take_all, IsLayout, Sig, first_gate, columns_read, first_signals, AreTaken}
+use Rattle.fixpoint.proofs.Common.{range_with_len, length-replicate, IsLayout, Sig, first_gate, columns_read, first_signals, AreTaken}
 use Rattle.std.proofs.lemmas.List.{take_at}
 use Rattle.fixpoint.specs.Orders.{order}
 use Rattle.fixpoint.proofs.OrderLemmas.{columns-more, gate-more, order-is, taken-none}
@@ -7,21 +7,14 @@ use Rattle.fixpoint.proofs.layout.order.Goals as goal
 
 pub loop-column-preserved : goal.loop-column-preserved
 loop-column-preserved c =
-    let net = c.args.net.now in
-    let read : List ℕ = columns_read (first_gate net) net.gates in
+    let read : List ℕ = columns_read (first_gate c.args.net.now) c.args.net.now.gates in
     let column : ℕ = c.loop-column.column in
     let marks : List Bool = c.take_column.new.marks in
-    let items : List Bool = c.loop-column.marks.items in
-    let value : c.deref_mut-in-loop-column.result.now ≡ items = c.deref_mut-in-loop-column.ensures.value in
-    let width : length marks ≡ first_gate net = c.take_column.ensures.width ∙ ap length value ∙ c.loop-column.invariant.width in
-    let long : length marks ≡ c.loop-column.marks.len = c.take_column.ensures.width ∙ c.deref_mut-in-loop-column.ensures.len in
-    let back = take_at marks (drop (length marks) items) c.loop-column.marks.len long in
-    let before : AreTaken (read ++ range_with_len 0 column) c.deref_mut-in-loop-column.result.now c.loop-column.columns.items =
-    subst (λ (ms : List Bool). AreTaken (read ++ range_with_len 0 column) ms c.loop-column.columns.items) (sym value) c.loop-column.invariant.taken in
+    let value = c.deref_mut-in-loop-column.ensures.value in
+    let back = take_at marks (drop (length marks) c.loop-column.marks.items) c.loop-column.marks.len (c.take_column.ensures.width ∙ c.deref_mut-in-loop-column.ensures.len) in
     record {
-      width = ap length back ∙ width;
-      taken = subst (λ (ms : List Bool). AreTaken (read ++ range_with_len 0 (column + 1)) ms c.take_column.new.columns.items) (sym back)
-          (subst (λ (xs : List ℕ). AreTaken xs marks c.take_column.new.columns.items) (columns-more read column) (c.in_ok-take_column.ensures.taken (read ++ range_with_len 0 column) before));
+      width = ap length back ∙ c.take_column.ensures.width ∙ ap length value ∙ c.loop-column.invariant.width;
+      taken = rw (back, ← columns-more read column) (c.in_ok-take_column.ensures.taken (read ++ range_with_len 0 column) (rw value c.loop-column.invariant.taken));
     }
 
 pub returns-clause-layout : goal.returns-clause-layout
@@ -49,28 +42,12 @@ loop-gate-preserved c =
     let n : ℕ = first_gate net in
     let gate : ℕ = c.loop-gate.gate in
     let marks : List Bool = c.take_read.new.marks in
-    let items : List Bool = c.loop-gate.marks.items in
-    let value : c.deref_mut.result.now ≡ items = c.deref_mut.ensures.value in
-    let width : length marks ≡ n = c.in_ok-take_read.ensures.width ∙ ap length value ∙ c.loop-gate.invariant.width in
+    let value = c.deref_mut.ensures.value in
     let old : length c.deref_mut.result.now ≡ n = ap length value ∙ c.loop-gate.invariant.width in
-    let long : length marks ≡ c.loop-gate.marks.len = c.in_ok-take_read.ensures.width ∙ c.deref_mut.ensures.len in
-    let back = take_at marks (drop (length marks) items) c.loop-gate.marks.len long in
-    let before : AreTaken (columns_read n (take gate net.gates)) c.deref_mut.result.now c.loop-gate.columns.items =
-    subst (λ (ms : List Bool). AreTaken (columns_read n (take gate net.gates)) ms c.loop-gate.columns.items) (sym value) c.loop-gate.invariant.taken in
+    let back = take_at marks (drop (length marks) c.loop-gate.marks.items) c.loop-gate.marks.len (c.in_ok-take_read.ensures.width ∙ c.deref_mut.ensures.len) in
     let more : columns_read n (take gate net.gates) ++ first_signals (length c.deref_mut.result.now) c.items.result.now ≡ columns_read n (take (gate + 1) net.gates) =
     ap₂ (λ m (ps : List Sig). columns_read n (take gate net.gates) ++ first_signals m ps) old c.items.ensures ∙ sym (gate-more n net.gates gate c.gate.result.now c.gate.ensures.gate) in
     record {
-      width = ap length back ∙ width;
-      taken = subst (λ (ms : List Bool). AreTaken (columns_read n (take (gate + 1) net.gates)) ms c.take_read.new.columns.items) (sym back)
-          (subst (λ (xs : List ℕ). AreTaken xs marks c.take_read.new.columns.items) more (c.in_ok-take_read.ensures.taken (columns_read n (take gate net.gates)) before));
-    }
-
-pub loop-column-init : goal.loop-column-init
-loop-column-init c =
-    let net = c.args.net.now in
-    let all : take c.loop-gate.gate net.gates ≡ net.gates = take_all c.loop-gate.gate net.gates (omega (arith, c.loop-gate-test.false, c.gates-gate-end.ensures.gates)) in
-    record {
-      width = c.loop-gate.invariant.width;
-      taken = subst (λ (xs : List ℕ). AreTaken xs c.loop-gate.marks.items c.loop-gate.columns.items) (ap (columns_read (first_gate net)) all ∙ sym (append-nil (columns_read (first_gate net) net.gates)))
-          c.loop-gate.invariant.taken;
+      width = ap length back ∙ c.in_ok-take_read.ensures.width ∙ old;
+      taken = rw (back, ← more) (c.in_ok-take_read.ensures.taken (columns_read n (take gate net.gates)) (rw value c.loop-gate.invariant.taken));
     }

@@ -1,5 +1,5 @@
-use Rattle.std.proofs.Common.{◌≡◌, ◌∙◌, ℕ, List, set, sym, ap, subst, arith, map}
-use Rattle.fixpoint.proofs.Common.{within_moved, within_refused, within_answered, value, ext, Rails, BoundsEach, IsExtended, Gate, gate_at, BoundsGate}
+use Rattle.std.proofs.Common.{◌≡◌, ◌∙◌, set, ap, arith, map}
+use Rattle.fixpoint.proofs.Common.{within_moved, within_refused, within_answered, value, ext, Gate, gate_at}
 use Rattle.fixpoint.specs.Lifting.{rails_of_pin}
 use Rattle.fixpoint.proofs.WireLemmas.{rails_at-proper, pins-proper, pins-values}
 use Rattle.fixpoint.proofs.lifting.lift_gate.Goals as goal
@@ -14,11 +14,6 @@ gate_rails-requires-clause-rails c =
 listed : (c : After-gate_rails) → c.deref.result.now ≡ map (rails_of_pin c.args.rails.now) (gate_at c.args.net.now c.args.gate).pins
 listed c = c.deref.ensures.value ∙ c.in-Ok.ensures ∙ ap (map (rails_of_pin c.args.rails.now)) (c.items.ensures ∙ ap (λ (g : Gate). g.pins) c.gate.ensures.at)
 
-bounded : (c : After-gate_rails) (w : ℕ) → BoundsGate c.args.net.now c.args.d.now c.args.rails.now c.args.gate w →
-    BoundsEach c.args.d.now.vars (IsExtended c.args.d.now c.deref.result.now (value (gate_at c.args.net.now c.args.gate).cover)) w
-bounded c w bounds =
-    subst (λ (list : List Rails). BoundsEach c.args.d.now.vars (IsExtended c.args.d.now list (value (gate_at c.args.net.now c.args.gate).cover)) w) (sym (listed c)) bounds
-
 pub returns-clause-set : goal.returns-clause-set
 returns-clause-set c = record {
   made = c.in_ok-made.made;
@@ -30,7 +25,7 @@ returns-clause-set c = record {
 }
 
 pub returns-clause-grows : goal.returns-clause-grows
-returns-clause-grows c = within_answered (within_moved (bounded ((goal.at.returns-clause-grows c).After-gate_rails)) c.gate_rails.ensures.grows)
+returns-clause-grows c = within_answered (within_moved (λ w bounds. rw (listed (goal.at.returns-clause-grows c).After-gate_rails) bounds) c.gate_rails.ensures.grows)
 
 pub returns-in_err-made-clause-grows : goal.returns-in_err-made-clause-grows
-returns-in_err-made-clause-grows c = within_refused c.in_err-made.was c.from_residual.ensures.1 (within_moved (bounded ((goal.at.returns-in_err-made-clause-grows c).After-gate_rails)) c.gate_rails.ensures.grows)
+returns-in_err-made-clause-grows c = within_refused c.in_err-made.was c.from_residual.ensures.1 (within_moved (λ w bounds. rw (listed (goal.at.returns-in_err-made-clause-grows c).After-gate_rails) bounds) c.gate_rails.ensures.grows)

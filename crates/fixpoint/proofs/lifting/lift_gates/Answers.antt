@@ -1,11 +1,12 @@
 use Rattle.std.proofs.Common.{◌≡◌, ◌++◌, ◌∙◌, List, length, replicate, take, drop, sym, ap, subst}
 use Rattle.fixpoint.proofs.Common.{All, within_refused, within_answered, Rails, AreRailsOf, values_of, AreLifted, unknown}
-use Rattle.fixpoint.proofs.LiftLemmas.{rails-start, lifted-start, written}
+use Rattle.std.proofs.lemmas.List.{take_at}
+use Rattle.fixpoint.proofs.LiftLemmas.{lifted-start}
 use Rattle.fixpoint.proofs.lifting.lift_gates.Goals as goal
-use Rattle.fixpoint.proofs.lifting.lift_gates.Goals.{After-lift_in_order}
+use Rattle.fixpoint.proofs.lifting.lift_gates.Goals.{After-deref_mut, After-lift_in_order}
 
 -- before the gates, inputs and latches have the given values
-start : (c : After-lift_in_order) → AreLifted c.args.net.now c.deref-2.result.now c.args.d.now (λ bits. values_of c.args.d.now c.args.given.now bits) 0 c.deref_mut.result.now
+start : (c : After-deref_mut) → AreLifted c.args.net.now c.deref-2.result.now c.args.d.now (λ bits. values_of c.args.d.now c.args.given.now bits) 0 c.deref_mut.result.now
 start c =
     lifted-start c.args.net.now c.deref-2.result.now c.args.d.now c.args.given.now c.deref_mut.result.now c.requires.width c.requires.rails
     (c.deref_mut.ensures.value ∙ c.in-Ok-signal_rails.ensures
@@ -13,15 +14,10 @@ start c =
 
 -- after them, all rails are given back
 given-back : (c : After-lift_in_order) → take c.in-Ok-signal_rails.rails.len (c.lift_in_order.new.rails ++ drop (length c.lift_in_order.new.rails) c.in-Ok-signal_rails.rails.items) ≡ c.lift_in_order.new.rails
-given-back c =
-    written c.in-Ok-signal_rails.rails.len c.lift_in_order.new.rails c.in-Ok-signal_rails.rails.items
-    (sym c.deref_mut.ensures.len ∙ ap length c.deref_mut.ensures.value) (c.lift_in_order.auto.rails ∙ ap length c.deref_mut.ensures.value)
+given-back c = take_at c.lift_in_order.new.rails (drop (length c.lift_in_order.new.rails) c.in-Ok-signal_rails.rails.items) c.in-Ok-signal_rails.rails.len (c.lift_in_order.auto.rails ∙ c.deref_mut.ensures.len)
 
 pub lift_in_order-requires-clause-wires : goal.lift_in_order-requires-clause-wires
-lift_in_order-requires-clause-wires c =
-    rails-start c.args.net.now c.args.d.now c.args.given.now c.deref_mut.result.now c.requires.width c.requires.rails
-    (c.deref_mut.ensures.value ∙ c.in-Ok-signal_rails.ensures
-    ∙ ap (λ (rails : List Rails). c.args.given.now ++ rails) (c.deref.ensures.value ∙ c.in-Ok.ensures ∙ ap (λ n. replicate n unknown) c.gates.ensures.gates))
+lift_in_order-requires-clause-wires c = (start (goal.at.lift_in_order-requires-clause-wires c).After-deref_mut).wires
 
 pub returns-clause-rails : goal.returns-clause-rails
 returns-clause-rails c =
@@ -30,14 +26,11 @@ returns-clause-rails c =
 pub returns-clause-values : goal.returns-clause-values
 returns-clause-values c bits =
     ap (λ (rails : List Rails). values_of c.lift_in_order.new.d rails bits) (given-back (goal.at.returns-clause-values c).After-lift_in_order)
-    ∙ c.in_ok-lift_in_order.ensures.values (λ bs. values_of c.args.d.now c.args.given.now bs) (start (goal.at.returns-clause-values c).After-lift_in_order) bits
+    ∙ c.in_ok-lift_in_order.ensures.values (λ bs. values_of c.args.d.now c.args.given.now bs) (start (goal.at.returns-clause-values c).After-deref_mut) bits
 
 pub returns-clause-grows : goal.returns-clause-grows
-returns-clause-grows c = within_answered (c.lift_in_order.ensures.grows (λ bits. values_of c.args.d.now c.args.given.now bits) (start ((goal.at.returns-clause-grows c).After-lift_in_order)))
+returns-clause-grows c = within_answered (c.lift_in_order.ensures.grows (λ bits. values_of c.args.d.now c.args.given.now bits) (start (goal.at.returns-clause-grows c).After-deref_mut))
 
 pub returns-in_err-lift_in_order-clause-grows : goal.returns-in_err-lift_in_order-clause-grows
 returns-in_err-lift_in_order-clause-grows c =
-    within_refused c.in_err-lift_in_order.was c.from_residual.ensures.1 (c.lift_in_order.ensures.grows (λ bits. values_of c.args.d.now c.args.given.now bits) (start ((goal.at.returns-in_err-lift_in_order-clause-grows c).After-lift_in_order)))
-
-pub returns-clause-width : goal.returns-clause-width
-returns-clause-width c = ap length (given-back (goal.at.returns-clause-width c).After-lift_in_order) ∙ c.in_ok-lift_in_order.ensures.wires.width
+    within_refused c.in_err-lift_in_order.was c.from_residual.ensures.1 (c.lift_in_order.ensures.grows (λ bits. values_of c.args.d.now c.args.given.now bits) (start (goal.at.returns-in_err-lift_in_order-clause-grows c).After-deref_mut))

@@ -10,6 +10,6 @@ returns c equal =
       within = less;
       diagram = λ none.
           let cover : (gate_at c.args.net.now (get_or c.args.shared.now c.args.place none).gate).cover ≡ (gate_at c.args.net.now c.args.gate).cover =
-          ap (λ (x : SharedDiagram). (gate_at c.args.net.now x.gate).cover) (get_or_default c.args.shared.now c.args.place none c.index-shared-place.result less) ∙ ap (λ (g : Gate). g.cover) (sym c.gate.ensures.at) ∙ c.are_equal.ensures equal ∙ ap (λ (g : Gate). g.cover) c.gate-2.ensures.at in
+          ap (λ (x : SharedDiagram). (gate_at c.args.net.now x.gate).cover) (get_or_default c.args.shared.now c.args.place none c.index-shared-place.result less) ∙ ap (λ (g : Gate). g.cover) (sym c.gate.ensures.at) ∙ c.is_same.ensures.0 equal ∙ ap (λ (g : Gate). g.cover) c.gate-2.ensures.at in
           subst (λ (k : Cover). IsDiagramOf (get_or c.args.shared.now c.args.place none).diagram k) cover (c.requires.shared c.args.place none less).diagram;
     }

@@ -1,26 +1,16 @@
-use Rattle.std.proofs.Common.{◌≡◌, ◌+◌, ◌*◌, ℕ, length, get_or, refl, subst, sym, ap, arith}
-use Rattle.fixpoint.proofs.Common.{IsLawful, AddsWithin, adds_moved, adds_refused, adds_swept, IsWide, block_at, home_of, loops_by, first_gate, values_under, HoldsRails, RootsStay, rails_at, vectors, IsSolvedBelow, place_of, IsWorking, HasLargeCover, block_cost}
-use Rattle.fixpoint.specs.Sweeping.{IsFoundAt}
-use Rattle.fixpoint.proofs.BlockLemmas.{solved-same}
+use Rattle.std.proofs.Common.{◌≡◌, ◌+◌, ◌*◌, length, get_or, refl, subst, sym, ap, arith}
+use Rattle.fixpoint.proofs.Common.{IsLawful, AddsWithin, adds_moved, adds_refused, adds_swept, IsWide, block_at, home_of, loops_by, first_gate, Vectors, values_under, RootsStay, vectors, IsSolvedBelow, IsWorking, HasLargeCover, block_cost}
 use Rattle.fixpoint.proofs.BoundLemmas.{wide-same}
 use Rattle.fixpoint.proofs.KeptLemmas.{RootsStay-kept, RootsStay-gained, adds_lacking}
 use Rattle.fixpoint.proofs.KeepingLemmas.{vectors-are, solved-next, found-next, found-rails}
 use Rattle.fixpoint.proofs.solving.solve_and_keep.Goals as goal
 use Rattle.fixpoint.proofs.solving.solve_and_keep.Goals.{After-solve_block}
 
-pub solve_block-requires-clause-gate : goal.solve_block-requires-clause-gate
-solve_block-requires-clause-gate c = (c.gates_of-gates.ensures.home 0 0 c.gates_of-gates.ensures.some).0
-
 pub solve_block-requires-clause-solved : goal.solve_block-requires-clause-solved
 solve_block-requires-clause-solved c =
-    let is = c.requires.solved in
-    subst (λ (b : ℕ). IsSolvedBelow c.args.looped.now c.args.d.now (vectors c.args.looped.now.net c.args.d.now c.args.progress.now.wires.rails.items) b c.args.progress.now.wires.before.items c.args.progress.now.wires.rails.items) (sym (c.gates_of-gates.ensures.home 0 0 c.gates_of-gates.ensures.some).1)
-    (solved-same (values_under c.args.d.now c.args.given.now) (vectors c.args.looped.now.net c.args.d.now c.args.progress.now.wires.rails.items) (λ bits. sym (vectors-are is.solved bits)) is.solved)
-
-pub solve_block-requires-clause-fresh : goal.solve_block-requires-clause-fresh
-solve_block-requires-clause-fresh c n less later =
-    let home = (c.gates_of-gates.ensures.home 0 0 c.gates_of-gates.ensures.some).1 in
-    c.requires.solved.fresh n less (omega (arith, later, home))
+    let is = c.requires.solved.solved in
+    rw (c.gates_of-gates.ensures.home 0 0 c.gates_of-gates.ensures.some).1
+    (subst (λ (v : Vectors). IsSolvedBelow c.args.looped.now c.args.d.now v c.args.place c.args.progress.now.wires.before.items c.args.progress.now.wires.rails.items) (sym (vectors-are is)) is)
 
 -- what the block adds
 block-adds : (c : After-solve_block) → AddsWithin c.solve_block.result c.args.d.now c.solve_block.new.d (HasLargeCover c.args.looped.now.net) (IsWide c.args.d.now.vars (IsWorking c.args.looped.now.net (loops_by c.args.looped.now.blocks c.args.looped.now.cut) (values_under c.args.d.now c.args.given.now)))
@@ -28,29 +18,13 @@ block-adds : (c : After-solve_block) → AddsWithin c.solve_block.result c.args.
 block-adds c =
     let home = (c.gates_of-gates.ensures.home 0 0 c.gates_of-gates.ensures.some).1 in
     adds_moved (λ w wide. wide-same c.args.looped.now.net (loops_by c.args.looped.now.blocks c.args.looped.now.cut) (vectors c.args.looped.now.net c.args.d.now c.args.progress.now.wires.rails.items) (values_under c.args.d.now c.args.given.now) c.args.d.now c.args.d.now refl (vectors-are c.requires.solved.solved) wide)
-    (subst (λ (b : ℕ). AddsWithin c.solve_block.result c.args.d.now c.solve_block.new.d (HasLargeCover c.args.looped.now.net) (IsWide c.args.d.now.vars (IsWorking c.args.looped.now.net (loops_by c.args.looped.now.blocks c.args.looped.now.cut) (vectors c.args.looped.now.net c.args.d.now c.args.progress.now.wires.rails.items)))
-    (2 * ((length c.args.looped.now.net.gates + 1) * block_cost c.args.looped.now.net c.args.looped.now.blocks b))) home c.solve_block.ensures.grows.adds)
+    (rw home at c.solve_block.ensures.grows.adds)
 
 pub returns-in_err-found-clause-roots : goal.returns-in_err-found-clause-roots
 returns-in_err-found-clause-roots c = RootsStay-kept (subst IsLawful c.store.ensures c.laws.ensures) c.solve_block.ensures.grows.keeps
 
 pub returns-in_err-found-clause-adds : goal.returns-in_err-found-clause-adds
 returns-in_err-found-clause-adds c = adds_refused c.in_err-found.was c.from_residual.ensures.1 (block-adds ((goal.at.returns-in_err-found-clause-adds c).After-solve_block))
-
-pub keep_block-requires-clause-gates : goal.keep_block-requires-clause-gates
-keep_block-requires-clause-gates c k none less =
-    let at = (c.gates_of-gates.ensures.home k none less).0 in
-    let width = c.requires.solved.kept.width in
-    omega (arith, at, width)
-
-pub keep_block-requires-clause-width : goal.keep_block-requires-clause-width
-keep_block-requires-clause-width c =
-    let width = c.in_ok-found.ensures.solved.wires.width in
-    let places = c.requires.solved.kept.width in
-    omega (arith, width, places, c.columns-first.ensures.columns, ap first_gate c.net.ensures.net)
-
-pub keep_block-requires-clause-proper : goal.keep_block-requires-clause-proper
-keep_block-requires-clause-proper c = c.in_ok-found.ensures.solved.wires.proper
 
 pub keep_block-requires-clause-steps : goal.keep_block-requires-clause-steps
 keep_block-requires-clause-steps c =
@@ -79,13 +53,8 @@ returns-clause-solved c =
     (solved-next c.args.looped.now c.net.ensures.looped stay c.keep_block.ensures.gains c.args.given.now c.args.place c.requires.place c.args.progress.now.wires.before.items c.args.progress.now.wires.rails.items c.args.progress.now.places.items c.requires.solved
     c.solve_block.new.wires.before.items c.solve_block.new.wires.rails.items c.keep_block.new.progress.places.items
     c.gates_of-gates.result.now gates_are
-    (subst (λ (b : ℕ). IsSolvedBelow c.args.looped.now c.solve_block.new.d (vectors c.args.looped.now.net c.args.d.now c.args.progress.now.wires.rails.items) (b + 1) c.solve_block.new.wires.before.items c.solve_block.new.wires.rails.items) home c.in_ok-found.ensures.solved)
-    (λ n less later. c.in_ok-found.ensures.fresh n less (omega (arith, later, home)))
-    c.keep_block.ensures.width
-    (λ n has.
-    subst (λ (m : ℕ). HoldsRails c.keep_block.new.d (place_of c.keep_block.new.progress.places.items n) (rails_at c.solve_block.new.wires.rails.items (m + n))) first_is
-    (c.in_ok-keep_block.ensures.kept n has))
-    c.in_ok-keep_block.ensures.others)
+    (rw home at c.in_ok-found.ensures.solved) (rw home at c.in_ok-found.ensures.fresh) c.keep_block.ensures.width
+    (λ n has. rw first_is at (c.in_ok-keep_block.ensures.kept n has)) c.in_ok-keep_block.ensures.others)
 
 pub returns-clause-steps : goal.returns-clause-steps
 returns-clause-steps c =
@@ -93,5 +62,5 @@ returns-clause-steps c =
     let home = (c.gates_of-gates.ensures.home 0 0 c.gates_of-gates.ensures.some).1 in
     found-next c.args.looped.now c.net.ensures.looped stay c.keep_block.ensures.gains c.args.given.now c.args.place c.requires.place c.args.progress.now.wires.before.items c.args.progress.now.wires.rails.items c.args.progress.now.places.items c.requires.solved c.solve_block.new.wires.before.items c.solve_block.new.wires.rails.items c.keep_block.new.progress.places.items
     c.in_ok-found.found c.in_ok-keep_block.field-0
-    (subst (λ (b : ℕ). IsFoundAt c.args.looped.now c.solve_block.new.d (vectors c.args.looped.now.net c.args.d.now c.args.progress.now.wires.rails.items) b c.in_ok-found.found) home c.in_ok-found.ensures.steps)
+    (rw home at c.in_ok-found.ensures.steps)
     c.in_ok-keep_block.ensures.keys c.in_ok-keep_block.ensures.steps

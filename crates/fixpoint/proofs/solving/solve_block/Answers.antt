@@ -1,33 +1,28 @@
-use Rattle.std.proofs.Common.{◌+◌, ◌*◌, length, ◌≡◌, ◌∙◌, ℕ, List, false, sym, ap, ap₂, subst, get_or, arith}
-use Rattle.fixpoint.proofs.Common.{get_or_default, GrowsWithin, size, gate_at, IsWide, loops_by, IsWorking, HasLargeCover, block_cost, within_moved, within_more, within_refused, within_answered, Block, Blocks, block_at, home_of, no_block, Rails, rails_at, vectors, IsSolvedBelow, AreFresh}
+use Rattle.std.proofs.Common.{◌+◌, ◌*◌, length, ◌≡◌, ◌∙◌, false, ap}
+use Rattle.fixpoint.proofs.Common.{get_or_default, GrowsWithin, size, gate_at, IsWide, loops_by, IsWorking, HasLargeCover, block_cost, within_moved, within_more, within_refused, within_answered, Block, block_at, home_of, no_block, vectors}
 use Rattle.fixpoint.proofs.BoundLemmas.{plain-bounds, plain-cost, gate-few}
 use Rattle.fixpoint.proofs.BlockLemmas.{plain-solved}
 use Rattle.fixpoint.proofs.solving.solve_block.Goals as goal
 use Rattle.fixpoint.proofs.solving.solve_block.Goals.{After-set_gate}
 
+plain : (c : After-set_gate) → (block_at c.args.looped.now.blocks (home_of c.args.looped.now.blocks c.args.gate)).looped ≡ false
+plain c =
+    ap (λ (x : Block). x.looped) (get_or_default c.args.looped.now.blocks.list (home_of c.args.looped.now.blocks c.args.gate) no_block c.index-items-place.result (c.blocks-blocks.ensures.looped.blocks.home c.args.gate c.requires.gate))
+    ∙ (rw (c.items-2.ensures, c.items.ensures, c.blocks-blocks.ensures.blocks) at c.if-items-place.false)
+
 pub returns-clause-solved : goal.returns-clause-solved
 returns-clause-solved c =
-    let p = c.if-items-place.false in
-    let plain : (block_at c.args.looped.now.blocks (home_of c.args.looped.now.blocks c.args.gate)).looped ≡ false =
-    ap (λ (x : Block). x.looped) (get_or_default c.args.looped.now.blocks.list (home_of c.args.looped.now.blocks c.args.gate) no_block c.index-items-place.result (c.blocks-blocks.ensures.looped.blocks.home c.args.gate c.requires.gate)
-    ∙ ap₂ (λ (xs : List Block) (hs : List ℕ). get_or xs (get_or hs c.args.gate 0) c.index-items-place.result) (sym (c.items-2.ensures ∙ ap (λ (b : Blocks). b.list) c.blocks-blocks.ensures.blocks)) (sym (c.items.ensures ∙ ap (λ (b : Blocks). b.home) c.blocks-blocks.ensures.blocks)))
-    ∙ p in
     rw c.set_gate.ensures.before
-    (plain-solved c.args.looped.now c.in_ok-set_gate.ensures.valid c.blocks-blocks.ensures.looped c.args.gate c.requires.gate plain c.args.d.now
+    (plain-solved c.args.looped.now c.in_ok-set_gate.ensures.valid c.blocks-blocks.ensures.looped c.args.gate c.requires.gate (plain (goal.at.returns-clause-solved c).After-set_gate) c.args.d.now
     (vectors c.args.looped.now.net c.args.d.now c.args.wires.now.rails.items) c.args.wires.now.before.items c.args.wires.now.rails.items c.requires.solved c.set_gate.new.d c.set_gate.new.self.rails.items c.set_gate.ensures.grows.keeps c.in_ok-set_gate.ensures.set)
 
 -- a gate of no loop costs at most what its block does
 gate-set : (c : After-set_gate) → GrowsWithin c.set_gate.result c.args.d.now c.set_gate.new.d (HasLargeCover c.args.looped.now.net) (IsWide c.args.d.now.vars (IsWorking c.args.looped.now.net (loops_by c.args.looped.now.blocks c.args.looped.now.cut) (vectors c.args.looped.now.net c.args.d.now c.args.wires.now.rails.items)))
     (2 * ((length c.args.looped.now.net.gates + 1) * block_cost c.args.looped.now.net c.args.looped.now.blocks (home_of c.args.looped.now.blocks c.args.gate)))
 gate-set c =
-    let p = c.if-items-place.false in
-    let plain : (block_at c.args.looped.now.blocks (home_of c.args.looped.now.blocks c.args.gate)).looped ≡ false =
-    ap (λ (x : Block). x.looped) (get_or_default c.args.looped.now.blocks.list (home_of c.args.looped.now.blocks c.args.gate) no_block c.index-items-place.result (c.blocks-blocks.ensures.looped.blocks.home c.args.gate c.requires.gate)
-    ∙ ap₂ (λ (xs : List Block) (hs : List ℕ). get_or xs (get_or hs c.args.gate 0) c.index-items-place.result) (sym (c.items-2.ensures ∙ ap (λ (b : Blocks). b.list) c.blocks-blocks.ensures.blocks)) (sym (c.items.ensures ∙ ap (λ (b : Blocks). b.home) c.blocks-blocks.ensures.blocks)))
-    ∙ p in
     let few = gate-few c.args.looped.now.net c.args.looped.now.blocks c.args.gate c.requires.gate in
     within_more (plain-cost (size (gate_at c.args.looped.now.net c.args.gate).cover) (length c.args.looped.now.net.gates) (block_cost c.args.looped.now.net c.args.looped.now.blocks (home_of c.args.looped.now.blocks c.args.gate)) few)
-    (within_moved (λ w wide. plain-bounds c.args.looped.now c.set_gate.ensures.valid c.blocks-blocks.ensures.looped c.args.gate c.requires.gate plain c.args.d.now
+    (within_moved (λ w wide. plain-bounds c.args.looped.now c.set_gate.ensures.valid c.blocks-blocks.ensures.looped c.args.gate c.requires.gate (plain c) c.args.d.now
     (vectors c.args.looped.now.net c.args.d.now c.args.wires.now.rails.items) c.args.wires.now.before.items c.args.wires.now.rails.items c.requires.solved wide) c.set_gate.ensures.grows)
 
 pub returns-clause-grows : goal.returns-clause-grows
@@ -35,30 +30,3 @@ returns-clause-grows c = within_answered (gate-set ((goal.at.returns-clause-grow
 
 pub returns-in_err-set_gate-clause-grows : goal.returns-in_err-set_gate-clause-grows
 returns-in_err-set_gate-clause-grows c = within_refused c.in_err-set_gate.was c.from_residual-in_err-set_gate.ensures.1 (gate-set ((goal.at.returns-in_err-set_gate-clause-grows c).After-set_gate))
-
-pub solve_loop-requires-clause-solved : goal.solve_loop-requires-clause-solved
-solve_loop-requires-clause-solved c =
-    subst (λ (b : ℕ). IsSolvedBelow c.args.looped.now c.args.d.now (vectors c.args.looped.now.net c.args.d.now c.args.wires.now.rails.items) b c.args.wires.now.before.items c.args.wires.now.rails.items)
-    (ap (λ (hs : List ℕ). get_or hs c.args.gate 0) (sym (c.items.ensures ∙ ap (λ (b : Blocks). b.home) c.blocks-blocks.ensures.blocks))) c.requires.solved
-
-pub solve_loop-requires-clause-fresh : goal.solve_loop-requires-clause-fresh
-solve_loop-requires-clause-fresh c =
-    subst (λ (b : ℕ). AreFresh c.args.looped.now b c.args.wires.now.before.items) (ap (λ (hs : List ℕ). get_or hs c.args.gate 0) (sym (c.items.ensures ∙ ap (λ (b : Blocks). b.home) c.blocks-blocks.ensures.blocks))) c.requires.fresh
-
-pub returns-then-items-place-clause-steps : goal.returns-then-items-place-clause-steps
-returns-then-items-place-clause-steps c = (c.in_ok-steps.ensures.steps, c.in_ok-steps.ensures.block ∙ ap (λ (hs : List ℕ). get_or hs c.args.gate 0) (c.items.ensures ∙ ap (λ (b : Blocks). b.home) c.blocks-blocks.ensures.blocks))
-
-pub returns-then-items-place-clause-solved : goal.returns-then-items-place-clause-solved
-returns-then-items-place-clause-solved c =
-    subst (λ (b : ℕ). IsSolvedBelow c.args.looped.now c.solve_loop.new.d (vectors c.args.looped.now.net c.args.d.now c.args.wires.now.rails.items) (b + 1) c.solve_loop.new.wires.before.items c.solve_loop.new.wires.rails.items)
-    (ap (λ (hs : List ℕ). get_or hs c.args.gate 0) (c.items.ensures ∙ ap (λ (b : Blocks). b.home) c.blocks-blocks.ensures.blocks)) c.in_ok-steps.ensures.solved
-
-pub returns-then-items-place-clause-fresh : goal.returns-then-items-place-clause-fresh
-returns-then-items-place-clause-fresh c =
-    subst (λ (b : ℕ). AreFresh c.args.looped.now (b + 1) c.solve_loop.new.wires.before.items) (ap (λ (hs : List ℕ). get_or hs c.args.gate 0) (c.items.ensures ∙ ap (λ (b : Blocks). b.home) c.blocks-blocks.ensures.blocks)) c.in_ok-steps.ensures.fresh
-
-pub set_gate-requires-clause-wires : goal.set_gate-requires-clause-wires
-set_gate-requires-clause-wires c = c.requires.solved.wires
-
-pub returns-clause-fresh : goal.returns-clause-fresh
-returns-clause-fresh c n within later = ap (λ (bs : List Rails). rails_at bs n) c.set_gate.ensures.before ∙ c.requires.fresh n within (omega (arith, later))

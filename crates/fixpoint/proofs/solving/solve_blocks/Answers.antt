@@ -1,11 +1,11 @@
-use Rattle.std.proofs.Common.{◌≡◌, ◌+◌, ◌*◌, ◌++◌, List, Option, length, get_or, subst, sym, ap, arith}
-use Rattle.fixpoint.proofs.Common.{All, option_to_list, AddsWithin, adds_more, adds_moved, adds_refused, adds_swept, IsWide, loops_by, values_under, RootsStay, AreKeptSteps, IsSolvedTo, KeptRails, Blocks, Looped, IsWorking, HasLargeCover, below_cost}
+use Rattle.std.proofs.Common.{◌≡◌, ◌+◌, ◌*◌, ◌++◌, length, get_or, subst, sym, ap, arith}
+use Rattle.fixpoint.proofs.Common.{All, option_to_list, AddsWithin, adds_more, adds_moved, adds_refused, adds_swept, IsWide, loops_by, values_under, RootsStay, AreKeptSteps, Blocks, Looped, Vectors, IsWorking, HasLargeCover, below_cost}
 use Rattle.bdd_store.proofs.GrowthLemmas.{adds_then, adds_answered}
 use Rattle.fixpoint.specs.Sweeping.{IsKeptAt}
 use Rattle.fixpoint.proofs.BlockLemmas.{HasLoopsBelow, loops-start, loops-end}
 use Rattle.fixpoint.proofs.BoundLemmas.{wide-same, below-next, below-all}
 use Rattle.fixpoint.proofs.KeptLemmas.{RootsStay-chain, values-stay, adds_lacking, nothing_added}
-use Rattle.fixpoint.proofs.KeepingLemmas.{places-kept, solved-anew, steps-stay, found-loops, found-steps, found-stays}
+use Rattle.fixpoint.proofs.KeepingLemmas.{places-kept, solved-swept, steps-stay, found-loops, found-steps, found-stays}
 use Rattle.fixpoint.proofs.solving.solve_blocks.Goals as goal
 use Rattle.fixpoint.proofs.solving.solve_blocks.Goals.{After-solve_with_retry}
 
@@ -26,17 +26,10 @@ loop-place-init c =
     record {
       roots = c.sweep_store.ensures.roots;
       adds = adds_swept c.sweep_store.ensures.fewer nothing_added;
-      solved = subst (λ (places : List (Option KeptRails)). IsSolvedTo c.args.looped.now c.sweep_store.new.d c.args.given.now 0 c.sweep_store.new.progress.wires.before.items c.sweep_store.new.progress.wires.rails.items places) (sym read.places)
-          (solved-anew c.args.looped.now c.sweep_store.ensures.roots c.args.given.now 0 c.args.progress.now.wires.before.items c.args.progress.now.wires.rails.items c.args.progress.now.places.items c.requires.solved c.sweep_store.new.progress.wires.before.items c.sweep_store.new.progress.wires.rails.items read.before read.rails);
+      solved = rw read.places (solved-swept c.args.looped.now c.sweep_store.ensures.roots c.args.given.now 0 c.args.progress.now.places.items c.requires.solved c.sweep_store.new.progress.wires.before.items c.sweep_store.new.progress.wires.rails.items read.before read.rails);
       loops = subst (HasLoopsBelow c.args.looped.now.blocks 0) (sym c.new-loops.ensures.items) (loops-start c.args.looped.now.blocks);
       steps = subst (All (AreKeptSteps c.args.looped.now.net c.args.looped.now.blocks c.args.looped.now.cut c.sweep_store.new.d (values_under c.sweep_store.new.d c.args.given.now))) (sym c.new-loops.ensures.items) (λ k none less. absurd (omega (arith, less)));
     }
-
-pub solve_with_retry-requires-clause-place : goal.solve_with_retry-requires-clause-place
-solve_with_retry-requires-clause-place c = omega (arith, c.loop-place-test.true, ap length c.items-place-end.ensures, ap (λ (x : Blocks). length x.list) c.blocks-2.ensures.blocks)
-
-pub sweep_if_due-requires-clause-given : goal.sweep_if_due-requires-clause-given
-sweep_if_due-requires-clause-given c = c.in_ok-found.ensures.solved.given_are.keys
 
 pub sweep_if_due-requires-clause-places : goal.sweep_if_due-requires-clause-places
 sweep_if_due-requires-clause-places c = places-kept c.in_ok-found.ensures.solved.kept
@@ -51,7 +44,8 @@ loop-place-preserved c =
     let two : RootsStay c.solve_with_retry.new.d c.sweep_if_due.new.d = c.sweep_if_due.ensures.roots in
     let done = c.in_ok-found.ensures.solved in
     let found : IsKeptAt l c.sweep_if_due.new.d (values_under c.sweep_if_due.new.d given) b c.in_ok-found.found =
-    found-stays l c.solve_with_retry.new.d c.sweep_if_due.new.d (values_under c.solve_with_retry.new.d given) (values_under c.sweep_if_due.new.d given) b c.in_ok-found.found two (λ bits. sym (values-stay two given done.given_are.keys bits)) c.in_ok-found.ensures.steps in
+    subst (λ (v : Vectors). IsKeptAt l c.sweep_if_due.new.d v b c.in_ok-found.found) (sym (values-stay two given done.given_are.keys))
+    (found-stays l c.solve_with_retry.new.d c.sweep_if_due.new.d (values_under c.solve_with_retry.new.d given) b c.in_ok-found.found two c.in_ok-found.ensures.steps) in
     let whole : RootsStay c.loop-place.d c.sweep_if_due.new.d = RootsStay-chain one two in
     let items : c.add_loop.new.loops.items ≡ c.loop-place.loops.items ++ option_to_list c.in_ok-found.found = c.in_ok-add_loop.ensures in
     record {
@@ -61,25 +55,17 @@ loop-place-preserved c =
       loops = subst (HasLoopsBelow l.blocks (b + 1)) (sym items) (found-loops l c.sweep_if_due.new.d (values_under c.sweep_if_due.new.d given) b c.loop-place.loops.items c.in_ok-found.found found inv.loops);
       steps = subst (All (AreKeptSteps l.net l.blocks l.cut c.sweep_if_due.new.d (values_under c.sweep_if_due.new.d given))) (sym items)
           (found-steps l c.sweep_if_due.new.d (values_under c.sweep_if_due.new.d given) b c.loop-place.loops.items c.in_ok-found.found found
-          (λ k none less. steps-stay whole (λ bits. sym (values-stay whole given inv.solved.given_are.keys bits)) (get_or c.loop-place.loops.items k none) (inv.steps k none less)));
+          (λ k none less. subst (λ (v : Vectors). AreKeptSteps l.net l.blocks l.cut c.sweep_if_due.new.d v (get_or c.loop-place.loops.items k none)) (sym (values-stay whole given inv.solved.given_are.keys))
+          (steps-stay whole (get_or c.loop-place.loops.items k none) (inv.steps k none less))));
     }
-
-pub returns-in_err-found-clause-roots : goal.returns-in_err-found-clause-roots
-returns-in_err-found-clause-roots c = RootsStay-chain c.loop-place.invariant.roots c.solve_with_retry.ensures.roots
 
 pub returns-in_err-found-clause-adds : goal.returns-in_err-found-clause-adds
 returns-in_err-found-clause-adds c =
     adds_more (below-all c.args.looped.now.net c.args.looped.now.blocks (c.loop-place.place + 1)) (adds_refused c.in_err-found.was c.from_residual-in_err-found.ensures.1 (step ((goal.at.returns-in_err-found-clause-adds c).After-solve_with_retry)))
 
-pub returns-in_err-sweep_if_due-clause-roots : goal.returns-in_err-sweep_if_due-clause-roots
-returns-in_err-sweep_if_due-clause-roots c = RootsStay-chain c.loop-place.invariant.roots (RootsStay-chain c.solve_with_retry.ensures.roots c.sweep_if_due.ensures.roots)
-
 pub returns-in_err-sweep_if_due-clause-adds : goal.returns-in_err-sweep_if_due-clause-adds
 returns-in_err-sweep_if_due-clause-adds c =
     adds_more (below-all c.args.looped.now.net c.args.looped.now.blocks (c.loop-place.place + 1)) (adds_lacking c.from_residual-in_err-sweep_if_due.ensures.1 c.sweep_if_due.ensures.fewer (step ((goal.at.returns-in_err-sweep_if_due-clause-adds c).After-solve_with_retry)))
-
-pub returns-in_err-add_loop-clause-roots : goal.returns-in_err-add_loop-clause-roots
-returns-in_err-add_loop-clause-roots c = RootsStay-chain c.loop-place.invariant.roots (RootsStay-chain c.solve_with_retry.ensures.roots c.sweep_if_due.ensures.roots)
 
 pub returns-in_err-add_loop-clause-adds : goal.returns-in_err-add_loop-clause-adds
 returns-in_err-add_loop-clause-adds c =
@@ -92,3 +78,12 @@ pub returns-clause-loops : goal.returns-clause-loops
 returns-clause-loops c =
     let past = c.loop-place-test.false in
     loops-end c.args.looped.now.blocks c.loop-place.place c.loop-place.loops.items (omega (arith, past, ap length c.items-place-end.ensures, ap (λ (x : Blocks). length x.list) c.blocks-2.ensures.blocks)) c.loop-place.invariant.loops
+
+pub returns-in_err-found-clause-roots : goal.returns-in_err-found-clause-roots
+returns-in_err-found-clause-roots c = RootsStay-chain c.loop-place.invariant.roots c.solve_with_retry.ensures.roots
+
+pub returns-in_err-sweep_if_due-clause-roots : goal.returns-in_err-sweep_if_due-clause-roots
+returns-in_err-sweep_if_due-clause-roots c = RootsStay-chain c.loop-place.invariant.roots (RootsStay-chain c.solve_with_retry.ensures.roots c.sweep_if_due.ensures.roots)
+
+pub returns-in_err-add_loop-clause-roots : goal.returns-in_err-add_loop-clause-roots
+returns-in_err-add_loop-clause-roots c = RootsStay-chain c.loop-place.invariant.roots (RootsStay-chain c.solve_with_retry.ensures.roots c.sweep_if_due.ensures.roots)

@@ -1,12 +1,9 @@
-use Rattle.std.proofs.Common.{◌∙◌, ◌+◌, ◌*◌, Option, None, length, replicate, sym, ap, subst, arith}
-use Rattle.fixpoint.proofs.Common.{All, IsWide, loops_by, AddsWithin, adds_more, adds_refused, adds_swept, AreKept, KeptRails, Parts, Rails, unknown, values_under, IsWorking, HasLargeCover, effort}
+use Rattle.std.proofs.Common.{◌∙◌, ◌+◌, ◌*◌, Option, None, length, replicate, ap, arith}
+use Rattle.fixpoint.proofs.Common.{IsWide, loops_by, AddsWithin, adds_more, adds_refused, adds_swept, KeptRails, Parts, values_under, IsWorking, HasLargeCover, effort}
 use Rattle.fixpoint.proofs.KeptLemmas.{RootsStay-chain, adds_lacking}
-use Rattle.fixpoint.proofs.KeepingLemmas.{solution-is, solved-from-given}
+use Rattle.fixpoint.proofs.KeepingLemmas.{solution-is, solved-start}
 use Rattle.fixpoint.proofs.solving.solve_looped.Goals as goal
 use Rattle.fixpoint.proofs.solving.solve_looped.Goals.{After-solve_blocks}
-
-pub start-requires : goal.start-requires
-start-requires c = subst (All (AreKept c.args.d.now)) (sym c.deref.ensures.value) c.requires.keys
 
 pub solve_blocks-requires : goal.solve_blocks-requires
 solve_blocks-requires c =
@@ -14,9 +11,8 @@ solve_blocks-requires c =
     let p = c.in_ok-progress.progress in
     record {
       solved = rw c.deref-2.ensures.value
-          (solved-from-given c.args.looped.now c.args.d.now c.args.given.items p.wires.before.items p.wires.rails.items p.places.items c.requires
-          (c.in_ok-progress.ensures.places ∙ ap (λ n. replicate {A = Option KeptRails} n None) gates)
-          (c.in_ok-progress.ensures.before ∙ ap (λ n. replicate {A = Rails} n unknown) gates)
+          (solved-start c.args.looped.now c.args.d.now c.args.given.items p.wires.before.items p.wires.rails.items p.places.items c.requires
+          (c.in_ok-progress.ensures.places ∙ ap (λ n. replicate {A = Option KeptRails} n None) gates) c.in_ok-progress.ensures.before
           (rw c.deref.ensures.value at c.in_ok-progress.ensures.rails));
     }
 
@@ -34,12 +30,6 @@ returns-in_err-hand_out-clause-adds c = adds_lacking c.from_residual-in_err-hand
 pub returns-clause-adds : goal.returns-clause-adds
 returns-clause-adds c = adds_swept c.hand_out.ensures.fewer (block-adds ((goal.at.returns-clause-adds c).After-solve_blocks))
 
-pub returns-in_err-hand_out-clause-roots : goal.returns-in_err-hand_out-clause-roots
-returns-in_err-hand_out-clause-roots c = RootsStay-chain c.solve_blocks.ensures.roots c.hand_out.ensures.roots
-
-pub returns-clause-roots : goal.returns-clause-roots
-returns-clause-roots c = RootsStay-chain c.solve_blocks.ensures.roots c.hand_out.ensures.roots
-
 pub returns-clause-solution : goal.returns-clause-solution
 returns-clause-solution c =
     solution-is c.args.looped.now c.net.ensures.looped c.solve_blocks.ensures.roots c.hand_out.ensures.roots c.args.given.items c.requires c.solve_blocks.new.progress.places.items
@@ -47,3 +37,9 @@ returns-clause-solution c =
     c.in_ok-loops.loops.items c.in_ok-hand_out.field-0 c.in_ok-loops.ensures.loops
     (rw c.deref-2.ensures.value at c.in_ok-loops.ensures.steps)
     c.in_ok-hand_out.ensures.rails c.in_ok-hand_out.ensures.loops
+
+pub returns-in_err-hand_out-clause-roots : goal.returns-in_err-hand_out-clause-roots
+returns-in_err-hand_out-clause-roots c = RootsStay-chain c.solve_blocks.ensures.roots c.hand_out.ensures.roots
+
+pub returns-clause-roots : goal.returns-clause-roots
+returns-clause-roots c = RootsStay-chain c.solve_blocks.ensures.roots c.hand_out.ensures.roots

@@ -1,16 +1,7 @@
-use Rattle.std.proofs.Common.{◌≡◌, ◌∙◌, ◌<◌, ℕ, List, length, filter, sym, ap, subst, arith}
-use Rattle.fixpoint.proofs.Common.{All, Cut, Looped, Parts, block_at, is_cut, IsOrderOf, AreLocalsOf}
+use Rattle.std.proofs.Common.{◌≡◌, ◌∙◌, ◌<◌, ℕ, List, length, filter, sym, subst}
+use Rattle.fixpoint.proofs.Common.{All, Looped, Parts, block_at, is_cut, IsOrderOf, AreLocalsOf}
 use Rattle.fixpoint.proofs.CutLemmas.{cuts-within, order-within}
 use Rattle.fixpoint.proofs.sweeping.plan_loop.Goals as goal
-
-pub gates_of-requires : goal.gates_of-requires
-gates_of-requires c = c.requires.at.within
-
-pub cuts_among-requires : goal.cuts_among-requires
-cuts_among-requires c k d less =
-    let within = (c.gates_of.ensures.home k d less).0 in
-    let width = c.net-net.ensures.looped.cut.width in
-    omega (arith, within, width, ap (λ (w : Cut). length w.wires) c.cut-cut.ensures.cut)
 
 pub of-requires-clause-gates : goal.of-requires-clause-gates
 of-requires-clause-gates c =

@@ -1,11 +1,11 @@
-use Rattle.std.proofs.Common.{◌*◌, ◌≤◌, ◌≡◌, ◌∙◌, ◌+◌, Err, Bool, false, ℕ, List, length, refl, subst, sym, ap, arith}
-use Rattle.fixpoint.proofs.Common.{StoreFault, Arena, GrowsWithin, NoOtherCause, within_then, within_moved, within_more, within_only, within_nothing, within_refused, within_answered, IsWide, Rails, loops_by, first_gate, Vectors, AreStepsOf, vectors, IsUnderway, IsAtRest, IsWorking, HasLargeCover, order_cost, block_cost}
+use Rattle.std.proofs.Common.{◌*◌, ◌≤◌, ◌≡◌, ◌∙◌, ◌+◌, Err, Bool, true, false, List, length, refl, subst, sym, ap, arith}
+use Rattle.fixpoint.proofs.Common.{StoreFault, Arena, GrowsWithin, NoOtherCause, within_then, within_moved, within_more, within_only, within_nothing, within_refused, within_answered, IsWide, Rails, loops_by, Vectors, vectors, IsUnderway, IsWorking, HasLargeCover, order_cost, block_cost}
 use Rattle.bdd_store.proofs.GrowthLemmas.{nothing_grown}
 use Rattle.fixpoint.specs.Underway.{IsSweptOnce}
 use Rattle.fixpoint.proofs.BoundLemmas.{cuts-few, order-few, loop-cost}
-use Rattle.fixpoint.proofs.LoopLemmas.{underway-start, same-given}
+use Rattle.fixpoint.proofs.LoopLemmas.{underway-start}
 use Rattle.fixpoint.proofs.sweeping.solve_loop.Goals as goal
-use Rattle.fixpoint.proofs.sweeping.solve_loop.Goals.{After-sweep_once}
+use Rattle.fixpoint.proofs.sweeping.solve_loop.Goals.{After-sweep_once, In_ok-still}
 
 pub returns-in_err-plan-clause-grows : goal.returns-in_err-plan-clause-grows
 returns-in_err-plan-clause-grows c = within_nothing (λ is_full.
@@ -16,18 +16,12 @@ returns-in_err-plan-clause-grows c = within_nothing (λ is_full.
 pub loop-steps-init : goal.loop-steps-init
 loop-steps-init c = record {
   grows = nothing_grown;
-  others = λ s free. refl;
+  given = refl;
   underway = subst (λ (xs : List (List Rails)). IsUnderway c.args.looped.now c.args.d.now (vectors c.args.looped.now.net c.args.d.now c.args.wires.now.rails.items) c.args.place c.in_ok-plan.plan.cuts xs c.args.wires.now.before.items c.args.wires.now.rails.items)
       (sym c.new-steps.ensures.items)
-      (underway-start c.args.looped.now c.in_ok-plan.ensures.plan.are c.args.place c.requires.at (vectors c.args.looped.now.net c.args.d.now c.args.wires.now.rails.items) c.in_ok-plan.plan.order c.in_ok-plan.ensures.plan.order c.args.d.now
+      (underway-start c.args.looped.now c.in_ok-plan.ensures.plan.are c.args.place c.requires.at (vectors c.args.looped.now.net c.args.d.now c.args.wires.now.rails.items) c.args.d.now
       c.in_ok-plan.plan.cuts c.args.wires.now.before.items c.args.wires.now.rails.items c.requires.solved c.requires.fresh);
 }
-
-pub sweep_once-requires-clause-plan : goal.sweep_once-requires-clause-plan
-sweep_once-requires-clause-plan c = c.in_ok-plan.ensures.plan.fits
-
-pub sweep_once-requires-clause-wires : goal.sweep_once-requires-clause-wires
-sweep_once-requires-clause-wires c = c.loop-steps.invariant.underway.solved.wires
 
 -- one sweep more
 grown : (c : After-sweep_once) → GrowsWithin c.sweep_once.result c.args.d.now c.sweep_once.new.d NoOtherCause (IsWide c.args.d.now.vars (IsWorking c.args.looped.now.net (loops_by c.args.looped.now.blocks c.args.looped.now.cut) (vectors c.args.looped.now.net c.args.d.now c.args.wires.now.rails.items)))
@@ -35,7 +29,7 @@ grown : (c : After-sweep_once) → GrowsWithin c.sweep_once.result c.args.d.now 
 grown c =
     let v : Vectors = vectors c.args.looped.now.net c.args.d.now c.args.wires.now.rails.items in
     let inv = c.loop-steps.invariant in
-    within_then inv.grows (within_moved (λ w wide. subst (λ (x : ℕ). IsWide x (IsWorking c.args.looped.now.net (loops_by c.args.looped.now.blocks c.args.looped.now.cut) v) w) (sym inv.grows.keeps.vars) wide) (c.sweep_once.ensures.grows c.args.place v c.in_ok-plan.ensures.plan inv.underway))
+    within_then inv.grows (within_moved (λ w wide. rw inv.grows.keeps.vars wide) (c.sweep_once.ensures.grows c.args.place v c.in_ok-plan.ensures.plan inv.underway))
 
 -- there are at most as many sweeps as cut wires and one, and the order has each gate once
 most : (c : After-sweep_once) → 2 * (length c.loop-steps.steps.items * order_cost c.args.looped.now.net c.in_ok-plan.plan.order) + 2 * order_cost c.args.looped.now.net c.in_ok-plan.plan.order ≤ 2 * ((length c.args.looped.now.net.gates + 1) * block_cost c.args.looped.now.net c.args.looped.now.blocks c.args.place)
@@ -55,50 +49,26 @@ returns-then-still-clause-grows c =
     let at : After-sweep_once = (goal.at.returns-then-still-clause-grows c).After-sweep_once in
     within_answered (within_more (most at) (grown at))
 
+-- what it left
+left : (c : In_ok-still) (still : Bool) → c.in_ok-still.still ≡ still → IsSweptOnce c.args.looped.now c.sweep_once.new.d (vectors c.args.looped.now.net c.args.d.now c.args.wires.now.rails.items) c.args.place c.in_ok-plan.plan.cuts
+    c.sweep_once.new.steps.items c.sweep_once.new.self.before.items c.sweep_once.new.self.rails.items still
+left c still is = rw is at (c.in_ok-still.ensures.swept c.args.place (vectors c.args.looped.now.net c.args.d.now c.args.wires.now.rails.items) c.in_ok-plan.ensures.plan c.loop-steps.invariant.underway)
+
 pub returns-then-still-clause-solved : goal.returns-then-still-clause-solved
-returns-then-still-clause-solved c =
-    let v : Vectors = vectors c.args.looped.now.net c.args.d.now c.args.wires.now.rails.items in
-    let rest : IsAtRest c.args.looped.now c.sweep_once.new.d (vectors c.args.looped.now.net c.args.d.now c.args.wires.now.rails.items) c.args.place c.in_ok-plan.plan.cuts c.sweep_once.new.steps.items c.sweep_once.new.self.before.items c.sweep_once.new.self.rails.items =
-    subst (λ (s : Bool). IsSweptOnce c.args.looped.now c.sweep_once.new.d (vectors c.args.looped.now.net c.args.d.now c.args.wires.now.rails.items) c.args.place c.in_ok-plan.plan.cuts c.sweep_once.new.steps.items c.sweep_once.new.self.before.items c.sweep_once.new.self.rails.items s) c.if-still.true (c.in_ok-still.ensures.swept c.args.place v c.in_ok-plan.ensures.plan c.loop-steps.invariant.underway) in
-    rest.solved
+returns-then-still-clause-solved c = (left (goal.at.returns-then-still-clause-solved c).In_ok-still true c.if-still.true).solved
 
 pub returns-then-still-clause-fresh : goal.returns-then-still-clause-fresh
-returns-then-still-clause-fresh c =
-    let v : Vectors = vectors c.args.looped.now.net c.args.d.now c.args.wires.now.rails.items in
-    let rest : IsAtRest c.args.looped.now c.sweep_once.new.d (vectors c.args.looped.now.net c.args.d.now c.args.wires.now.rails.items) c.args.place c.in_ok-plan.plan.cuts c.sweep_once.new.steps.items c.sweep_once.new.self.before.items c.sweep_once.new.self.rails.items =
-    subst (λ (s : Bool). IsSweptOnce c.args.looped.now c.sweep_once.new.d (vectors c.args.looped.now.net c.args.d.now c.args.wires.now.rails.items) c.args.place c.in_ok-plan.plan.cuts c.sweep_once.new.steps.items c.sweep_once.new.self.before.items c.sweep_once.new.self.rails.items s) c.if-still.true (c.in_ok-still.ensures.swept c.args.place v c.in_ok-plan.ensures.plan c.loop-steps.invariant.underway) in
-    rest.fresh
+returns-then-still-clause-fresh c = (left (goal.at.returns-then-still-clause-fresh c).In_ok-still true c.if-still.true).fresh
 
 pub returns-then-still-clause-steps : goal.returns-then-still-clause-steps
-returns-then-still-clause-steps c =
-    let v : Vectors = vectors c.args.looped.now.net c.args.d.now c.args.wires.now.rails.items in
-    let rest : IsAtRest c.args.looped.now c.sweep_once.new.d (vectors c.args.looped.now.net c.args.d.now c.args.wires.now.rails.items) c.args.place c.in_ok-plan.plan.cuts c.sweep_once.new.steps.items c.sweep_once.new.self.before.items c.sweep_once.new.self.rails.items =
-    subst (λ (s : Bool). IsSweptOnce c.args.looped.now c.sweep_once.new.d (vectors c.args.looped.now.net c.args.d.now c.args.wires.now.rails.items) c.args.place c.in_ok-plan.plan.cuts c.sweep_once.new.steps.items c.sweep_once.new.self.before.items c.sweep_once.new.self.rails.items s) c.if-still.true (c.in_ok-still.ensures.swept c.args.place v c.in_ok-plan.ensures.plan c.loop-steps.invariant.underway) in
-    subst (λ (xs : List (List Rails)). AreStepsOf c.args.looped.now.net c.args.looped.now.blocks c.args.looped.now.cut c.sweep_once.new.d (vectors c.args.looped.now.net c.args.d.now c.args.wires.now.rails.items) (record { block = c.args.place; cuts = c.in_ok-plan.plan.cuts; steps = xs })) (sym c.of.ensures) rest.steps_are
-
-pub returns-then-still-clause-given : goal.returns-then-still-clause-given
-returns-then-still-clause-given c =
-    same-given (first_gate c.args.looped.now.net) c.sweep_once.new.self.rails.items c.args.wires.now.rails.items (omega (arith, c.in_ok-still.ensures.wires.width)) (omega (arith, c.requires.solved.wires.width))
-    (λ s low. c.in_ok-still.ensures.others s (λ n same has. omega (arith, low, same)) ∙ c.loop-steps.invariant.others s (λ n same has. omega (arith, low, same)))
+returns-then-still-clause-steps c = rw c.of.ensures (left (goal.at.returns-then-still-clause-steps c).In_ok-still true c.if-still.true).steps_are
 
 pub loop-steps-smaller : goal.loop-steps-smaller
-loop-steps-smaller c =
-    let v : Vectors = vectors c.args.looped.now.net c.args.d.now c.args.wires.now.rails.items in
-    let next : IsSweptOnce c.args.looped.now c.sweep_once.new.d (vectors c.args.looped.now.net c.args.d.now c.args.wires.now.rails.items) c.args.place c.in_ok-plan.plan.cuts c.sweep_once.new.steps.items c.sweep_once.new.self.before.items c.sweep_once.new.self.rails.items false =
-    subst (λ (s : Bool). IsSweptOnce c.args.looped.now c.sweep_once.new.d (vectors c.args.looped.now.net c.args.d.now c.args.wires.now.rails.items) c.args.place c.in_ok-plan.plan.cuts c.sweep_once.new.steps.items c.sweep_once.new.self.before.items c.sweep_once.new.self.rails.items s)
-    c.if-still.false (c.in_ok-still.ensures.swept c.args.place v c.in_ok-plan.ensures.plan c.loop-steps.invariant.underway) in
-    omega (arith, next.few, c.in_ok-still.ensures.longer)
+loop-steps-smaller c = omega (arith, (left (goal.at.loop-steps-smaller c).In_ok-still false c.if-still.false).few, c.in_ok-still.ensures.longer)
 
 pub loop-steps-preserved : goal.loop-steps-preserved
-loop-steps-preserved c =
-    let v : Vectors = vectors c.args.looped.now.net c.args.d.now c.args.wires.now.rails.items in
-    let at : After-sweep_once = (goal.at.loop-steps-preserved c).After-sweep_once in
-    record {
-      grows =
-          let next : 2 * (length c.loop-steps.steps.items * order_cost c.args.looped.now.net c.in_ok-plan.plan.order) + 2 * order_cost c.args.looped.now.net c.in_ok-plan.plan.order ≡ 2 * (length c.sweep_once.new.steps.items * order_cost c.args.looped.now.net c.in_ok-plan.plan.order) =
-          subst (λ (m : ℕ). 2 * (length c.loop-steps.steps.items * order_cost c.args.looped.now.net c.in_ok-plan.plan.order) + 2 * order_cost c.args.looped.now.net c.in_ok-plan.plan.order ≡ 2 * (m * order_cost c.args.looped.now.net c.in_ok-plan.plan.order)) (sym c.in_ok-still.ensures.longer) (omega arith) in
-          within_more (omega (arith, next)) (within_answered (grown at));
-      others = λ s free. c.in_ok-still.ensures.others s free ∙ c.loop-steps.invariant.others s free;
-      underway = subst (λ (s : Bool). IsSweptOnce c.args.looped.now c.sweep_once.new.d (vectors c.args.looped.now.net c.args.d.now c.args.wires.now.rails.items) c.args.place c.in_ok-plan.plan.cuts c.sweep_once.new.steps.items c.sweep_once.new.self.before.items c.sweep_once.new.self.rails.items s)
-          c.if-still.false (c.in_ok-still.ensures.swept c.args.place v c.in_ok-plan.ensures.plan c.loop-steps.invariant.underway);
-    }
+loop-steps-preserved c = record {
+  grows = rw c.in_ok-still.ensures.longer (within_more (omega arith) (within_answered (grown (goal.at.loop-steps-preserved c).After-sweep_once)));
+  given = c.in_ok-still.ensures.given ∙ c.loop-steps.invariant.given;
+  underway = left (goal.at.loop-steps-preserved c).In_ok-still false c.if-still.false;
+}

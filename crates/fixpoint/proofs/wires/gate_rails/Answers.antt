@@ -1,12 +1,9 @@
 use Rattle.std.proofs.Common.{◌≡◌, Err, sym, ap, subst, ◌∙◌}
-use Rattle.fixpoint.proofs.Common.{StoreFault, Arena, within_only, within_nothing, within_refused, within_answered, HasLargeCover}
+use Rattle.fixpoint.proofs.Common.{StoreFault, Arena, within_only, within_nothing, HasLargeCover}
 use Rattle.fixpoint.proofs.wires.gate_rails.Goals as goal
 
 pub returns-clause-grows : goal.returns-clause-grows
-returns-clause-grows c = within_answered c.lift_cover.ensures.grows
-
-pub returns-in_err-rails-clause-grows : goal.returns-in_err-rails-clause-grows
-returns-in_err-rails-clause-grows c = within_refused c.in_err-rails.was c.from_residual-in_err-rails.ensures.1 (within_only c.lift_cover.ensures.grows)
+returns-clause-grows c = within_only c.lift_cover.ensures.grows
 
 pub returns-in_err-diagram-clause-grows : goal.returns-in_err-diagram-clause-grows
 returns-in_err-diagram-clause-grows c = within_nothing (λ is_full.

@@ -10,5 +10,5 @@ returns-clause-grows c =
     let cover = (gate_at c.args.net.now c.args.gate).cover in
     let as_large = c.sizes.ensures c.args.diagram.now cover c.requires.diagram in
     let bounded : (w : ℕ) → BoundsEach c.args.d.now.vars (IsExtended c.args.d.now c.args.pins.now (value (gate_at c.args.net.now c.args.gate).cover)) w → BoundsEach c.args.d.now.vars (IsExtended c.args.d.now c.args.pins.now (function c.args.diagram.now)) w =
-    λ w. bounds-diagram c.args.d.now c.args.pins.now c.args.diagram.now (value cover) cover.pins (c.requires.pins ∙ c.gate-gate.ensures.valid.pin_counts c.args.gate no_gate c.requires.gate) c.requires.diagram.function in
+    λ w. bounds-diagram c.args.d.now c.args.pins.now c.args.diagram.now (value cover) cover.pins (c.requires.pins ∙ c.laws.ensures.valid.pin_counts c.args.gate no_gate c.requires.gate) c.requires.diagram.function in
     within_more (omega (arith, as_large)) (within_moved bounded c.lift.ensures.grows)

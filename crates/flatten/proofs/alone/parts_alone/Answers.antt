@@ -1,38 +1,39 @@
 use Rattle.std.proofs.Common.{◌≡◌, ◌≤◌, ◌+◌, length, sym, ap, ◌∙◌, arith}
 use Rattle.flatten.proofs.Common.{lines_of, linked, FlatLines}
-use Rattle.flatten.specs.Alone.{own_lines}
+use Rattle.flatten.specs.Alone.{own_lines, flat_alone}
+use Rattle.flatten.specs.Printable.{ArePrintedLines}
 use Rattle.flatten.proofs.OwnLines.{few_own_lines, own_lines_printed, alone_fits}
 use Rattle.flatten.proofs.Valid.{linked_valid}
 use Rattle.flatten.proofs.Results.{handed_on}
 use Rattle.flatten.proofs.alone.parts_alone.Goals as goal
+use Rattle.flatten.proofs.alone.parts_alone.Goals.{In_ok-lines}
+
+-- the lines that are handed over are those of the body, and link as the model does
+same : (c : In_ok-lines) → lines_of c.in_ok-lines.lines ≡ own_lines c.args.model.body
+same c = c.in_ok-lines.ensures ∙ ap own_lines (c.into_vec.ensures ∙ c.replace-body.ensures.value)
+
+linked_alone : (c : In_ok-lines) → flat_alone c.args.limit c.args.model ≡ linked c.args.model (lines_of c.in_ok-lines.lines)
+linked_alone c = alone_fits c.args.limit c.args.model (omega (arith, c.if-items-limit.false, ap length c.items.ensures)) ∙ ap (linked c.args.model) (sym (same c))
+
+few : (c : In_ok-lines) → length c.in_ok-lines.lines.latches.items + length c.in_ok-lines.lines.gates.items ≤ 4000000
+few c =
+    let latches = ap (λ (lines : FlatLines). length lines.latches) (same c) in
+    let gates = ap (λ (lines : FlatLines). length lines.gates) (same c) in
+    omega (arith, few_own_lines c.args.model.body, latches, gates, c.if-items-limit.false, ap length c.items.ensures, c.requires.limit)
 
 pub link-requires-clause-lines : goal.link-requires-clause-lines
-link-requires-clause-lines c =
-    let fits : length c.args.model.body ≤ c.args.limit = omega (arith, c.if-items-limit.false, ap length c.items.ensures) in
-    let same : lines_of c.in_ok-lines.lines ≡ own_lines c.args.model.body = c.in_ok-lines.ensures ∙ ap own_lines (c.into_vec.ensures ∙ c.replace-body.ensures.value) in
-    let latches = ap (λ (lines : FlatLines). length lines.latches) same in
-    let gates = ap (λ (lines : FlatLines). length lines.gates) same in
-    omega (arith, few_own_lines c.args.model.body, latches, gates, fits, c.requires.limit)
+link-requires-clause-lines c = few (goal.at.link-requires-clause-lines c).In_ok-lines
 
 pub returns-in_err-link-clause-fault : goal.returns-in_err-link-clause-fault
 returns-in_err-link-clause-fault c =
-    let model = c.args.model in
-    let fits : length model.body ≤ c.args.limit = omega (arith, c.if-items-limit.false, ap length c.items.ensures) in
-    let same : lines_of c.in_ok-lines.lines ≡ own_lines model.body = c.in_ok-lines.ensures ∙ ap own_lines (c.into_vec.ensures ∙ c.replace-body.ensures.value) in
     handed_on _ c.from_residual-in_err-link.result _ c.from_residual-in_err-link.ensures.1 c.in_err-link.ensures.fault
-    (λ h. alone_fits c.args.limit model fits ∙ ap (linked model) (sym same) ∙ h)
+    (λ h. linked_alone (goal.at.returns-in_err-link-clause-fault c).In_ok-lines ∙ h)
 
 pub returns-clause-parts : goal.returns-clause-parts
-returns-clause-parts c =
-    let model = c.args.model in
-    let fits : length model.body ≤ c.args.limit = omega (arith, c.if-items-limit.false, ap length c.items.ensures) in
-    let same : lines_of c.in_ok-lines.lines ≡ own_lines model.body = c.in_ok-lines.ensures ∙ ap own_lines (c.into_vec.ensures ∙ c.replace-body.ensures.value) in
-    alone_fits c.args.limit model fits ∙ ap (linked model) (sym same) ∙ c.in_ok-link.ensures.parts
+returns-clause-parts c = linked_alone (goal.at.returns-clause-parts c).In_ok-lines ∙ c.in_ok-link.ensures.parts
 
 pub returns-clause-valid : goal.returns-clause-valid
 returns-clause-valid c =
-    let model = c.args.model in
-    let fits : length model.body ≤ c.args.limit = omega (arith, c.if-items-limit.false, ap length c.items.ensures) in
-    let same : lines_of c.in_ok-lines.lines ≡ own_lines model.body = c.in_ok-lines.ensures ∙ ap own_lines (c.into_vec.ensures ∙ c.replace-body.ensures.value) in
-    let few : length (own_lines model.body).latches + length (own_lines model.body).gates ≤ 4000000 = omega (arith, few_own_lines model.body, fits, c.requires.limit) in
-    linked_valid model (own_lines model.body) c.in_ok-link.field-0 c.requires.sound (own_lines_printed model.body c.requires.sound.body) few (ap (linked model) (sym same) ∙ c.in_ok-link.ensures.parts)
+    let here = (goal.at.returns-clause-valid c).In_ok-lines in
+    let printed : ArePrintedLines (lines_of c.in_ok-lines.lines) = rw (same here) (own_lines_printed c.args.model.body c.requires.sound.body) in
+    linked_valid c.args.model (lines_of c.in_ok-lines.lines) c.in_ok-link.field-0 c.requires.sound printed (few here) c.in_ok-link.ensures.parts

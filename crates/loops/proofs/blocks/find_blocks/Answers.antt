@@ -1,6 +1,5 @@
-use Rattle.std.proofs.Common.{◌≡◌, ◌∙◌, ℕ, List, ap, map, subst, arith, sym, length}
-use Rattle.loops.proofs.Common.{range_with_len, AreComponentsOf, Block, AreBlocksOf, block_of}
-use Rattle.loops.specs.Members.{members}
+use Rattle.std.proofs.Common.{ℕ, List, ap, arith, length}
+use Rattle.loops.proofs.Common.{AreComponentsOf}
 use Rattle.netlist.specs.Orders.{gate_graph}
 use Rattle.netlist.proofs.GraphLemmas.{length-gate_graph}
 use Rattle.loops.proofs.BlockLemmas.{are_blocks, lists_within}
@@ -22,7 +21,4 @@ blocks_of-requires c =
 pub returns : goal.returns
 returns c =
     let are : AreComponentsOf (gate_graph c.args.net.now) c.in_ok-components.components = rw c.in_ok-graph.ensures.graph at c.in_ok-components.ensures in
-    let list : c.of-2.result ≡ map (block_of (gate_graph c.args.net.now)) (map (members c.in_ok-components.components.home) (range_with_len 0 c.in_ok-components.components.count)) =
-    c.of-2.ensures ∙ rw (c.in_ok-graph.ensures.graph, c.in_ok-lists.ensures, c.items.ensures) at c.in_ok-list.ensures in
-    subst (λ (blocks : List Block). AreBlocksOf c.args.net.now (record { list = blocks; home = c.in_ok-components.components.home })) (sym list)
-    (are_blocks c.args.net.now c.in_ok-components.components are)
+    rw (c.of-2.ensures, c.in_ok-list.ensures, c.in_ok-lists.ensures, c.items.ensures, c.in_ok-graph.ensures.graph) (are_blocks c.args.net.now c.in_ok-components.components are)

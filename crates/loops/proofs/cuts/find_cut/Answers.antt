@@ -1,7 +1,6 @@
-use Rattle.std.proofs.Common.{◌≡◌, ◌<◌, ◌↔◌, ◌+◌, ℕ, List, Bool, true, false, set, replicate, length, rules, arith, ap, sym, ◌∙◌, subst}
-use Rattle.loops.proofs.Common.{length-replicate, Cut, IsCutSearch, IsLoopPin, Connects, IsFree}
-use Rattle.loops.specs.Looped.{Grouped}
-use Rattle.loops.proofs.CutLemmas.{AreCutsBelow, no_cuts, fresh_search, cut_from_below, cut_step}
+use Rattle.std.proofs.Common.{◌≡◌, ◌<◌, List, Bool, false, replicate, length, rules, arith, ap, sym, ◌∙◌}
+use Rattle.loops.proofs.Common.{length-replicate, IsLoopPin}
+use Rattle.loops.proofs.CutLemmas.{no_cuts, fresh_search, cut_from_below, cut_step}
 use Rattle.loops.proofs.cuts.find_cut.Goals as goal
 
 pub loop-gate-init : goal.loop-gate-init
@@ -17,25 +16,17 @@ loop-gate-init c =
 pub loop-gate-preserved : goal.loop-gate-preserved
 loop-gate-preserved c =
     let net = c.args.net.now in
-    let R = IsLoopPin net c.args.blocks.now in
     let gate = c.loop-gate.gate in
     let leads = c.in_ok-leads.leads in
     let i = c.loop-gate.invariant in
     let l : gate < length net.gates = omega (arith, c.gates-gates.ensures.gates) in
     record {
-      cut = cut_step net c.args.blocks.now c.requires gate c.loop-gate.cut.items leads l
-          (subst (λ (bs : List Bool). (leads ≡ true) ↔ Connects R (IsFree bs gate) gate gate) c.deref.ensures.value
-          (subst (λ (g : Grouped). (leads ≡ true) ↔ Connects (IsLoopPin g.net g.blocks) (IsFree c.deref.result.now gate) gate gate) c.new-grouped.ensures c.in_ok-leads.ensures.leads)) i.cut;
-      search =
-          subst (λ (bs : List Bool). IsCutSearch R (set bs gate leads) (gate + 1) c.enter.new.self) c.deref.ensures.value
-          (subst (λ (g : Grouped). IsCutSearch (IsLoopPin g.net g.blocks) (set c.deref.result.now gate leads) (gate + 1) c.enter.new.self) c.new-grouped.ensures c.in_ok-leads.ensures.search);
+      cut = cut_step net c.args.blocks.now c.requires gate c.loop-gate.cut.items leads l (rw (c.deref.ensures.value, c.new-grouped.ensures) at c.in_ok-leads.ensures.leads) i.cut;
+      search = rw (c.deref.ensures.value, c.new-grouped.ensures) at c.in_ok-leads.ensures.search;
     }
 
 pub returns : goal.returns
 returns c =
     let net = c.args.net.now in
     let last : c.loop-gate.gate ≡ length net.gates = omega (arith, c.gates-gates.ensures.gates) in
-    let cut : Cut = record { wires = c.of.result } in
-    cut_from_below net cut
-    (subst (λ (n : ℕ). AreCutsBelow net n c.of.result) last
-    (subst (λ (bs : List Bool). AreCutsBelow net c.loop-gate.gate bs) (sym c.of.ensures) c.loop-gate.invariant.cut))
+    cut_from_below net (record { wires = c.of.result }) (rw (← last, c.of.ensures) c.loop-gate.invariant.cut)

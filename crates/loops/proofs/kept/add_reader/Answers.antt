@@ -1,13 +1,12 @@
-use Rattle.std.proofs.Common.{◌≡◌, ◌<◌, ◌+◌, ℕ, List, [], length, get_or, set, ap, sym, ◌∙◌, subst, arith}
-use Rattle.loops.proofs.Common.{get_or_default, Gate, Parts, gate_at, HaveGainedPins}
+use Rattle.std.proofs.Common.{◌<◌, [], length, get_or, ap, arith}
+use Rattle.loops.proofs.Common.{get_or_default, gate_at}
 use Rattle.loops.proofs.KeptLemmas.{gained_pin, pin_of_source, same_element, skipped_pin}
 use Rattle.loops.proofs.kept.add_reader.Goals as goal
 use Rattle.loops.proofs.kept.add_reader.Goals.{in-Some+in_ok-push, in_default}
 
 pub loop-pin-preserved : goal.loop-pin-preserved
 loop-pin-preserved c =
-    let pins : c.items-pin-items.result.now ≡ (gate_at c.args.grouped.now.net c.args.gate).pins =
-    c.items-pin-items.ensures ∙ ap (λ (g : Gate). g.pins) c.gate.ensures.at ∙ ap (λ (net : Parts). (gate_at net c.args.gate).pins) c.net.ensures.net in
+    let pins = rw (c.gate.ensures.at, c.net.ensures.net) at c.items-pin-items.ensures in
     let within : c.loop-pin.pin-index < length (gate_at c.args.grouped.now.net c.args.gate).pins = omega (arith, c.loop-pin-test.true, ap length pins) in
     elim c.match-loop_source.branch [
       | in-Some+in_ok-push w ↦
@@ -17,13 +16,12 @@ loop-pin-preserved c =
           (same_element _ _ c.loop-pin.pin-index _ pins c.loop-pin-test.true) w.in-Some.ensures.some in
           let source = pin.feeds.source in
           let l : n < length c.loop-pin.readers = omega (arith, c.loop-pin.auto.readers, c.requires.size) in
-          subst (λ (xs : List (List ℕ)). HaveGainedPins c.args.grouped.now.net c.args.grouped.now.blocks c.args.gate (c.loop-pin.pin-index + 1) c.args.readers.now xs)
-          (sym (w.readers-is ∙ ap (λ (row : List ℕ). set c.loop-pin.readers n row) w.in_ok-push.ensures))
+          rw (w.readers-is, w.in_ok-push.ensures)
           (gained_pin c.loop-pin.readers n c.args.gate (get_or c.loop-pin.readers n w.index-readers-source.result) l (get_or_default c.loop-pin.readers n w.index-readers-source.result [] l)
           c.args.grouped.now.net c.args.grouped.now.blocks c.loop-pin.pin-index _ c.args.readers.now c.net.ensures.grouped within
           (same_element _ _ c.loop-pin.pin-index _ pins c.loop-pin-test.true) w.in-Some.ensures.some c.loop-pin.invariant)
       | in_default w ↦
-          subst (λ (xs : List (List ℕ)). HaveGainedPins c.args.grouped.now.net c.args.grouped.now.blocks c.args.gate (c.loop-pin.pin-index + 1) c.args.readers.now xs) (sym w.readers-is)
+          rw w.readers-is
           (skipped_pin c.args.grouped.now.net c.args.grouped.now.blocks c.args.gate c.loop-pin.pin-index _ c.args.readers.now c.loop-pin.readers
           (same_element _ _ c.loop-pin.pin-index _ pins c.loop-pin-test.true) w.in_default.ensures.none c.loop-pin.invariant)
     ]

@@ -1,5 +1,5 @@
-use Rattle.std.proofs.Common.{get_or, set, arith, ℕ, ◌+◌, List, [], subst, sym}
-use Rattle.loops.proofs.Common.{get_or_default, HaveGained}
+use Rattle.std.proofs.Common.{get_or, arith, []}
+use Rattle.loops.proofs.Common.{get_or_default}
 use Rattle.loops.proofs.KeptLemmas.{gained_more}
 use Rattle.loops.proofs.kept.add_source.Goals as goal
 
@@ -8,6 +8,6 @@ loop-reader-preserved c =
     let n = get_or c.args.readers.now c.loop-reader.reader-index 0 in
     let size = c.loop-reader.invariant.size in
     let within = c.requires c.loop-reader.reader-index 0 c.loop-reader-test.true in
-    subst (λ (row : List ℕ). HaveGained c.args.readers.now c.args.gate (c.loop-reader.reader-index + 1) c.args.sources.now (set c.loop-reader.sources n row)) (sym c.in_ok-push.ensures)
+    rw c.in_ok-push.ensures
     (gained_more c.loop-reader.sources n c.args.gate (get_or c.loop-reader.sources n c.index-sources-reader.result) (omega arith) (get_or_default c.loop-reader.sources n c.index-sources-reader.result [] (omega arith)) c.args.readers.now c.loop-reader.reader-index c.args.sources.now c.loop-reader-test.true
     (λ d. get_or_default c.args.readers.now c.loop-reader.reader-index d 0 c.loop-reader-test.true) c.loop-reader.invariant)

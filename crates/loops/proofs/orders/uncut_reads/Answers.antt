@@ -1,5 +1,4 @@
-use Rattle.std.proofs.Common.{◌++◌, ◌+◌, [], ◌∷◌, ℕ, List, refl, ap, sym, ◌∙◌, subst, arith}
-use Rattle.loops.proofs.Common.{AreUncutReads}
+use Rattle.std.proofs.Common.{refl, arith}
 use Rattle.loops.proofs.OrderLemmas.{at_least_place, reads_more}
 use Rattle.loops.proofs.orders.uncut_reads.Goals as goal
 
@@ -13,6 +12,5 @@ add_node-requires c =
 
 pub loop-gate-preserved : goal.loop-gate-preserved
 loop-gate-preserved c =
-    subst (λ (g : List (List ℕ)). AreUncutReads c.args.looped.now.net c.args.looped.now.blocks c.args.looped.now.cut c.args.gates.now (c.loop-gate.gate-index + 1) g)
-    (sym (c.in_ok-add_node.ensures.added ∙ ap (λ (xs : List ℕ). c.loop-gate.graph ++ xs ∷ []) c.deref.ensures.value))
+    rw (c.in_ok-add_node.ensures.added, c.deref.ensures.value)
     (reads_more c.args.looped.now.net c.args.looped.now.blocks c.args.looped.now.cut c.args.gates.now c.loop-gate.gate-index _ c.loop-gate.graph c.in_ok-places.places.items refl c.loop-gate.invariant c.in_ok-places.ensures.places)

@@ -1,4 +1,4 @@
-use Rattle.std.proofs.Common.{List, Option, sym, subst, None, Some, length}
+use Rattle.std.proofs.Common.{List, Option, sym, subst, None, Some, length, arith}
 use Rattle.short_cycles.specs.declared.search.Step.{Step}
 use Rattle.short_cycles.specs.Search.{IsRooted, IsWayBack, IsClosing}
 use Rattle.short_cycles.proofs.SearchLemmas.{search_is_rooted}
@@ -6,18 +6,10 @@ use Rattle.short_cycles.proofs.CycleLemmas.{through_some, through_none}
 use Rattle.short_cycles.proofs.cycles.shortest_through.Goals as goal
 
 pub way_back-requires : goal.way_back-requires
-way_back-requires c =
-    subst (λ (steps : List (Option Step)). IsRooted steps) (sym c.deref-in-Some.ensures.value)
-    (search_is_rooted c.args.graph.now c.args.root c.args.limit c.in_ok-steps.steps.items c.in_ok-steps.ensures)
+way_back-requires c = grind (arith, search_is_rooted c.args.graph.now c.args.root c.args.limit c.in_ok-steps.steps.items c.in_ok-steps.ensures)
 
 pub returns-in-Some : goal.returns-in-Some
-returns-in-Some c =
-    let closing : IsClosing c.args.graph.now c.args.root c.in_ok-steps.steps.items (length c.args.graph.now) (Some c.in-Some.step) =
-    rw (c.in-Some.is, c.deref.ensures.value) at c.closing.ensures in
-    let way : IsWayBack c.in_ok-steps.steps.items c.in-Some.step.from c.in_ok-way_back-in-Some.field-0.items =
-    rw c.deref-in-Some.ensures.value at c.in_ok-way_back-in-Some.ensures in
-    rw c.of.ensures
-    (through_some c.args.graph.now c.args.root c.args.limit c.in_ok-steps.steps.items c.in-Some.step c.in_ok-way_back-in-Some.field-0.items c.requires c.in_ok-steps.ensures closing way)
+returns-in-Some c = grind (arith, through_some c.args.graph.now c.args.root c.args.limit c.in_ok-steps.steps.items c.in-Some.step c.in_ok-way_back-in-Some.field-0.items c.requires c.in_ok-steps.ensures)
 
 pub returns : goal.returns
 returns c =

@@ -8,14 +8,10 @@ use Rattle.short_cycles.proofs.SearchLemmas.{only_root, searching_first_at, sear
 use Rattle.short_cycles.proofs.search.search.Goals as goal
 
 pub loop-depth-init : goal.loop-depth-init
-loop-depth-init c =
-    let steps : c.in_ok-steps.steps.items ≡ only_root c.args.graph.now c.args.root = rw c.len.ensures at c.in_ok-steps.ensures in
-    (searching_first_at c.args.graph.now c.args.root c.in_ok-steps.steps.items c.in_ok-level.level.items c.requires steps c.in_ok-level.ensures, omega arith)
+loop-depth-init c = grind (arith, searching_first_at c.args.graph.now c.args.root c.in_ok-steps.steps.items c.in_ok-level.level.items c.requires)
 
 pub next_level-requires-clause-nodes : goal.next_level-requires-clause-nodes
-next_level-requires-clause-nodes c =
-    subst (λ (nodes : List _). All (λ node. node < length c.args.graph.now) nodes) (sym c.deref.ensures.value)
-    (level_within c.args.graph.now c.args.root c.loop-depth.depth c.loop-depth.level.items c.loop-depth.steps.items c.loop-depth.invariant.0)
+next_level-requires-clause-nodes c = grind (arith, level_within c.args.graph.now c.args.root c.loop-depth.depth c.loop-depth.level.items c.loop-depth.steps.items c.loop-depth.invariant.0)
 
 -- what the slice of the steps holds after a level is what the steps hold
 kept : (n : _) (steps rest : List (Option Step)) → length steps ≡ n → steps ≡ take n (steps ++ rest)
@@ -44,6 +40,4 @@ loop-depth-preserved c =
     )
 
 pub returns : goal.returns
-returns c =
-    let most = c.loop-depth.invariant.1 in
-    searched_limit c.args.graph.now c.args.root c.args.limit c.loop-depth.depth c.loop-depth.level.items c.loop-depth.steps.items c.loop-depth.invariant.0 (omega arith)
+returns c = grind arith

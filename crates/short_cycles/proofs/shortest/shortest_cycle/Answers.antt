@@ -1,4 +1,4 @@
-use Rattle.std.proofs.Common.{◌≡◌, List, Option, None, length, drop, sym, subst}
+use Rattle.std.proofs.Common.{◌≡◌, List, Option, None, length, drop, sym, subst, arith}
 use Rattle.short_cycles.specs.declared.search.Step.{Step}
 use Rattle.short_cycles.specs.Search.{IsSearch, IsRooted, IsWayBack, IsBest, IsBestOf, IsNearestOf}
 use Rattle.short_cycles.proofs.SearchLemmas.{search_is_rooted}
@@ -12,22 +12,13 @@ returns-in_default-clause-none c =
     reaches_none c.args.graph.now c.args.goal c.in_ok-reached.reached.items reached none
 
 pub nearest-start-requires-clause-placed : goal.nearest-start-requires-clause-placed
-nearest-start-requires-clause-placed c =
-    let reached : IsSearch c.args.graph.now c.args.goal (length c.args.graph.now) c.in_ok-reached.reached.items = rw c.len.ensures at c.in_ok-reached.ensures in
-    let best : IsBestOf c.args.graph.now c.in_ok-reached.reached.items (length c.args.graph.now) c.in-Some.cycle = rw (c.in-Some.is, c.deref.ensures.value) at c.in_ok-cycle.ensures in
-    rw (c.items.ensures, c.deref-2.ensures.value)
-    (cycle_is_placed c.args.graph.now c.args.goal c.in_ok-reached.reached.items reached c.in-Some.cycle best.cycle best.placed)
+nearest-start-requires-clause-placed c = grind (arith, cycle_is_placed c.args.graph.now c.args.goal c.in_ok-reached.reached.items)
 
 pub nearest-start-requires-clause-some : goal.nearest-start-requires-clause-some
-nearest-start-requires-clause-some c =
-    let best : IsBestOf c.args.graph.now c.in_ok-reached.reached.items (length c.args.graph.now) c.in-Some.cycle = rw (c.in-Some.is, c.deref.ensures.value) at c.in_ok-cycle.ensures in
-    rw c.items.ensures best.cycle.some
+nearest-start-requires-clause-some c = grind arith
 
 pub way_back-requires : goal.way_back-requires
-way_back-requires c =
-    let reached : IsSearch c.args.graph.now c.args.goal (length c.args.graph.now) c.in_ok-reached.reached.items = rw c.len.ensures at c.in_ok-reached.ensures in
-    subst (λ (steps : List (Option Step)). IsRooted steps) (sym c.deref-3.ensures.value)
-    (search_is_rooted c.args.graph.now c.args.goal (length c.args.graph.now) c.in_ok-reached.reached.items reached)
+way_back-requires c = grind (arith, search_is_rooted c.args.graph.now c.args.goal (length c.args.graph.now) c.in_ok-reached.reached.items)
 
 pub returns-clause-found : goal.returns-clause-found
 returns-clause-found c =

@@ -7,7 +7,14 @@ use Rattle.ternary_clauses.proofs.ReadingLemmas.{All-within-more}
 use Rattle.ternary_clauses.proofs.lifting.lift_before.Goals as goal
 
 pub loop-position-init : goal.loop-position-init
-loop-position-init c = grind (arith, Extends-refl c.args.formula.now c.args.pins.now c.requires.formula, base-table c.args.local.now.store c.args.formula.now c.args.pins.now c.requires.formula)
+loop-position-init c =
+    let items : c.in_ok-table.table.items ≡ base_rails = c.in_ok-table.ensures.items in
+    record {
+      grown = Extends-refl c.args.formula.now c.args.pins.now c.requires.formula;
+      long = ap length items;
+      table = subst (IsTable c.args.local.now.store c.args.formula.now c.args.pins.now) (sym items) (base-table c.args.local.now.store c.args.formula.now c.args.pins.now c.requires.formula);
+      within = omega arith;
+    }
 
 pub loop-position-preserved : goal.loop-position-preserved
 loop-position-preserved c =
@@ -24,12 +31,3 @@ lift_node-requires-clause-table c = subst (IsTable c.args.local.now.store c.loop
 
 pub lift_node-requires-clause-rails : goal.lift_node-requires-clause-rails
 lift_node-requires-clause-rails c = All-within-more c.args.formula.now.variables c.loop-position.formula.variables c.args.pins.now c.loop-position.invariant.grown.grows.more c.requires.rails
-
-pub lift_node-requires-clause-formula : goal.lift_node-requires-clause-formula
-lift_node-requires-clause-formula c = c.loop-position.invariant.grown.grows.formula
-
-pub returns-clause-table : goal.returns-clause-table
-returns-clause-table c = c.loop-position.invariant.table
-
-pub returns-clause-extends : goal.returns-clause-extends
-returns-clause-extends c = c.loop-position.invariant.grown

@@ -1,13 +1,15 @@
 use Rattle.std.proofs.Common.{◌≡◌, ◌<◌, ◌+◌, List, ℕ, ◌∷◌, [], ◌++◌, length, take, get_or, sym, subst, arith}
-use Rattle.std.proofs.lemmas.List.{take_more}
-use Rattle.ternary_clauses.proofs.Common.{SaysAny}
+use Rattle.ternary_clauses.proofs.Common.{SaysAny, take_more}
 use Rattle.ternary_clauses.proofs.SumLemmas.{IsLast, any-none, any-step, last-none, last-step}
 use Rattle.ternary_clauses.proofs.sums.add_any.Goals as goal
 
 pub loop-literal-init : goal.loop-literal-init
 loop-literal-init c =
     let f = c.args.formula.now in
-    grind (arith, any-none f c.requires.formula, last-none f c.requires.formula)
+    record {
+      sums = subst (SaysAny f f (take 0 c.args.literals.now)) (sym c.new-sums.ensures.items) (any-none f c.requires.formula);
+      last = last-none f c.requires.formula;
+    }
 
 pub loop-literal-preserved : goal.loop-literal-preserved
 loop-literal-preserved c =

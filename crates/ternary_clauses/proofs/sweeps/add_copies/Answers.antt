@@ -5,11 +5,10 @@ use Rattle.ternary_clauses.proofs.sweeps.add_copies.Goals as goal
 pub loop-init : goal.loop-init
 loop-init c = rw c.new-copies.ensures.items (copies-none c.args.formula.now c.requires)
 
-pub new_wire-requires : goal.new_wire-requires
-new_wire-requires c = c.loop.invariant.grows.formula
-
 pub loop-preserved : goal.loop-preserved
 loop-preserved c = rw c.in_ok-push.ensures.items (copies-step c.args.formula.now c.loop.formula c.new_wire.new.self c.loop.copies.items c.loop.counter c.in_ok-wire.wire c.loop.invariant c.in_ok-wire.ensures)
 
 pub returns : goal.returns
-returns c = grind arith
+returns c =
+    let all : c.loop.counter ≡ c.args.count = omega (arith, c.loop-test.false, c.loop.auto.counter-end) in
+    rw (← all) c.loop.invariant

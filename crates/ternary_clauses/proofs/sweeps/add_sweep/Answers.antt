@@ -1,11 +1,10 @@
-use Rattle.std.proofs.Common.{◌≡◌, ◌∙◌, refl, ap, length, subst, arith}
+use Rattle.std.proofs.Common.{◌≡◌, ◌∙◌, refl, ap, length, subst}
 use Rattle.loops.specs.declared.structure.Blocks.{Blocks}
 use Rattle.loops.specs.declared.structure.Cut.{Cut}
 use Rattle.loops.specs.Blocks.{block_at}
 use Rattle.loops.specs.Looped.{Looped}
 use Rattle.loops.proofs.OrderLemmas.{block_gates, block_rises, block_within}
-use Rattle.ternary_clauses.proofs.Common.{AreCopies}
-use Rattle.ternary_clauses.specs.Sweeps.{CopiedLoop, AreCopied}
+use Rattle.ternary_clauses.proofs.Common.{AreCopies, CopiedLoop, AreCopied}
 use Rattle.ternary_clauses.proofs.SweepLemmas.{copy_of, loop_copy, sweep-says}
 use Rattle.ternary_clauses.proofs.sweeps.add_sweep.Goals as goal
 use Rattle.ternary_clauses.proofs.sweeps.add_sweep.Goals.{After-deref}
@@ -29,7 +28,14 @@ invariant_of-copy g =
     let c : After-deref = (goal.at.invariant_of-copy g).After-deref in
     let l : Looped = c.args.looped.now in
     let is = c.cut.ensures.looped in
-    grind (arith, After-deref, same c, block_rises l.net l.blocks is.blocks c.args.block c.requires.block, block_within l.net l.blocks is.blocks c.args.block c.requires.block, copies c)
+    rw (same c) (record {
+      rise = block_rises l.net l.blocks is.blocks c.args.block c.requires.block;
+      inside = block_within l.net l.blocks is.blocks c.args.block c.requires.block;
+      cut = is.cut.width;
+      rails = c.requires.rails;
+      before = c.requires.before;
+      after = (copies c).size;
+    })
 
 pub returns : goal.returns
 returns g =

@@ -12,8 +12,7 @@ use Rattle.netlist.specs.Fixpoint.{wire}
 use Rattle.ternary_run.proofs.ticks.loaded.Goals as goal
 
 source_within : (net : Parts) (n : ℕ) (latch : Latch) → IsNetlist net → slice_get net.latches n ≡ Some latch → IsSignal net latch.from
-source_within net n latch valid at =
-    subst (λ (l : Latch). IsSignal net l.from) (get_or_from_slice_get net.latches n latch latch at) (valid.sources n latch (slice_get_within net.latches n latch at))
+source_within net n latch valid at = grind (arith, get_or_from_slice_get, slice_get_within)
 
 pub loop-number-preserved : goal.loop-number-preserved
 loop-number-preserved c =
@@ -32,9 +31,7 @@ pub loop-number-init : goal.loop-number-init
 loop-number-init c = ap (λ (l : List Trit). l ++ map (λ (latch : Latch). wire c.args.values.now latch.from) c.args.net.now.latches) c.in_ok-next.ensures.items
 
 pub value_of-requires : goal.value_of-requires
-value_of-requires c =
-    subst (λ (n : ℕ). c.latch.result.now.from.0 < n) (sym c.requires)
-    (source_within c.args.net.now c.loop-number.number c.latch.result.now c.latch.ensures.valid c.latch.ensures.latch)
+value_of-requires c = grind (arith, source_within)
 
 pub returns : goal.returns
 returns c =

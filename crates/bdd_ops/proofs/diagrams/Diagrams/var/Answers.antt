@@ -1,4 +1,4 @@
-use Rattle.std.proofs.Common.{Bool, List}
+use Rattle.std.proofs.Common.{Bool, List, arith}
 use Rattle.bdd_store.specs.Arena.{choice}
 use Rattle.bdd_store.proofs.GrowthLemmas.{NewAreParts-made, IsRefusedPart-made, choice-bit, grows_by_parts, grows_alike}
 use Rattle.bdd_ops.proofs.ChoiceLemmas.{AreRight-kept}
@@ -15,7 +15,4 @@ returns-clause-grows c =
     (λ is_full. IsRefusedPart-made c.self.inside.store c.make-answer.new.self made (rw is_full at c.make-answer.ensures.err) (c.make-answer.ensures.full.0 is_full).1 (c.make-answer.ensures.new_function is_full))))
 
 pub invariant_of-self : goal.invariant_of-self
-invariant_of-self c = (
-  AreComputed-kept c.self.inside.store c.make-answer.new.self c.self.inside.computed c.make-answer.ensures.keeps c.self.invariant.0,
-  AreRight-kept c.self.inside.store c.make-answer.new.self c.make-answer.ensures.keeps c.make-answer.ensures.answers c.self.invariant.1,
-)
+invariant_of-self c = grind (arith, AreComputed-kept, AreRight-kept)

@@ -11,12 +11,12 @@ returns-clause-place c =
     (subst (HasDiagram c.args.net.now (c.args.self.now.shared.items ++ (record { gate = c.args.gate; diagram = c.in_ok-diagram.diagram }) ∷ []) c.args.gate) at
     (diagram-new c.args.net.now c.args.self.now.shared.items (record { gate = c.args.gate; diagram = c.in_ok-diagram.diagram }) c.args.gate c.in_ok-diagram.ensures.diagram))
 
-pub returns-clause-shared : goal.returns-clause-shared
-returns-clause-shared c =
-    subst (AreShared c.args.net.now) (sym c.in_ok-push.ensures.items)
-    (All-push (IsShared c.args.net.now) c.args.self.now.shared.items (record { gate = c.args.gate; diagram = c.in_ok-diagram.diagram }) c.requires.shared (record { gate = c.requires.gate; diagram = c.in_ok-diagram.ensures.diagram }))
-
 pub returns-clause-others : goal.returns-clause-others
 returns-clause-others c n place has =
     subst (λ (xs : List SharedDiagram). HasDiagram c.args.net.now xs n place) (sym c.in_ok-push.ensures.items)
     (diagram-stays c.args.net.now c.args.self.now.shared.items (record { gate = c.args.gate; diagram = c.in_ok-diagram.diagram }) n place has)
+
+pub returns-clause-shared : goal.returns-clause-shared
+returns-clause-shared c =
+    subst (AreShared c.args.net.now) (sym c.in_ok-push.ensures.items)
+    (All-push (IsShared c.args.net.now) c.args.self.now.shared.items (record { gate = c.args.gate; diagram = c.in_ok-diagram.diagram }) c.requires.shared (record { gate = c.requires.gate; diagram = c.in_ok-diagram.ensures.diagram }))

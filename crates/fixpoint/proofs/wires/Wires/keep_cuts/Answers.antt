@@ -1,8 +1,7 @@
 use Rattle.std.proofs.Common.{◌≡◌, ◌+◌, ◌∙◌, ℕ, List, ap, length, get_or, subst, sym, arith}
 use Rattle.std.proofs.lemmas.List.{get_or_read, length-set}
-use Rattle.std.specs.List.{Contains}
-use Rattle.fixpoint.proofs.Common.{Rails, rails_at, take_all, unknown}
-use Rattle.fixpoint.proofs.CutLemmas.{kept-step, others-kept-step, proper-step}
+use Rattle.fixpoint.proofs.Common.{All-set, AreRailsOf, Rails, rails_at, unknown}
+use Rattle.fixpoint.proofs.WireLemmas.{rails_at-proper, set-taken, set-others}
 use Rattle.fixpoint.proofs.wires.Wires.keep_cuts.Goals as goal
 
 pub loop-gate-preserved : goal.loop-gate-preserved
@@ -21,11 +20,7 @@ loop-gate-preserved c =
     record {
       rails = inv.rails;
       width = length-set before gate c.index.result.now ∙ inv.width;
-      kept = rw read (kept-step cuts c.args.first rails before i inside (omega (arith, room, inv.width)) inv.kept);
-      others = rw read (others-kept-step cuts c.args.first rails c.args.self.now.before.items before i inside inv.others);
-      proper = λ a all old. rw read (proper-step a cuts c.args.first rails before i all (inv.proper a all old));
+      kept = set-taken (λ n r. r ≡ rails_at rails (c.args.first + n)) cuts before i c.index.result.now unknown inside (omega (arith, room, inv.width)) inv.kept read;
+      others = set-others cuts c.args.self.now.before.items before i c.index.result.now unknown inside inv.others;
+      proper = λ a all old. All-set (AreRailsOf a) before gate c.index.result.now (subst (AreRailsOf a) (sym read) (rails_at-proper a rails all (c.args.first + gate))) (inv.proper a all old);
     }
-
-pub returns-clause-kept : goal.returns-clause-kept
-returns-clause-kept c n has =
-    c.loop-gate.invariant.kept n (subst (λ (ns : List ℕ). Contains ns n) (sym (take_all c.loop-gate.gate-index c.args.cuts.now c.loop-gate-test.false)) has)

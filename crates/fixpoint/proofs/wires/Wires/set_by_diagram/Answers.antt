@@ -1,5 +1,5 @@
-use Rattle.std.proofs.Common.{◌≡◌, ◌∙◌, ℕ, sym, List, set, subst, ap, arith, map}
-use Rattle.fixpoint.proofs.Common.{within_moved, within_refused, within_answered, value, ext, Sig, Rails, BoundsEach, IsExtended, Gate, Parts, first_gate, gate_at, rails_read}
+use Rattle.std.proofs.Common.{◌≡◌, ◌∙◌, set, ap, arith, map}
+use Rattle.fixpoint.proofs.Common.{within_moved, within_refused, within_answered, value, ext, Sig, Rails, Gate, Parts, first_gate, gate_at, rails_read}
 use Rattle.fixpoint.proofs.WireLemmas.{rails_read-proper, pins-proper, pins-values}
 use Rattle.fixpoint.proofs.wires.Wires.set_by_diagram.Goals as goal
 use Rattle.fixpoint.proofs.wires.Wires.set_by_diagram.Goals.{After-lift_cover}
@@ -16,11 +16,6 @@ reads c = rails_read c.args.looped.now.net c.args.looped.now.cut c.args.self.now
 listed : (c : After-lift_cover) → c.deref.result.now ≡ map (reads c) (gate_at c.args.looped.now.net c.args.gate).pins
 listed c = c.deref.ensures.value ∙ c.in-Ok.ensures ∙ ap (map (reads c)) (c.items.ensures ∙ ap (λ (g : Gate). g.pins) (c.gate.ensures.at ∙ ap (λ (n : Parts). gate_at n c.args.gate) c.net-net.ensures.net))
 
-bounded : (c : After-lift_cover) (w : ℕ) → BoundsEach c.args.d.now.vars (IsExtended c.args.d.now (map (reads c) (gate_at c.args.looped.now.net c.args.gate).pins) (value (gate_at c.args.looped.now.net c.args.gate).cover)) w →
-    BoundsEach c.args.d.now.vars (IsExtended c.args.d.now c.deref.result.now (value (gate_at c.args.looped.now.net c.args.gate).cover)) w
-bounded c w =
-    subst (λ (list : List Rails). BoundsEach c.args.d.now.vars (IsExtended c.args.d.now list (value (gate_at c.args.looped.now.net c.args.gate).cover)) w) (sym (listed c))
-
 pub returns-clause-set : goal.returns-clause-set
 returns-clause-set c =
     let after : After-lift_cover = (goal.at.returns-clause-set c).After-lift_cover in
@@ -33,7 +28,7 @@ returns-clause-set c =
     }
 
 pub returns-clause-grows : goal.returns-clause-grows
-returns-clause-grows c = within_answered (within_moved (bounded ((goal.at.returns-clause-grows c).After-lift_cover)) (rw c.net-net.ensures.net at c.lift_cover.ensures.grows))
+returns-clause-grows c = within_answered (within_moved (λ w bounds. rw (listed (goal.at.returns-clause-grows c).After-lift_cover) bounds) (rw c.net-net.ensures.net at c.lift_cover.ensures.grows))
 
 pub returns-in_err-made-clause-grows : goal.returns-in_err-made-clause-grows
-returns-in_err-made-clause-grows c = within_refused c.in_err-made.was c.from_residual.ensures.1 (within_moved (bounded ((goal.at.returns-in_err-made-clause-grows c).After-lift_cover)) (rw c.net-net.ensures.net at c.lift_cover.ensures.grows))
+returns-in_err-made-clause-grows c = within_refused c.in_err-made.was c.from_residual.ensures.1 (within_moved (λ w bounds. rw (listed (goal.at.returns-in_err-made-clause-grows c).After-lift_cover) bounds) (rw c.net-net.ensures.net at c.lift_cover.ensures.grows))

@@ -1,9 +1,9 @@
-use Rattle.std.proofs.Common.{◌+◌, ◌*◌, ◌≤◌, ◌∙◌, take, arith, ℕ, List, length, filter, get_or, subst, refl}
-use Rattle.fixpoint.proofs.Common.{take_all, sum_by_more, sum_by-take-le, GrowsWithin, NoOtherCause, within_then, within_moved, within_more, within_refused, within_answered, size, IsWide, gate_at, block_at, is_cut, loops_by, Vectors, IsGateSet, IsSweepable, OthersStay, after_sweeps, IsWorking, cost, order_cost}
-use Rattle.bdd_store.proofs.GrowthLemmas.{KeepsNodes-chain}
+use Rattle.std.proofs.Common.{◌+◌, ◌*◌, ◌≤◌, ◌∙◌, take, arith, ℕ, length, filter, get_or, refl}
+use Rattle.fixpoint.proofs.Common.{sum_by_more, sum_by-take-le, GrowsWithin, NoOtherCause, within_then, within_moved, within_more, within_refused, within_answered, size, IsWide, gate_at, block_at, is_cut, loops_by, Looped, Vectors, IsSweepable, after_sweeps, IsWorking, cost, order_cost}
+use Rattle.bdd_store.proofs.GrowthLemmas.{KeepsNodes-refl, KeepsNodes-chain, nothing_grown}
 use Rattle.fixpoint.proofs.BoundLemmas.{sweep-bounds}
-use Rattle.fixpoint.proofs.WireLemmas.{AreWires-set}
-use Rattle.fixpoint.proofs.SweepLemmas.{sweeping-step, sweeping-end, others-step}
+use Rattle.fixpoint.proofs.WireLemmas.{AreWires-set, given-set}
+use Rattle.fixpoint.proofs.SweepLemmas.{sweeping-step, sweeping-end}
 use Rattle.fixpoint.proofs.wires.Wires.sweep.Goals as goal
 use Rattle.fixpoint.proofs.wires.Wires.sweep.Goals.{After-set_by_diagram}
 
@@ -14,35 +14,42 @@ step : (c : After-set_by_diagram) (b k : ℕ) (v : Vectors) → IsSweepable c.ar
     (2 * order_cost c.args.looped.now.net (take c.loop-place.place c.args.order.now) + 2 * size (gate_at c.args.looped.now.net (get_or c.args.order.now c.loop-place.place 0)).cover)
 step c b k v ready few =
     let inv = c.loop-place.invariant in
+    let far = inv.swept b v (after_sweeps c.args.looped.now v k) ready in
     within_then (inv.grows b k v ready few)
-    (within_moved (λ w wide. sweep-bounds c.args.looped.now c.set_by_diagram.ensures.valid b v k c.args.order.now c.args.d.now c.loop-place.d c.args.self.now.before.items c.args.self.now.rails.items c.loop-place.self.rails.items ready inv.keeps
-    c.loop-place.place c.loop-place-test.true inv.others (inv.swept b v (after_sweeps c.args.looped.now v k) ready) few wide) (rw inv.before at c.set_by_diagram.ensures.grows))
+    (within_moved (λ w wide. sweep-bounds c.args.looped.now c.set_by_diagram.ensures.valid b v k c.args.order.now c.loop-place.d c.args.self.now.before.items c.loop-place.self.rails.items far.0
+    c.loop-place.place c.loop-place-test.true far.1 few (rw (← inv.keeps.vars) at wide)) (rw inv.before at c.set_by_diagram.ensures.grows))
+
+pub loop-place-init : goal.loop-place-init
+loop-place-init c = record {
+  keeps = KeepsNodes-refl c.args.d.now;
+  grows = λ b k v ready few. nothing_grown;
+  before = refl;
+  wires = c.requires.wires;
+  given = refl;
+  swept = λ b v states ready. (ready, λ n bits less has. absurd (omega (arith, has.1)));
+}
 
 pub loop-place-preserved : goal.loop-place-preserved
 loop-place-preserved c =
-    let net = c.args.looped.now.net in
+    let l : Looped = c.args.looped.now in
     let order = c.args.order.now in
     let i = c.loop-place.place in
     let inside = c.loop-place-test.true in
     let inv = c.loop-place.invariant in
     let set = c.in_ok-set_by_diagram.ensures.set in
-    let done : IsGateSet c.args.looped.now.net c.args.looped.now.cut c.loop-place.d c.set_by_diagram.new.d c.args.self.now.before.items c.loop-place.self.rails.items c.set_by_diagram.new.self.rails.items (get_or c.args.order.now c.loop-place.place 0) = rw inv.before at set in
     let keeps = c.set_by_diagram.ensures.grows.keeps in
     record {
       keeps = KeepsNodes-chain inv.keeps keeps;
-      grows = λ b k v ready few. within_more (omega (arith, sum_by_more (cost net) order i 0 inside)) (within_answered (step ((goal.at.loop-place-preserved c).After-set_by_diagram) b k v ready few));
+      grows = λ b k v ready few. within_more (omega (arith, sum_by_more (cost l.net) order i 0 inside)) (within_answered (step ((goal.at.loop-place-preserved c).After-set_by_diagram) b k v ready few));
       before = c.set_by_diagram.ensures.before ∙ inv.before;
       wires = rw c.set_by_diagram.ensures.before (AreWires-set (get_or order i 0) keeps inv.wires set);
-      others = others-step net c.args.looped.now.cut order c.loop-place.d c.set_by_diagram.new.d c.args.self.now.before.items c.args.self.now.rails.items c.loop-place.self.rails.items c.set_by_diagram.new.self.rails.items i (get_or order i 0) inside refl inv.others done;
-      swept = sweeping-step c.args.looped.now c.in_ok-set_by_diagram.ensures.valid order c.args.d.now c.loop-place.d c.set_by_diagram.new.d c.args.self.now.before.items c.args.self.now.rails.items c.loop-place.self.rails.items c.set_by_diagram.new.self.rails.items i (get_or order i 0)
-          inv.keeps keeps (rw inv.before at inv.wires) inside (c.requires.order i 0 inside) refl inv.others done inv.swept;
+      given = given-set (get_or order i 0) set ∙ inv.given;
+      swept = sweeping-step l c.in_ok-set_by_diagram.ensures.valid order c.args.d.now c.loop-place.d c.set_by_diagram.new.d c.args.self.now.before.items c.args.self.now.rails.items c.loop-place.self.rails.items c.set_by_diagram.new.self.rails.items i
+          keeps inside (rw inv.before at set) inv.swept;
     }
 
 pub returns-clause-swept : goal.returns-clause-swept
-returns-clause-swept c b v c2 ready = sweeping-end c.args.looped.now c.args.order.now c.args.d.now c.loop-place.d c.args.self.now.before.items c.args.self.now.rails.items c.loop-place.self.rails.items c.loop-place.place c.loop-place-test.false c.loop-place.invariant.swept b v c2 ready
-
-pub returns-clause-others : goal.returns-clause-others
-returns-clause-others c = subst (λ (ns : List ℕ). OthersStay c.args.looped.now.net ns c.args.self.now.rails.items c.loop-place.self.rails.items) (take_all c.loop-place.place c.args.order.now c.loop-place-test.false) c.loop-place.invariant.others
+returns-clause-swept c b v states ready = sweeping-end c.args.looped.now c.args.order.now c.args.d.now c.loop-place.d c.args.self.now.before.items c.args.self.now.rails.items c.loop-place.self.rails.items c.loop-place.place c.loop-place-test.false c.loop-place.invariant.swept b v states ready
 
 pub returns-clause-grows : goal.returns-clause-grows
 returns-clause-grows c b k v ready few =
@@ -52,3 +59,6 @@ pub returns-in_err-set_by_diagram-clause-grows : goal.returns-in_err-set_by_diag
 returns-in_err-set_by_diagram-clause-grows c b k v ready few =
     within_more (omega (arith, sum_by_more (cost c.args.looped.now.net) c.args.order.now c.loop-place.place 0 c.loop-place-test.true, sum_by-take-le (cost c.args.looped.now.net) c.args.order.now (c.loop-place.place + 1)))
     (within_refused c.in_err-set_by_diagram.was c.from_residual.ensures.1 (step ((goal.at.returns-in_err-set_by_diagram-clause-grows c).After-set_by_diagram) b k v ready few))
+
+pub returns-clause-solved : goal.returns-clause-solved
+returns-clause-solved c b v states ready = (c.loop-place.invariant.swept b v states ready).0.solved

@@ -1,5 +1,5 @@
 use Rattle.std.proofs.Common.{◌*◌, ◌≡◌, ◌≤◌, ℕ, length, filter, take}
-use Rattle.fixpoint.proofs.Common.{KeepsNodes, HasGrown, IsWide, block_at, is_cut, loops_by, Vectors, IsWorking, order_cost, AreWires, IsSweepable, OthersStay, after_sweeps}
+use Rattle.fixpoint.proofs.Common.{KeepsNodes, HasGrown, IsWide, block_at, is_cut, loops_by, Vectors, IsWorking, order_cost, AreWires, IsSweepable, first_gate, after_sweeps}
 use Rattle.fixpoint.proofs.SweepLemmas.{IsSweeping}
 use Rattle.fixpoint.proofs.wires.Wires.sweep.Given as goal
 
@@ -10,6 +10,6 @@ invariant-loop-place l = record {
       → HasGrown l.fn.d l.d (IsWide l.fn.d.vars (IsWorking l.looped.net (loops_by l.looped.blocks l.looped.cut) v)) (2 * order_cost l.looped.net (take l.place l.order));
   before : l.self.before.items ≡ l.initial.self.before.items;
   wires : AreWires l.looped.net l.d l.self.before.items l.self.rails.items;
-  others : OthersStay l.looped.net (take l.place l.order) l.initial.self.rails.items l.self.rails.items;
+  given : take (first_gate l.looped.net) l.self.rails.items ≡ take (first_gate l.looped.net) l.initial.self.rails.items;
   swept : IsSweeping l.looped l.order l.initial.d l.initial.self.before.items l.initial.self.rails.items l.d l.self.rails.items l.place;
 }

@@ -1,31 +1,9 @@
-use Rattle.std.proofs.Common.{◌*◌, ◌≤◌, ◌≡◌, ◌∙◌, ◌+◌, ℕ, List, [], ◌∷◌, ◌++◌, length, map, filter, refl, subst, sym, ap, ap₂, arith, true≢false, Contains}
-use Rattle.fixpoint.proofs.Common.{All, AreRailsOf, length_push, GrowsWithin, NoOtherCause, IsLawful, within_refused, within_answered, IsWide, Rails, block_at, home_of, is_cut, loops_by, IsOrderOf, first_gate, AreLocalsOf, Vectors, rails_at, AreWires, IsSweepable, AreSwept, OthersStay, after_sweeps, IsUnderway, IsAtRest, IsWorking, order_cost}
+use Rattle.std.proofs.Common.{◌*◌, ◌≤◌, ◌≡◌, ◌∙◌, ◌+◌, ℕ, List, [], ◌∷◌, ◌++◌, length, map, filter, subst, sym, ap, ap₂, arith, true≢false}
+use Rattle.fixpoint.proofs.Common.{GrowsWithin, NoOtherCause, IsLawful, within_refused, within_answered, IsWide, Rails, block_at, is_cut, loops_by, IsOrderOf, first_gate, Vectors, rails_at, AreWires, IsSweepable, after_sweeps, IsUnderway, IsWorking, order_cost}
 use Rattle.fixpoint.specs.Plans.{IsPlanOf}
-use Rattle.fixpoint.proofs.LoopLemmas.{at-rest, few-next, underway-next}
-use Rattle.fixpoint.proofs.PlanLemmas.{each-within}
+use Rattle.fixpoint.proofs.LoopLemmas.{at-rest, underway-next}
 use Rattle.fixpoint.proofs.wires.Wires.sweep_once.Goals as goal
-use Rattle.fixpoint.proofs.wires.Wires.sweep_once.Goals.{After-sweep, After-are_still}
-
-pub step_of-requires : goal.step_of-requires
-step_of-requires c = each-within c.items-cuts.ensures (sym (ap length c.deref.ensures.value ∙ c.requires.wires.before_width)) c.requires.plan.cuts
-
-pub sweep-requires-clause-order : goal.sweep-requires-clause-order
-sweep-requires-clause-order c = each-within c.items.ensures refl c.requires.plan.order
-
-pub sweep-requires-clause-locals : goal.sweep-requires-clause-locals
-sweep-requires-clause-locals c = subst (λ (ns : List ℕ). AreLocalsOf c.args.looped.now.net ns c.args.plan.now.locals) (sym c.items.ensures) c.requires.plan.locals
-
-pub are_still-requires-clause-cuts : goal.are_still-requires-clause-cuts
-are_still-requires-clause-cuts c = each-within c.items-cuts.ensures (sym c.in_ok-sweep.ensures.wires.before_width) c.requires.plan.cuts
-
-pub are_still-requires-clause-width : goal.are_still-requires-clause-width
-are_still-requires-clause-width c = omega (arith, c.in_ok-sweep.ensures.wires.width, c.in_ok-sweep.ensures.wires.before_width, c.columns-first.ensures.columns, ap first_gate c.net.ensures.net)
-
-pub keep_cuts-requires-clause-cuts : goal.keep_cuts-requires-clause-cuts
-keep_cuts-requires-clause-cuts c = each-within c.items-cuts.ensures (sym c.in_ok-sweep.ensures.wires.before_width) c.requires.plan.cuts
-
-pub keep_cuts-requires-clause-width : goal.keep_cuts-requires-clause-width
-keep_cuts-requires-clause-width c = omega (arith, c.in_ok-sweep.ensures.wires.width, c.in_ok-sweep.ensures.wires.before_width, c.columns-first.ensures.columns, ap first_gate c.net.ensures.net)
+use Rattle.fixpoint.proofs.wires.Wires.sweep_once.Goals.{After-sweep, After-are_still, After-keep_cuts}
 
 -- where the loop is underway, the sweep may read what it reads
 abbrev Underway : (c : After-sweep) → ℕ → Vectors → Type 0
@@ -58,15 +36,9 @@ returns-then-are_still-clause-grows c b v plan under = within_answered (swept-on
 pub returns-clause-grows : goal.returns-clause-grows
 returns-clause-grows c b v plan under = within_answered (swept-once ((goal.at.returns-clause-grows c).After-sweep) b v plan under)
 
--- the step, the order and the first gate as the lemmas name them
+-- the step and the first gate as the lemmas name them
 pushed-step : (c : After-are_still) → c.push.new.self.items ≡ c.args.steps.now.items ++ map (rails_at c.args.self.now.before.items) c.args.plan.now.cuts ∷ []
 pushed-step c = c.in_ok-push.ensures.items ∙ ap (λ (x : List Rails). c.args.steps.now.items ++ x ∷ []) (c.of.ensures ∙ c.in_ok-step.ensures ∙ ap₂ (λ (bs : List Rails) (ns : List ℕ). map (rails_at bs) ns) c.deref.ensures.value c.items-cuts.ensures)
-
-others-stay : (c : After-are_still) → OthersStay c.args.looped.now.net c.args.plan.now.order c.args.self.now.rails.items c.sweep.new.self.rails.items
-others-stay c = subst (λ (ns : List ℕ). OthersStay c.args.looped.now.net ns c.args.self.now.rails.items c.sweep.new.self.rails.items) c.items.ensures c.in_ok-sweep.ensures.others
-
-wires-swept : (c : After-are_still) → AreWires c.args.looped.now.net c.sweep.new.d c.args.self.now.before.items c.sweep.new.self.rails.items
-wires-swept c = subst (λ (bs : List Rails). AreWires c.args.looped.now.net c.sweep.new.d bs c.sweep.new.self.rails.items) c.sweep.ensures.before c.in_ok-sweep.ensures.wires
 
 first-is : (c : After-are_still) → c.columns-first.result ≡ first_gate c.args.looped.now.net
 first-is c = omega (arith, c.columns-first.ensures.columns, ap first_gate c.net.ensures.net)
@@ -75,66 +47,43 @@ first-is c = omega (arith, c.columns-first.ensures.columns, ap first_gate c.net.
 same-before : (c : After-are_still) (n : ℕ) → rails_at c.sweep.new.self.before.items n ≡ rails_at c.args.self.now.before.items n
 same-before c n = ap (λ (bs : List Rails). rails_at bs n) c.sweep.ensures.before
 
-pub returns-then-are_still-clause-others : goal.returns-then-are_still-clause-others
-returns-then-are_still-clause-others c = others-stay ((goal.at.returns-then-are_still-clause-others c).After-are_still)
-
-pub returns-clause-others : goal.returns-clause-others
-returns-clause-others c = rw c.keep_cuts.ensures.rails (others-stay ((goal.at.returns-clause-others c).After-are_still))
-
-pub returns-then-are_still-clause-longer : goal.returns-then-are_still-clause-longer
-returns-then-are_still-clause-longer c = ap length c.in_ok-push.ensures.items ∙ length_push c.args.steps.now.items c.of.result
-
-pub returns-clause-longer : goal.returns-clause-longer
-returns-clause-longer c = ap length c.in_ok-push.ensures.items ∙ length_push c.args.steps.now.items c.of.result
-
 -- the cut wires stand still
 pub returns-then-are_still-clause-swept : goal.returns-then-are_still-clause-swept
 returns-then-are_still-clause-swept c b v plan under =
     let at : After-are_still = (goal.at.returns-then-are_still-clause-swept c).After-are_still in
-    let still : (n : ℕ) → Contains c.args.plan.now.cuts n → rails_at c.args.self.now.before.items n ≡ rails_at c.sweep.new.self.rails.items (first_gate c.args.looped.now.net + n) =
-    λ n has. sym (same-before at n) ∙ c.are_still.ensures.0 c.if-are_still.true n (subst (λ (ns : List ℕ). Contains ns n) (sym c.items-cuts.ensures) has) ∙ ap (λ (m : ℕ). rails_at c.sweep.new.self.rails.items (m + n)) (first-is at) in
-    subst (λ (bs : List Rails). IsAtRest c.args.looped.now c.sweep.new.d v b c.args.plan.now.cuts c.push.new.self.items bs c.sweep.new.self.rails.items) (sym c.sweep.ensures.before)
-    (subst (λ (xs : List (List Rails)). IsAtRest c.args.looped.now c.sweep.new.d v b c.args.plan.now.cuts xs c.args.self.now.before.items c.sweep.new.self.rails.items) (sym (pushed-step at))
-    (at-rest c.args.looped.now plan.are b plan.loop v c.args.plan.now.order plan.order c.args.d.now c.sweep.new.d c.sweep.ensures.keeps (subst IsLawful c.store.ensures c.laws.ensures)
-    c.args.plan.now.cuts plan.cuts c.args.steps.now.items c.args.self.now.before.items c.args.self.now.rails.items c.sweep.new.self.rails.items under (others-stay at) (wires-swept at)
-    (c.in_ok-sweep.ensures.swept b v (after_sweeps c.args.looped.now v (length c.args.steps.now.items)) (ready (goal.at.returns-then-are_still-clause-swept c).After-sweep b v plan under)) still))
+    let start = ready (goal.at.returns-then-are_still-clause-swept c).After-sweep b v plan under in
+    let states = after_sweeps c.args.looped.now v (length c.args.steps.now.items) in
+    rw (c.sweep.ensures.before, pushed-step at)
+    (at-rest c.args.looped.now plan.are b plan.loop v c.args.d.now c.sweep.new.d c.sweep.ensures.keeps (subst IsLawful c.store.ensures c.laws.ensures)
+    c.args.plan.now.cuts plan.cuts c.args.steps.now.items c.args.self.now.before.items c.args.self.now.rails.items c.sweep.new.self.rails.items under (c.in_ok-sweep.ensures.solved b v states start) (c.in_ok-sweep.ensures.swept b v states start)
+    (λ n has. sym (same-before at n) ∙ c.are_still.ensures.0 c.if-are_still.true n (rw c.items-cuts.ensures has) ∙ ap (λ (m : ℕ). rails_at c.sweep.new.self.rails.items (m + n)) (first-is at)))
 
-pub returns-clause-wires : goal.returns-clause-wires
-returns-clause-wires c =
+wires-kept : (c : After-keep_cuts) → AreWires c.args.looped.now.net c.sweep.new.d c.keep_cuts.new.self.before.items c.sweep.new.self.rails.items
+wires-kept c =
     let wires = c.in_ok-sweep.ensures.wires in
     record {
-      width = ap length c.keep_cuts.ensures.rails ∙ wires.width;
+      width = wires.width;
       before_width = c.keep_cuts.ensures.width ∙ wires.before_width;
-      proper = subst (All (AreRailsOf c.sweep.new.d)) (sym c.keep_cuts.ensures.rails) wires.proper;
+      proper = wires.proper;
       before_proper = c.keep_cuts.ensures.proper c.sweep.new.d wires.proper wires.before_proper;
     }
+
+pub returns-clause-wires : goal.returns-clause-wires
+returns-clause-wires c = rw c.keep_cuts.ensures.rails (wires-kept (goal.at.returns-clause-wires c).After-keep_cuts)
 
 -- else they are kept
 pub returns-clause-swept : goal.returns-clause-swept
 returns-clause-swept c b v plan under =
     let at : After-are_still = (goal.at.returns-clause-swept c).After-are_still in
-    let e = c.sweep.new.d in
-    let cuts = c.args.plan.now.cuts in
-    let order = c.args.plan.now.order in
-    let steps = c.args.steps.now.items in
-    let before = c.args.self.now.before.items in
+    let start = ready (goal.at.returns-clause-swept c).After-sweep b v plan under in
+    let states = after_sweeps c.args.looped.now v (length c.args.steps.now.items) in
     let after = c.sweep.new.self.rails.items in
-    let wires : AreWires c.args.looped.now.net c.sweep.new.d c.args.self.now.before.items c.sweep.new.self.rails.items = wires-swept at in
-    let lawful : IsLawful c.sweep.new.d = subst IsLawful c.store.ensures c.laws.ensures in
-    let swept : AreSwept c.args.looped.now c.sweep.new.d v (after_sweeps c.args.looped.now v (length c.args.steps.now.items)) (λ n. home_of c.args.looped.now.blocks n ≡ b) c.sweep.new.self.rails.items =
-    c.in_ok-sweep.ensures.swept b v (after_sweeps c.args.looped.now v (length c.args.steps.now.items)) (ready (goal.at.returns-clause-swept c).After-sweep b v plan under) in
-    let moves : ¬ ((n : ℕ) → Contains c.args.plan.now.cuts n → rails_at c.args.self.now.before.items n ≡ rails_at c.sweep.new.self.rails.items (first_gate c.args.looped.now.net + n)) =
-    λ all. true≢false (sym (c.are_still.ensures.1 (λ n has. same-before at n ∙ all n (subst (λ (ns : List ℕ). Contains ns n) c.items-cuts.ensures has) ∙ ap (λ (m : ℕ). rails_at c.sweep.new.self.rails.items (m + n)) (sym (first-is at)))) ∙ c.if-are_still.false) in
-    let kept : AreWires c.args.looped.now.net c.sweep.new.d c.keep_cuts.new.self.before.items c.sweep.new.self.rails.items = record {
-      width = wires.width;
-      before_width = c.keep_cuts.ensures.width ∙ c.in_ok-sweep.ensures.wires.before_width;
-      proper = wires.proper;
-      before_proper = c.keep_cuts.ensures.proper c.sweep.new.d wires.proper c.in_ok-sweep.ensures.wires.before_proper;
-    } in
-    subst (λ (rs : List Rails). IsUnderway c.args.looped.now c.sweep.new.d v b c.args.plan.now.cuts c.push.new.self.items c.keep_cuts.new.self.before.items rs) (sym c.keep_cuts.ensures.rails)
-    (subst (λ (xs : List (List Rails)). IsUnderway c.args.looped.now c.sweep.new.d v b c.args.plan.now.cuts xs c.keep_cuts.new.self.before.items c.sweep.new.self.rails.items) (sym (pushed-step at))
-    (underway-next c.args.looped.now plan.are b plan.loop v order plan.order c.args.d.now e c.sweep.ensures.keeps lawful cuts plan.cuts steps before c.args.self.now.rails.items after under (others-stay at) wires swept c.keep_cuts.new.self.before.items
-    (λ n has. c.keep_cuts.ensures.kept n (subst (λ (ns : List ℕ). Contains ns n) (sym c.items-cuts.ensures) has) ∙ ap (λ (m : ℕ). rails_at c.sweep.new.self.rails.items (m + n)) (first-is at))
-    (λ n free. c.keep_cuts.ensures.others n (λ has. free (subst (λ (ns : List ℕ). Contains ns n) c.items-cuts.ensures has)) ∙ same-before at n)
-    kept
-    (few-next c.args.looped.now plan.are b plan.loop v order plan.order c.args.d.now e c.sweep.ensures.keeps lawful cuts plan.cuts steps before c.args.self.now.rails.items after under (others-stay at) wires swept moves)))
+    let first : (n : ℕ) → rails_at after (c.columns-first.result + n) ≡ rails_at after (first_gate c.args.looped.now.net + n) = λ n. ap (λ (m : ℕ). rails_at after (m + n)) (first-is at) in
+    rw (c.keep_cuts.ensures.rails, pushed-step at)
+    (underway-next c.args.looped.now plan.are b plan.loop v c.args.d.now c.sweep.new.d c.sweep.ensures.keeps (subst IsLawful c.store.ensures c.laws.ensures)
+    c.args.plan.now.cuts plan.cuts c.args.steps.now.items c.args.self.now.before.items c.args.self.now.rails.items after under (c.in_ok-sweep.ensures.solved b v states start) (c.in_ok-sweep.ensures.swept b v states start)
+    c.keep_cuts.new.self.before.items
+    (λ n has. c.keep_cuts.ensures.kept n (rw c.items-cuts.ensures has) ∙ first n)
+    (λ n free. c.keep_cuts.ensures.others n (rw c.items-cuts.ensures free) ∙ same-before at n)
+    (wires-kept (goal.at.returns-clause-swept c).After-keep_cuts)
+    (λ all. true≢false (sym (c.are_still.ensures.1 (λ n has. same-before at n ∙ all n (rw c.items-cuts.ensures at has) ∙ sym (first n))) ∙ c.if-are_still.false)))

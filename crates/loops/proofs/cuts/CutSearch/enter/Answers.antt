@@ -1,9 +1,7 @@
 -- A gate closes a walk, or is entered between what it reads and what reads it.
-use Rattle.std.proofs.Common.{◌≡◌, ◌↔◌, ◌<◌, ◌+◌, ℕ, Bool, true, false, List, length, set, get_or, refl, ap, inl, arith, subst, sym, ◌∙◌, true≢false}
-use Rattle.loops.proofs.Common.{get_or-set_same, length-set, HasParted, HaveGained, HaveGainedPins, IsKept, ReadsBack, IsLoopPin, InRow, IsFree, IsReady, row_at, gate_at}
-use Rattle.loops.specs.Keeping.{IsPlaced}
-use Rattle.loops.specs.Landmarks.{Passes}
-use Rattle.loops.proofs.CutLemmas.{closes, entered, found_free, left_out, parted, reads_back, row_laid, rows_as, stays_open}
+use Rattle.std.proofs.Common.{◌↔◌, ◌<◌, ◌+◌, ℕ, true, false, List, length, set, get_or, refl, ap, inl, arith, sym, ◌∙◌, true≢false}
+use Rattle.loops.proofs.Common.{get_or-set_same, length-set, HasParted, HaveGainedPins, IsKept, IsLoopPin, InRow, IsFree, gate_at}
+use Rattle.loops.proofs.CutLemmas.{closes, entered, found_free, left_out, parted, reads_back, row_laid, search_left_out, stays_open}
 use Rattle.loops.proofs.KeptLemmas.{gained_rows, kept_links, landmarks_as, own_row, ready_as}
 use Rattle.loops.proofs.LandmarkLemmas.{landmark_kept, passed_meet}
 use Rattle.loops.proofs.cuts.CutSearch.enter.Goals as goal
@@ -15,48 +13,27 @@ is_laid c =
     row_laid (IsLoopPin c.args.grouped.now.net c.args.grouped.now.blocks) c.args.cut.now c.args.gate (omega (arith, c.requires.gate, c.requires.cut)) c.args.self.now.kept.readers.items c.args.self.now.kept.sources.items c.args.self.now.kept.levels.items c.in_ok-row.row c.requires.search.kept
     (own_row c.args.grouped.now.net c.args.grouped.now.blocks c.args.cut.now c.args.gate c.in_ok-row.row c.in_ok-row.ensures)
 
--- the two searches leave the rows
-same_readers : (c : In_ok-part) → c.part.new.kept.readers.items ≡ c.args.self.now.kept.readers.items
-same_readers c = ap (λ v. v.items) c.in_ok-part.ensures.readers
-
-same_sources : (c : In_ok-part) → c.part.new.kept.sources.items ≡ set c.args.self.now.kept.sources.items c.args.gate c.in_ok-row.row
-same_sources c = ap (λ v. v.items) c.in_ok-part.ensures.sources
-
 -- the rows of the gate's sources have gained it
 gains : (c : In_ok-insert) → HaveGainedPins c.args.grouped.now.net c.args.grouped.now.blocks c.args.gate (length (gate_at c.args.grouped.now.net c.args.gate).pins) c.args.self.now.kept.readers.items c.insert.new.self.readers.items
-gains c =
-    let reads : c.part.new.kept.readers.items ≡ c.args.self.now.kept.readers.items = ap (λ v. v.items) c.in_ok-part.ensures.readers in
-    subst (λ (xs : List (List ℕ)). HaveGainedPins c.args.grouped.now.net c.args.grouped.now.blocks c.args.gate (length (gate_at c.args.grouped.now.net c.args.gate).pins) xs c.insert.new.self.readers.items) reads c.in_ok-insert.ensures.readers
-
--- a search with this goal next is ready for the one after it
-ready_later : (width n : ℕ) (marks : List ℕ) → IsReady width n marks → IsReady width (n + 1) marks
-ready_later width n marks r = record { size = r.size; bound = λ x. (let b = r.bound x in omega arith) }
+gains c = rw c.in_ok-part.ensures.readers at c.in_ok-insert.ensures.readers
 
 -- both rows of the gate meet
 is_met : (c : Then-branch) → HasParted c.args.self.now.kept.readers.items (set c.args.self.now.kept.sources.items c.args.gate c.in_ok-row.row) c.args.gate c.args.self.now.kept.levels.items c.part.new.kept.levels.items true
-is_met c =
-    subst (λ (b : Bool). HasParted c.args.self.now.kept.readers.items (set c.args.self.now.kept.sources.items c.args.gate c.in_ok-row.row) c.args.gate c.args.self.now.kept.levels.items c.part.new.kept.levels.items b) c.if-branch.true c.in_ok-part.ensures.parted
+is_met c = rw c.if-branch.true at c.in_ok-part.ensures.parted
 
 -- the gate is entered
 is_entered : (c : In_ok-insert) → IsKept (IsLoopPin c.args.grouped.now.net c.args.grouped.now.blocks) (set c.args.cut.now c.args.gate false) (c.args.gate + 1) c.insert.new.self.readers.items c.insert.new.self.sources.items c.insert.new.self.levels.items
 is_entered c =
     let R = IsLoopPin c.args.grouped.now.net c.args.grouped.now.blocks in
     let n = c.args.gate in
-    let reads : c.part.new.kept.readers.items ≡ c.args.self.now.kept.readers.items = ap (λ v. v.items) c.in_ok-part.ensures.readers in
-    let fed : c.part.new.kept.sources.items ≡ set c.args.self.now.kept.sources.items c.args.gate c.in_ok-row.row = ap (λ v. v.items) c.in_ok-part.ensures.sources in
     let l : n < length c.args.cut.now = omega (arith, c.requires.gate, c.requires.cut) in
     let laid = row_laid R c.args.cut.now n l c.args.self.now.kept.readers.items c.args.self.now.kept.sources.items c.args.self.now.kept.levels.items c.in_ok-row.row c.requires.search.kept
     (own_row c.args.grouped.now.net c.args.grouped.now.blocks c.args.cut.now n c.in_ok-row.row c.in_ok-row.ensures) in
     let sources : List (List ℕ) = set c.args.self.now.kept.sources.items n c.in_ok-row.row in
     let levels = c.part.new.kept.levels.items in
-    let apart = parted R c.args.cut.now n l c.args.self.now.kept.readers.items sources c.args.self.now.kept.levels.items laid.0 laid.1 levels
-    (subst (λ (b : Bool). HasParted c.args.self.now.kept.readers.items sources n c.args.self.now.kept.levels.items levels b) c.if-branch.false c.in_ok-part.ensures.parted) in
-    let placed : IsPlaced (row_at sources n) (row_at c.args.self.now.kept.readers.items n) n levels c.insert.new.self.levels.items =
-    subst (λ (xs : List (List ℕ)). IsPlaced (row_at xs n) (row_at c.args.self.now.kept.readers.items n) n levels c.insert.new.self.levels.items) fed
-    (subst (λ (xs : List (List ℕ)). IsPlaced (row_at c.part.new.kept.sources.items n) (row_at xs n) n levels c.insert.new.self.levels.items) reads c.in_ok-insert.ensures.placed) in
-    let gained : HaveGained (row_at c.args.self.now.kept.readers.items n) n (length (row_at c.args.self.now.kept.readers.items n)) sources c.insert.new.self.sources.items =
-    subst (λ (xs : List (List ℕ)). HaveGained (row_at c.args.self.now.kept.readers.items n) n (length (row_at c.args.self.now.kept.readers.items n)) xs c.insert.new.self.sources.items) fed
-    (subst (λ (xs : List (List ℕ)). HaveGained (row_at xs n) n (length (row_at xs n)) c.part.new.kept.sources.items c.insert.new.self.sources.items) reads c.in_ok-insert.ensures.sources) in
+    let apart = parted R c.args.cut.now n l c.args.self.now.kept.readers.items sources c.args.self.now.kept.levels.items laid.0 laid.1 levels (rw c.if-branch.false at c.in_ok-part.ensures.parted) in
+    let placed = rw (c.in_ok-part.ensures.readers, c.in_ok-part.ensures.sources) at c.in_ok-insert.ensures.placed in
+    let gained = rw (c.in_ok-part.ensures.readers, c.in_ok-part.ensures.sources) at c.in_ok-insert.ensures.sources in
     let pins = gains c in
     entered R c.args.cut.now n l c.args.self.now.kept.readers.items sources c.args.self.now.kept.levels.items laid.0 laid.1 levels apart c.insert.new.self.levels.items c.insert.new.self.readers.items c.insert.new.self.sources.items
     (λ h. true≢false (sym (c.reads_itself.ensures.1 h) ∙ c.if-reads_itself.false)) placed pins.size
@@ -64,15 +41,8 @@ is_entered c =
 
 pub returns-then-reads_itself-clause-search : goal.returns-then-reads_itself-clause-search
 returns-then-reads_itself-clause-search c =
-    let l : c.args.gate < length c.args.cut.now = omega (arith, c.requires.gate, c.requires.cut) in
-    let s = c.requires.search in
-    let width = length-set c.args.cut.now c.args.gate true in
-    record {
-      kept = left_out (IsLoopPin c.args.grouped.now.net c.args.grouped.now.blocks) c.args.cut.now c.args.gate l c.args.self.now.kept.readers.items c.args.self.now.kept.sources.items c.args.self.now.kept.levels.items s.kept;
-      forth = ready_as (length c.args.cut.now) (length (set c.args.cut.now c.args.gate true)) (c.args.gate + 1) c.args.self.now.searches.forth.marks.items width (ready_later (length c.args.cut.now) c.args.gate c.args.self.now.searches.forth.marks.items s.forth);
-      back = ready_as (length c.args.cut.now) (length (set c.args.cut.now c.args.gate true)) (c.args.gate + 1) c.args.self.now.searches.back.marks.items width (ready_later (length c.args.cut.now) c.args.gate c.args.self.now.searches.back.marks.items s.back);
-      landmarks = landmarks_as c.args.self.now.kept.readers.items c.args.self.now.kept.readers.items (length c.args.cut.now) (length (set c.args.cut.now c.args.gate true)) c.args.self.now.landmarks.list.items refl width s.landmarks;
-    }
+    search_left_out (IsLoopPin c.args.grouped.now.net c.args.grouped.now.blocks) c.args.cut.now c.args.gate (omega (arith, c.requires.gate, c.requires.cut)) c.args.self.now _ c.requires.search
+    c.requires.search.kept refl refl refl
 
 pub links-requires : goal.links-requires
 links-requires c =
@@ -84,24 +54,14 @@ returns-then-is_closed-clause-leads c =
     let l : c.args.gate < length c.args.cut.now = omega (arith, c.requires.gate, c.requires.cut) in
     let laid = is_laid (goal.at.returns-then-is_closed-clause-leads c).In_ok-row in
     let sources : List (List ℕ) = set c.args.self.now.kept.sources.items c.args.gate c.in_ok-row.row in
-    let links = c.links.result in
-    let passed : Passes c.args.self.now.kept.readers.items (row_at c.args.self.now.kept.readers.items c.args.gate) (row_at sources c.args.gate) =
-    rows_as links.readers.now links.sources.now links.levels.now c.args.self.now.kept.readers.items sources c.args.self.now.kept.levels.items (sym c.links.ensures.readers) (sym c.links.ensures.sources) (sym c.links.ensures.levels)
-    (λ r s v. Passes r (row_at r c.args.gate) (row_at s c.args.gate)) (c.is_closed.ensures c.if-is_closed.true) in
+    let passed = rw (c.links.ensures.readers, c.links.ensures.sources) at (c.is_closed.ensures c.if-is_closed.true) in
     (λ e. closes (IsLoopPin c.args.grouped.now.net c.args.grouped.now.blocks) c.args.cut.now c.args.gate l c.args.self.now.kept.readers.items sources c.args.self.now.kept.levels.items laid.0 laid.1 (passed_meet c.args.self.now.kept.readers.items sources c.args.gate passed), λ k. refl)
 
 pub returns-then-is_closed-clause-search : goal.returns-then-is_closed-clause-search
 returns-then-is_closed-clause-search c =
-    let l : c.args.gate < length c.args.cut.now = omega (arith, c.requires.gate, c.requires.cut) in
     let laid = is_laid (goal.at.returns-then-is_closed-clause-search c).In_ok-row in
-    let s = c.requires.search in
-    let width = length-set c.args.cut.now c.args.gate true in
-    record {
-      kept = left_out (IsLoopPin c.args.grouped.now.net c.args.grouped.now.blocks) c.args.cut.now c.args.gate l c.args.self.now.kept.readers.items (set c.args.self.now.kept.sources.items c.args.gate c.in_ok-row.row) c.args.self.now.kept.levels.items laid.0;
-      forth = ready_as (length c.args.cut.now) (length (set c.args.cut.now c.args.gate true)) (c.args.gate + 1) c.args.self.now.searches.forth.marks.items width (ready_later (length c.args.cut.now) c.args.gate c.args.self.now.searches.forth.marks.items s.forth);
-      back = ready_as (length c.args.cut.now) (length (set c.args.cut.now c.args.gate true)) (c.args.gate + 1) c.args.self.now.searches.back.marks.items width (ready_later (length c.args.cut.now) c.args.gate c.args.self.now.searches.back.marks.items s.back);
-      landmarks = landmarks_as c.args.self.now.kept.readers.items c.args.self.now.kept.readers.items (length c.args.cut.now) (length (set c.args.cut.now c.args.gate true)) c.args.self.now.landmarks.list.items refl width s.landmarks;
-    }
+    search_left_out (IsLoopPin c.args.grouped.now.net c.args.grouped.now.blocks) c.args.cut.now c.args.gate (omega (arith, c.requires.gate, c.requires.cut)) c.args.self.now _ c.requires.search
+    laid.0 refl refl refl
 
 pub learn-requires-clause-within : goal.learn-requires-clause-within
 learn-requires-clause-within c =
@@ -119,15 +79,10 @@ learn-requires-clause-within c =
 pub learn-requires-clause-back : goal.learn-requires-clause-back
 learn-requires-clause-back c =
     let l : c.args.gate < length c.args.cut.now = omega (arith, c.requires.gate, c.requires.cut) in
-    let p = (goal.at.learn-requires-clause-back c).In_ok-part in
     let laid = is_laid (goal.at.learn-requires-clause-back c).In_ok-row in
     let sources : List (List ℕ) = set c.args.self.now.kept.sources.items c.args.gate c.in_ok-row.row in
-    let met = is_met (goal.at.learn-requires-clause-back c).Then-branch in
-    let links = c.links-then-branch.result in
     λ x found.
-    rows_as c.args.self.now.kept.readers.items sources c.args.self.now.kept.levels.items links.readers.now links.sources.now links.levels.now
-    (c.links-then-branch.ensures.readers ∙ same_readers p) (c.links-then-branch.ensures.sources ∙ same_sources p) (c.links-then-branch.ensures.levels ∙ met.1)
-    (λ r s v. ReadsBack r s x)
+    rw (c.links-then-branch.ensures.readers, c.links-then-branch.ensures.sources, c.in_ok-part.ensures.readers, c.in_ok-part.ensures.sources)
     (reads_back (IsLoopPin c.args.grouped.now.net c.args.grouped.now.blocks) c.args.cut.now c.args.gate c.args.self.now.kept.readers.items sources c.args.self.now.kept.levels.items laid.0 x
     (found_free (IsLoopPin c.args.grouped.now.net c.args.grouped.now.blocks) c.args.cut.now c.args.gate l c.args.self.now.kept.readers.items sources c.args.self.now.kept.levels.items laid.0 laid.1 x (c.in_ok-part.ensures.reached x found)))
 
@@ -142,7 +97,6 @@ returns-then-branch-clause-leads c =
 pub returns-then-branch-clause-search : goal.returns-then-branch-clause-search
 returns-then-branch-clause-search c =
     let l : c.args.gate < length c.args.cut.now = omega (arith, c.requires.gate, c.requires.cut) in
-    let p = (goal.at.returns-then-branch-clause-search c).In_ok-part in
     let laid = is_laid (goal.at.returns-then-branch-clause-search c).In_ok-row in
     let sources : List (List ℕ) = set c.args.self.now.kept.sources.items c.args.gate c.in_ok-row.row in
     let met = is_met (goal.at.returns-then-branch-clause-search c).Then-branch in
@@ -151,8 +105,8 @@ returns-then-branch-clause-search c =
     let same = ap (λ (xs : List ℕ). length xs) (c.links-then-branch.ensures.levels ∙ met.1) in
     let width = length-set c.args.cut.now c.args.gate true in
     record {
-      kept = rows_as c.args.self.now.kept.readers.items sources c.args.self.now.kept.levels.items c.part.new.kept.readers.items c.part.new.kept.sources.items c.part.new.kept.levels.items (same_readers p) (same_sources p) met.1
-          (λ r s v. IsKept (IsLoopPin c.args.grouped.now.net c.args.grouped.now.blocks) (set c.args.cut.now c.args.gate true) (c.args.gate + 1) r s v) (left_out (IsLoopPin c.args.grouped.now.net c.args.grouped.now.blocks) c.args.cut.now c.args.gate l c.args.self.now.kept.readers.items sources c.args.self.now.kept.levels.items laid.0);
+      kept = rw (c.in_ok-part.ensures.readers, c.in_ok-part.ensures.sources, met.1)
+          (left_out (IsLoopPin c.args.grouped.now.net c.args.grouped.now.blocks) c.args.cut.now c.args.gate l c.args.self.now.kept.readers.items sources c.args.self.now.kept.levels.items laid.0);
       forth = ready_as (length c.args.self.now.kept.levels.items) (length (set c.args.cut.now c.args.gate true)) (c.args.gate + 1) c.part.new.self.forth.marks.items (omega (arith, width, kept.levels_size)) c.in_ok-part.ensures.forth;
       back = ready_as (length c.args.self.now.kept.levels.items) (length (set c.args.cut.now c.args.gate true)) (c.args.gate + 1) c.part.new.self.back.marks.items (omega (arith, width, kept.levels_size)) c.in_ok-part.ensures.back;
       landmarks = landmarks_as links.readers.now c.part.new.kept.readers.items (length links.levels.now) (length (set c.args.cut.now c.args.gate true)) c.learn.new.self.list.items
@@ -163,14 +117,12 @@ pub insert-requires-clause-apart : goal.insert-requires-clause-apart
 insert-requires-clause-apart c =
     let n = c.args.gate in
     let l : n < length c.args.cut.now = omega (arith, c.requires.gate, c.requires.cut) in
-    let at = (goal.at.insert-requires-clause-apart c).In_ok-part in
     let laid = is_laid (goal.at.insert-requires-clause-apart c).In_ok-row in
     let sources : List (List ℕ) = set c.args.self.now.kept.sources.items n c.in_ok-row.row in
     let levels = c.part.new.kept.levels.items in
-    let apart = parted (IsLoopPin c.args.grouped.now.net c.args.grouped.now.blocks) c.args.cut.now n l c.args.self.now.kept.readers.items sources c.args.self.now.kept.levels.items laid.0 laid.1 levels
-    (subst (λ (b : Bool). HasParted c.args.self.now.kept.readers.items sources n c.args.self.now.kept.levels.items levels b) c.if-branch.false c.in_ok-part.ensures.parted) in
+    let apart = parted (IsLoopPin c.args.grouped.now.net c.args.grouped.now.blocks) c.args.cut.now n l c.args.self.now.kept.readers.items sources c.args.self.now.kept.levels.items laid.0 laid.1 levels (rw c.if-branch.false at c.in_ok-part.ensures.parted) in
     λ p s one two.
-    (let less = apart.apart p s (subst (λ (xs : List (List ℕ)). InRow xs n p) (same_sources at) one) (subst (λ (xs : List (List ℕ)). InRow xs n s) (same_readers at) two) in omega arith)
+    (let less = apart.apart p s (rw c.in_ok-part.ensures.sources at one) (rw c.in_ok-part.ensures.readers at two) in omega arith)
 
 pub links-requires-2 : goal.links-requires-2
 links-requires-2 c =
@@ -184,8 +136,7 @@ extend-requires-clause-back c =
     let l : n < length c.args.cut.now = omega (arith, c.requires.gate, c.requires.cut) in
     let kept = is_entered (goal.at.extend-requires-clause-back c).In_ok-insert in
     let free : IsFree (set c.args.cut.now n false) (n + 1) n = record { before = omega arith; uncut = get_or-set_same c.args.cut.now n false false l } in
-    rows_as c.insert.new.self.readers.items c.insert.new.self.sources.items c.insert.new.self.levels.items c.links-2.result.readers.now c.links-2.result.sources.now c.links-2.result.levels.now
-    c.links-2.ensures.readers c.links-2.ensures.sources c.links-2.ensures.levels (λ r s v. ReadsBack r s n)
+    rw (c.links-2.ensures.readers, c.links-2.ensures.sources)
     (reads_back (IsLoopPin c.args.grouped.now.net c.args.grouped.now.blocks) (set c.args.cut.now n false) (n + 1) c.insert.new.self.readers.items c.insert.new.self.sources.items c.insert.new.self.levels.items kept n free)
 
 pub extend-requires-clause-landmarks : goal.extend-requires-clause-landmarks
@@ -206,8 +157,7 @@ returns-clause-leads c =
     let laid = is_laid (goal.at.returns-clause-leads c).In_ok-row in
     let sources : List (List ℕ) = set c.args.self.now.kept.sources.items n c.in_ok-row.row in
     let levels = c.part.new.kept.levels.items in
-    let apart = parted (IsLoopPin c.args.grouped.now.net c.args.grouped.now.blocks) c.args.cut.now n l c.args.self.now.kept.readers.items sources c.args.self.now.kept.levels.items laid.0 laid.1 levels
-    (subst (λ (b : Bool). HasParted c.args.self.now.kept.readers.items sources n c.args.self.now.kept.levels.items levels b) c.if-branch.false c.in_ok-part.ensures.parted) in (
+    let apart = parted (IsLoopPin c.args.grouped.now.net c.args.grouped.now.blocks) c.args.cut.now n l c.args.self.now.kept.readers.items sources c.args.self.now.kept.levels.items laid.0 laid.1 levels (rw c.if-branch.false at c.in_ok-part.ensures.parted) in (
       λ e. absurd (true≢false (sym e)),
       λ k. absurd (stays_open (IsLoopPin c.args.grouped.now.net c.args.grouped.now.blocks) c.args.cut.now n l c.args.self.now.kept.readers.items sources c.args.self.now.kept.levels.items laid.0 laid.1 levels apart
           (λ h. true≢false (sym (c.reads_itself.ensures.1 h) ∙ c.if-reads_itself.false)) k),

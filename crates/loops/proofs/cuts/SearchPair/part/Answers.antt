@@ -1,11 +1,8 @@
 -- What one search has found is moved past the levels of the other row.
-use Rattle.std.proofs.Common.{◌≡◌, ◌<◌, ◌+◌, ◌-◌, inl, inr, false, ℕ, List, [], length, ap, arith, subst, sym, ◌∙◌, Contains}
-use Rattle.loops.proofs.Common.{get_or_default, with_items_is, AtMost, AtLeast, HasParted, row_at}
-use Rattle.std.specs.List.{All}
-use Rattle.std.specs.Vec.{with_items}
-use Rattle.loops.specs.declared.cuts.Outcome.{Outcome}
-use Rattle.loops.specs.Keeping.{AreNear, HasEnded, HasOutcome, IsLowered, IsNear, IsRaised}
-use Rattle.loops.proofs.CutLemmas.{high_is_near, low_is_near, rows_as}
+use Rattle.std.proofs.Common.{◌≡◌, ◌-◌, inl, inr, ℕ, List, [], length, ap, arith, subst, sym, ◌∙◌}
+use Rattle.loops.proofs.Common.{get_or_default, with_items_is, AtMost, AtLeast, row_at}
+use Rattle.loops.specs.Keeping.{AreNear, HasEnded, IsNear}
+use Rattle.loops.proofs.CutLemmas.{high_is_near, low_is_near}
 use Rattle.loops.proofs.KeptLemmas.{row_within, within_of}
 use Rattle.loops.proofs.cuts.SearchPair.part.Goals as goal
 use Rattle.loops.proofs.cuts.SearchPair.part.Goals.{In-Ahead, In-Behind, In_ok-run}
@@ -38,13 +35,13 @@ low_near c =
     (row_within links.readers.now (length links.levels.now) c.args.goal c.gates-ahead.result.now c.links-links.result.readers_within (omega (arith, c.requires.goal, wide, c.links-links.result.readers_size)) (ahead_row c))
     (omega (arith, c.from-2.ensures)) (omega (arith, c.requires.fits)) c.lowest-low.ensures.ceiling c.lowest-low.ensures.greatest
 
-ended_ahead : (c : In-Ahead) → HasEnded c.links-links.result.readers.now c.links-links.result.levels.now (AtMost c.highest-high.result) c.args.goal (row_at c.links-links.result.sources.now c.args.goal) c.run.new.self.forth.found.items
+ended_ahead : (c : In-Ahead) → HasEnded c.args.kept.now.readers.items c.args.kept.now.levels.items (AtMost c.highest-high.result) c.args.goal (row_at c.args.kept.now.sources.items c.args.goal) c.run.new.self.forth.found.items
 ended_ahead c =
-    subst (λ (o : Outcome). HasOutcome c.links-links.result.readers.now c.links-links.result.sources.now c.links-links.result.levels.now c.highest-high.result c.lowest-low.result c.args.goal c.run.new.self.forth.found.items c.run.new.self.back.found.items o) c.in-Ahead.is c.in_ok-run.ensures.outcome
+    rw (c.in-Ahead.is, c.links-links.ensures.readers, c.links-links.ensures.sources, c.links-links.ensures.levels) at c.in_ok-run.ensures.outcome
 
-ended_behind : (c : In-Behind) → HasEnded c.links-links.result.sources.now c.links-links.result.levels.now (AtLeast c.lowest-low.result) c.args.goal (row_at c.links-links.result.readers.now c.args.goal) c.run.new.self.back.found.items
+ended_behind : (c : In-Behind) → HasEnded c.args.kept.now.sources.items c.args.kept.now.levels.items (AtLeast c.lowest-low.result) c.args.goal (row_at c.args.kept.now.readers.items c.args.goal) c.run.new.self.back.found.items
 ended_behind c =
-    subst (λ (o : Outcome). HasOutcome c.links-links.result.readers.now c.links-links.result.sources.now c.links-links.result.levels.now c.highest-high.result c.lowest-low.result c.args.goal c.run.new.self.forth.found.items c.run.new.self.back.found.items o) c.in-Behind.is c.in_ok-run.ensures.outcome
+    rw (c.in-Behind.is, c.links-links.ensures.readers, c.links-links.ensures.sources, c.links-links.ensures.levels) at c.in_ok-run.ensures.outcome
 
 pub overflow_add-high : goal.overflow_add-high
 overflow_add-high c = let near = high_near (goal.at.overflow_add-high c).In_ok-run in let most = near.high in omega (arith, c.requires.fits)
@@ -55,67 +52,43 @@ overflow_sub-low c = let near = low_near (goal.at.overflow_sub-low c).In_ok-run 
 pub raise-requires : goal.raise-requires
 raise-requires c =
     let ended = ended_ahead (goal.at.raise-requires c).In-Ahead in
-    let same : c.links-links.result.levels.now ≡ c.deref_mut.result.now = c.links-links.ensures.levels ∙ sym c.deref_mut.ensures.value in
-    subst (λ (levels : List ℕ). All (λ x. x < length levels) c.deref.result.now) same
-    (subst (λ (xs : List ℕ). All (λ x. x < length c.links-links.result.levels.now) xs) (sym c.deref.ensures.value) (within_of c.run.new.self.forth.found.items (length c.links-links.result.levels.now) ended.within))
+    rw (c.deref_mut.ensures.value, c.deref.ensures.value) (within_of c.run.new.self.forth.found.items (length c.args.kept.now.levels.items) ended.within)
 
 pub lower-requires : goal.lower-requires
 lower-requires c =
     let ended = ended_behind (goal.at.lower-requires c).In-Behind in
-    let same : c.links-links.result.levels.now ≡ c.deref_mut-in-Behind.result.now = c.links-links.ensures.levels ∙ sym c.deref_mut-in-Behind.ensures.value in
-    subst (λ (levels : List ℕ). All (λ x. x < length levels) c.deref-in-Behind.result.now) same
-    (subst (λ (xs : List ℕ). All (λ x. x < length c.links-links.result.levels.now) xs) (sym c.deref-in-Behind.ensures.value) (within_of c.run.new.self.back.found.items (length c.links-links.result.levels.now) ended.within))
+    rw (c.deref_mut-in-Behind.ensures.value, c.deref-in-Behind.ensures.value) (within_of c.run.new.self.back.found.items (length c.args.kept.now.levels.items) ended.within)
 
 pub returns-in-Ahead-clause-parted : goal.returns-in-Ahead-clause-parted
 returns-in-Ahead-clause-parted c =
     let p = (goal.at.returns-in-Ahead-clause-parted c).In_ok-run in
-    let links = c.links-links.result in
-    let same : c.deref_mut.result.now ≡ links.levels.now = c.deref_mut.ensures.value ∙ sym c.links-links.ensures.levels in
-    let raised : IsRaised c.run.new.self.forth.found.items (length c.run.new.self.forth.found.items) (c.highest-high.result + 1) links.levels.now c.raise.new.levels =
-    subst (λ (v : List ℕ). IsRaised c.run.new.self.forth.found.items (length c.run.new.self.forth.found.items) (c.highest-high.result + 1) v c.raise.new.levels) same
-    (subst (λ (xs : List ℕ). IsRaised xs (length xs) (c.highest-high.result + 1) c.deref_mut.result.now c.raise.new.levels) c.deref.ensures.value c.raise.ensures) in
+    let raised = rw (c.deref.ensures.value, c.deref_mut.ensures.value) at c.raise.ensures in
     let size = raised.size in
-    let wide = ap (λ (xs : List ℕ). length xs) c.links-links.ensures.levels in
-    let written : (with_items c.args.kept.now.levels c.raise.new.levels).items ≡ c.raise.new.levels =
-    with_items_is c.args.kept.now.levels c.raise.new.levels (omega (arith, size, wide, c.args.kept.now.levels.ok.0)) in
-    subst (λ (w : List ℕ). HasParted c.args.kept.now.readers.items c.args.kept.now.sources.items c.args.goal c.args.kept.now.levels.items w false) (sym written)
-    (rows_as links.readers.now links.sources.now links.levels.now c.args.kept.now.readers.items c.args.kept.now.sources.items c.args.kept.now.levels.items
-    (sym c.links-links.ensures.readers) (sym c.links-links.ensures.sources) (sym c.links-links.ensures.levels)
-    (λ r s v. HasParted r s c.args.goal v c.raise.new.levels false)
-    (inl (record {
+    let written = with_items_is c.args.kept.now.levels c.raise.new.levels (omega (arith, size, c.args.kept.now.levels.ok.0)) in
+    rw written (inl (record {
       high = c.highest-high.result;
       found = c.run.new.self.forth.found.items;
       near = high_near p;
-      above = λ q listed. c.highest-high.ensures.above q (subst (λ (xs : List ℕ). Contains xs q) (sym (behind_row p)) listed);
+      above = rw (behind_row p, c.links-links.ensures.sources, c.links-links.ensures.levels) at c.highest-high.ensures.above;
       ended = ended_ahead (goal.at.returns-in-Ahead-clause-parted c).In-Ahead;
       raised = raised;
-    })))
+    }))
 
 pub returns-in-Behind-clause-parted : goal.returns-in-Behind-clause-parted
 returns-in-Behind-clause-parted c =
     let p = (goal.at.returns-in-Behind-clause-parted c).In_ok-run in
-    let links = c.links-links.result in
-    let same : c.deref_mut-in-Behind.result.now ≡ links.levels.now = c.deref_mut-in-Behind.ensures.value ∙ sym c.links-links.ensures.levels in
-    let lowered : IsLowered c.run.new.self.back.found.items (length c.run.new.self.back.found.items) (c.lowest-low.result - 1) links.levels.now c.lower.new.levels =
-    subst (λ (v : List ℕ). IsLowered c.run.new.self.back.found.items (length c.run.new.self.back.found.items) (c.lowest-low.result - 1) v c.lower.new.levels) same
-    (subst (λ (xs : List ℕ). IsLowered xs (length xs) (c.lowest-low.result - 1) c.deref_mut-in-Behind.result.now c.lower.new.levels) c.deref-in-Behind.ensures.value c.lower.ensures) in
+    let lowered = rw (c.deref-in-Behind.ensures.value, c.deref_mut-in-Behind.ensures.value) at c.lower.ensures in
     let size = lowered.size in
-    let wide = ap (λ (xs : List ℕ). length xs) c.links-links.ensures.levels in
-    let written : (with_items c.args.kept.now.levels c.lower.new.levels).items ≡ c.lower.new.levels =
-    with_items_is c.args.kept.now.levels c.lower.new.levels (omega (arith, size, wide, c.args.kept.now.levels.ok.0)) in
+    let written = with_items_is c.args.kept.now.levels c.lower.new.levels (omega (arith, size, c.args.kept.now.levels.ok.0)) in
     let near = low_near p in
     let least = near.low in
-    subst (λ (w : List ℕ). HasParted c.args.kept.now.readers.items c.args.kept.now.sources.items c.args.goal c.args.kept.now.levels.items w false) (sym written)
-    (rows_as links.readers.now links.sources.now links.levels.now c.args.kept.now.readers.items c.args.kept.now.sources.items c.args.kept.now.levels.items
-    (sym c.links-links.ensures.readers) (sym c.links-links.ensures.sources) (sym c.links-links.ensures.levels)
-    (λ r s v. HasParted r s c.args.goal v c.lower.new.levels false)
-    (inr (record {
+    rw written (inr (record {
       low = c.lowest-low.result;
       most = c.lowest-low.result - 1;
       found = c.run.new.self.back.found.items;
       near = near;
       next = omega (arith, c.requires.fits);
-      below = λ s listed. c.lowest-low.ensures.below s (subst (λ (xs : List ℕ). Contains xs s) (sym (ahead_row p)) listed);
+      below = rw (ahead_row p, c.links-links.ensures.readers, c.links-links.ensures.levels) at c.lowest-low.ensures.below;
       ended = ended_behind (goal.at.returns-in-Behind-clause-parted c).In-Behind;
       lowered = lowered;
-    })))
+    }))

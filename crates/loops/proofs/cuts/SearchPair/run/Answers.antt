@@ -1,26 +1,21 @@
 -- Two searches in step meet, or one has found all and none of the other's row.
-use Rattle.std.proofs.Common.{◌≡◌, ℕ, List, subst, sym, arith, Contains}
-use Rattle.loops.proofs.Common.{AtMost, AtLeast, IsMarked, Meets, row_at}
-use Rattle.loops.specs.Searching.{GoesOn}
+use Rattle.std.proofs.Common.{◌≡◌, arith}
+use Rattle.loops.proofs.Common.{AtMost, AtLeast, row_at}
 use Rattle.loops.proofs.KeptLemmas.{row_read}
-use Rattle.loops.proofs.SearchLemmas.{ended_by, goes_by, meets_begun, stays_apart}
+use Rattle.loops.proofs.SearchLemmas.{ended, meets_begun, stays_apart}
 use Rattle.loops.proofs.cuts.SearchPair.run.Goals as goal
 
 pub returns-then-meets-clause-outcome : goal.returns-then-meets-clause-outcome
 returns-then-meets-clause-outcome c =
     let row : c.gates.result.now ≡ row_at c.args.links.sources.now c.args.goal = row_read c.args.links.sources.now c.args.goal c.gates.result.now c.index-sources-goal.result (omega (arith, c.requires.goal, c.args.links.sources_size)) c.index-sources-goal.is c.gates.ensures in
     meets_begun c.args.links.readers.now c.args.links.sources.now c.args.links.levels.now (AtMost c.args.high) c.args.goal c.start.new.self c.in_ok-start.ensures.searching
-    (subst (λ (r : List ℕ). Meets c.args.goal r c.start.new.self.marks.items) row
-    (subst (λ (ms : List ℕ). Meets c.args.goal c.gates.result.now ms) c.deref.ensures.value (c.meets.ensures.some c.if-meets.true)))
+    (rw (row, c.deref.ensures.value) at (c.meets.ensures.some c.if-meets.true))
 
 pub loop-met-init : goal.loop-met-init
 loop-met-init c =
     let row : c.gates.result.now ≡ row_at c.args.links.sources.now c.args.goal = row_read c.args.links.sources.now c.args.goal c.gates.result.now c.index-sources-goal.result (omega (arith, c.requires.goal, c.args.links.sources_size)) c.index-sources-goal.is c.gates.ensures in
     let forth = c.in_ok-start.ensures.searching in
-    let apart : (x : ℕ) → Contains (row_at c.args.links.sources.now c.args.goal) x → ¬ IsMarked c.args.goal c.start.new.self.marks.items x =
-    λ x r m.
-    c.meets.ensures.none c.if-meets.false x (subst (λ (xs : List ℕ). Contains xs x) (sym row) r)
-    (subst (λ (ms : List ℕ). IsMarked c.args.goal ms x) (sym c.deref.ensures.value) m) in
+    let apart = rw (row, c.deref.ensures.value) at (c.meets.ensures.none c.if-meets.false) in
     record {
       forth = forth;
       back = c.in_ok-start-2.ensures.searching;
@@ -30,23 +25,19 @@ loop-met-init c =
 
 pub returns-else-met-clause-outcome : goal.returns-else-met-clause-outcome
 returns-else-met-clause-outcome c =
-    ended_by c.args.links.readers.now c.args.links.levels.now (AtMost c.args.high) c.args.goal (row_at c.args.links.sources.now c.args.goal) c.deref-in-loop-met.result.now c.loop-met.self.forth c.advance.new.self
-    _ c.in-Some.met c.loop-met.invariant.forth c.in-Some.is c.if-met.false c.in_ok-met.ensures c.loop-met.invariant.ahead
+    let done = rw (c.in-Some.is, c.if-met.false) at c.in_ok-met.ensures in
+    rw done.1 (ended c.args.links.readers.now c.args.links.levels.now (AtMost c.args.high) c.args.goal c.loop-met.self.forth c.loop-met.invariant.forth (row_at c.args.links.sources.now c.args.goal) done.0 c.loop-met.invariant.ahead)
 
 pub returns-else-met-2-clause-outcome : goal.returns-else-met-2-clause-outcome
 returns-else-met-2-clause-outcome c =
-    ended_by c.args.links.sources.now c.args.links.levels.now (AtLeast c.args.low) c.args.goal (row_at c.args.links.readers.now c.args.goal) c.deref-in-loop-met-2.result.now c.loop-met.self.back c.advance-in-loop-met.new.self
-    _ c.in-Some-2.met c.loop-met.invariant.back c.in-Some-2.is c.if-met-2.false c.in_ok-met-2.ensures c.loop-met.invariant.behind
+    let done = rw (c.in-Some-2.is, c.if-met-2.false) at c.in_ok-met-2.ensures in
+    rw done.1 (ended c.args.links.sources.now c.args.links.levels.now (AtLeast c.args.low) c.args.goal c.loop-met.self.back c.loop-met.invariant.back (row_at c.args.links.readers.now c.args.goal) done.0 c.loop-met.invariant.behind)
 
 pub loop-met-preserved : goal.loop-met-preserved
 loop-met-preserved c =
     let i = c.loop-met.invariant in
-    let forth : GoesOn c.args.links.readers.now c.args.links.levels.now (AtMost c.args.high) c.args.goal c.loop-met.self.back.marks.items c.loop-met.self.forth c.advance.new.self =
-    subst (λ (ms : List ℕ). GoesOn c.args.links.readers.now c.args.links.levels.now (AtMost c.args.high) c.args.goal ms c.loop-met.self.forth c.advance.new.self) c.deref-in-loop-met.ensures.value
-    (goes_by c.args.links.readers.now c.args.links.levels.now (AtMost c.args.high) c.args.goal c.deref-in-loop-met.result.now c.loop-met.self.forth c.advance.new.self _ c.in_default.is c.in_ok-met.ensures) in
-    let back : GoesOn c.args.links.sources.now c.args.links.levels.now (AtLeast c.args.low) c.args.goal c.advance.new.self.marks.items c.loop-met.self.back c.advance-in-loop-met.new.self =
-    subst (λ (ms : List ℕ). GoesOn c.args.links.sources.now c.args.links.levels.now (AtLeast c.args.low) c.args.goal ms c.loop-met.self.back c.advance-in-loop-met.new.self) c.deref-in-loop-met-2.ensures.value
-    (goes_by c.args.links.sources.now c.args.links.levels.now (AtLeast c.args.low) c.args.goal c.deref-in-loop-met-2.result.now c.loop-met.self.back c.advance-in-loop-met.new.self _ c.in_default-2.is c.in_ok-met-2.ensures) in
+    let forth = rw (c.in_default.is, c.deref-in-loop-met.ensures.value) at c.in_ok-met.ensures in
+    let back = rw (c.in_default-2.is, c.deref-in-loop-met-2.ensures.value) at c.in_ok-met-2.ensures in
     record {
       forth = forth.searching;
       back = back.searching;

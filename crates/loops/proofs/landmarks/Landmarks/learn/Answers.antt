@@ -1,20 +1,16 @@
 -- The gate that is chosen is one that the search has found.
-use Rattle.std.proofs.Common.{◌≡◌, ◌<◌, ℕ, length, get_or, sym, arith}
+use Rattle.std.proofs.Common.{◌<◌, length, sym, arith, Contains}
 use Rattle.loops.proofs.Common.{get_or_read}
 use Rattle.loops.proofs.landmarks.Landmarks.learn.Goals as goal
+use Rattle.loops.proofs.landmarks.Landmarks.learn.Goals.{After-index}
+
+is_found : (c : After-index) → Contains c.args.back.now.found.items c.index.result.now
+is_found c =
+    let less : c.args.back.now.passed < length c.args.back.now.found.items = omega (arith, c.args.back.now.found.ok.0) in
+    (c.args.back.now.passed, less, sym (get_or_read c.args.back.now.found.items c.args.back.now.passed c.index.result.now less c.index.ensures c.index.result.now))
 
 pub landmark_at-requires-clause-gate : goal.landmark_at-requires-clause-gate
-landmark_at-requires-clause-gate c =
-    let found = c.args.back.now.found.items in
-    let g = c.index.result.now in
-    let less : c.args.back.now.passed < length found = omega (arith, c.args.back.now.found.ok.0) in
-    let is : (d : ℕ) → get_or found c.args.back.now.passed d ≡ g = λ d. sym (get_or_read found c.args.back.now.passed g less c.index.ensures d) in
-    c.requires.within g (c.args.back.now.passed, less, is g)
+landmark_at-requires-clause-gate c = c.requires.within c.index.result.now (is_found (goal.at.landmark_at-requires-clause-gate c).After-index)
 
 pub landmark_at-requires-clause-back : goal.landmark_at-requires-clause-back
-landmark_at-requires-clause-back c =
-    let found = c.args.back.now.found.items in
-    let g = c.index.result.now in
-    let less : c.args.back.now.passed < length found = omega (arith, c.args.back.now.found.ok.0) in
-    let is : (d : ℕ) → get_or found c.args.back.now.passed d ≡ g = λ d. sym (get_or_read found c.args.back.now.passed g less c.index.ensures d) in
-    c.requires.back g (c.args.back.now.passed, less, is g)
+landmark_at-requires-clause-back c = c.requires.back c.index.result.now (is_found (goal.at.landmark_at-requires-clause-back c).After-index)

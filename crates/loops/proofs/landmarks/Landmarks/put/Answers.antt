@@ -1,8 +1,5 @@
 -- A landmark replaces another one, or is added.
-use Rattle.std.proofs.Common.{List, ap, sym, ◌∙◌, subst}
 use Rattle.std.proofs.lemmas.List.Elements.{All-push, All-set}
-use Rattle.loops.proofs.Common.{Landmark, AreLandmarks}
-use Rattle.loops.specs.declared.landmarks.Landmarks.{Landmarks}
 use Rattle.loops.specs.Landmarks.{IsLandmark}
 use Rattle.loops.proofs.landmarks.Landmarks.put.Goals as goal
 use Rattle.loops.proofs.landmarks.Landmarks.put.Goals.{then-self-len, else-self-len+in_ok-push}
@@ -12,9 +9,9 @@ returns c =
     λ readers gates is all.
     elim c.if-self-len.branch [
       | then-self-len w ↦
-          subst (λ (xs : List Landmark). AreLandmarks readers gates xs) (sym (ap (λ (s : Landmarks). s.list.items) w.self-is))
+          rw w.self-is
           (All-set (IsLandmark readers gates) c.args.self.now.list.items c.args.self.now.next c.args.landmark is all)
       | else-self-len+in_ok-push w ↦
-          subst (λ (xs : List Landmark). AreLandmarks readers gates xs) (sym (ap (λ (s : Landmarks). s.list.items) w.self-is ∙ w.in_ok-push.ensures.items))
+          rw (w.self-is, w.in_ok-push.ensures.items)
           (All-push (IsLandmark readers gates) c.args.self.now.list.items c.args.landmark all is)
     ]

@@ -1,19 +1,16 @@
-use Rattle.std.proofs.Common.{◌≡◌, ap, sym, ◌∙◌}
-use Rattle.loops.proofs.Common.{block_at, home_of, begins_with}
-use Rattle.loops.specs.Looped.{Grouped}
+use Rattle.std.proofs.Common.{ap, sym, ◌∙◌}
+use Rattle.loops.proofs.Common.{begins_with}
 use Rattle.loops.proofs.ListedLemmas.{begins_in_loop, begins_no_loop}
 use Rattle.loops.proofs.looped_netlist.LoopedNetlist.begins_loop.Goals as goal
 
 pub returns-then-block : goal.returns-then-block
 returns-then-block c =
-    let block : c.block_of-block.result.now ≡ block_at c.args.self.now.blocks (home_of c.args.self.now.blocks c.args.gate) =
-    c.block_of-block.ensures ∙ ap (λ (g : Grouped). block_at g.blocks (home_of g.blocks c.args.gate)) c.grouped.ensures.grouped in
+    let block = rw c.grouped.ensures.grouped at c.block_of-block.ensures in
     c.begins_with.ensures
     ∙ ap (λ gates. begins_with gates c.args.gate) c.items.ensures
     ∙ begins_in_loop c.args.self.now.net c.args.self.now.blocks c.grouped.ensures.looped.blocks c.args.gate c.block_of-block.result.now c.requires block c.if-block.true
 
 pub returns-else-block : goal.returns-else-block
 returns-else-block c =
-    let block : c.block_of-block.result.now ≡ block_at c.args.self.now.blocks (home_of c.args.self.now.blocks c.args.gate) =
-    c.block_of-block.ensures ∙ ap (λ (g : Grouped). block_at g.blocks (home_of g.blocks c.args.gate)) c.grouped.ensures.grouped in
+    let block = rw c.grouped.ensures.grouped at c.block_of-block.ensures in
     c.if-block.false ∙ sym (begins_no_loop c.args.self.now.net c.args.self.now.blocks c.grouped.ensures.looped.blocks c.args.gate c.block_of-block.result.now block c.if-block.false)

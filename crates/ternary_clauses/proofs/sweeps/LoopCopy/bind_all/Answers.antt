@@ -1,5 +1,6 @@
 use Rattle.std.proofs.Common.{◌<◌, length, subst, arith}
-use Rattle.ternary_clauses.specs.Sweeps.{CopiedLoop, IsCopiedLoop}
+use Rattle.ternary_clauses.proofs.Common.{CopiedLoop}
+use Rattle.ternary_clauses.specs.Sweeps.{IsCopiedLoop}
 use Rattle.ternary_clauses.proofs.SweepLemmas.{copied-none, copied-step, copy-kept}
 use Rattle.ternary_clauses.proofs.sweeps.LoopCopy.bind_all.Goals as goal
 

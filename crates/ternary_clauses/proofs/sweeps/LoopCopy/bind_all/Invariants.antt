@@ -1,4 +1,4 @@
-use Rattle.ternary_clauses.specs.Sweeps.{AreCopied}
+use Rattle.ternary_clauses.proofs.Common.{AreCopied}
 use Rattle.ternary_clauses.proofs.sweeps.LoopCopy.bind_all.Given as goal
 
 abbrev pub invariant-loop-place : goal.invariant-loop-place

@@ -7,14 +7,10 @@ use Rattle.ternary_run.proofs.SettlingLemmas.{settling_starts_at, settled_at, ga
 use Rattle.ternary_run.proofs.fanout.Fanout.settle.Goals as goal
 
 pub loop-gate-init : goal.loop-gate-init
-loop-gate-init c =
-    settling_starts_at c.args.net.now c.args.given.now c.in_ok-values.values.items c.in_ok-queue.queue.items c.gates.result
-    c.in_ok-values.ensures c.gates.ensures.gates c.in_ok-queue.ensures
+loop-gate-init c = grind (arith, settling_starts_at)
 
 pub new_value-requires-clause-width : goal.new_value-requires-clause-width
-new_value-requires-clause-width c =
-    ap length c.deref.ensures.value
-    ∙ length-settling c.args.net.now c.args.given.now c.loop-gate.values.items c.loop-gate.queue.items c.requires.width c.loop-gate.invariant
+new_value-requires-clause-width c = grind (arith, length-settling c.args.net.now c.args.given.now c.loop-gate.values.items c.loop-gate.queue.items c.requires.width c.loop-gate.invariant)
 
 pub new_value-requires-clause-gate : goal.new_value-requires-clause-gate
 new_value-requires-clause-gate c = waiting_gate c.args.net.now c.args.given.now c.loop-gate.values.items c.in-Some.gate c.loop-gate.queue.items c.pop_front.new.self.items c.in-Some.ensures.items c.loop-gate.invariant
@@ -24,11 +20,7 @@ index_mut-requires c =
     let net = c.args.net.now in
     let values = c.loop-gate.values.items in
     let queue = c.loop-gate.queue.items in
-    let is_gate : c.in-Some.gate < length net.gates =
-    waiting_gate net c.args.given.now values c.in-Some.gate queue c.pop_front.new.self.items c.in-Some.ensures.items c.loop-gate.invariant in
-    let width : length values ≡ count net = length-settling net c.args.given.now values queue c.requires.width c.loop-gate.invariant in
-    let signal : c.gate_sig-signal.result.0 ≡ (gate_sig net c.in-Some.gate).0 = ap (λ (s : Sig). s.0) c.gate_sig-signal.ensures.sig in
-    omega (arith, c.deref.ensures.len, ap length c.deref.ensures.value)
+    grind (arith, waiting_gate net c.args.given.now values c.in-Some.gate queue c.pop_front.new.self.items c.in-Some.ensures.items c.loop-gate.invariant, length-settling net c.args.given.now values queue c.requires.width c.loop-gate.invariant)
 
 pub loop-gate-smaller-in-Continue-branch-5 : goal.loop-gate-smaller-in-Continue-branch-5
 loop-gate-smaller-in-Continue-branch-5 c =
@@ -48,12 +40,7 @@ pub loop-gate-smaller : goal.loop-gate-smaller
 loop-gate-smaller c = unchanged_falls_at (length c.args.self.now) c.loop-gate.values.items c.in-Some.gate c.loop-gate.queue.items c.pop_front.new.self.items c.in-Some.ensures.items
 
 pub loop-gate-preserved : goal.loop-gate-preserved
-loop-gate-preserved c =
-    gate_unchanged_at c.args.net.now c.args.given.now c.loop-gate.values.items c.in-Some.gate c.loop-gate.queue.items c.pop_front.new.self.items
-    c.in_ok-value.field-0 c.requires.width c.in-Some.ensures.items c.in_default-2.is
-    c.loop-gate.invariant (rw c.deref.ensures.value at c.in_ok-value.ensures)
+loop-gate-preserved c = grind (arith, gate_unchanged_at)
 
 pub returns : goal.returns
-returns c =
-    let empty : c.loop-gate.queue.items ≡ [] = empty_list c.loop-gate.queue.items (omega (arith, c.in_default.ensures.cases)) in
-    settled_at c.args.net.now c.args.given.now c.loop-gate.values.items c.loop-gate.queue.items empty c.loop-gate.invariant
+returns c = grind (arith, empty_list c.loop-gate.queue.items, settled_at c.args.net.now c.args.given.now c.loop-gate.values.items c.loop-gate.queue.items)
