@@ -1,5 +1,5 @@
 -- Ages, word by word.
-use Rattle.std.proofs.Common.{◌≡◌, ◌≤◌, ◌<◌, ℕ, suc, ◌+◌, true, false, List, [], ◌∷◌, ◌++◌, length, drop, map, slice_index_or, Some, None, refl, sym, ap, ◌∙◌, add-one, drop_of_length-le}
+use Rattle.std.proofs.Common.{◌≡◌, ◌≤◌, ◌<◌, ℕ, suc, ◌+◌, true, false, List, [], ◌∷◌, ◌++◌, length, drop, map, slice_index_or, Some, None, refl, sym, ap, ◌∙◌, add-one, drop_of_length-le, arith}
 use Rattle.sched_text.proofs.Common.{list_all, drop-cons, number}
 use Rattle.std.proofs.lemmas.List.{append-nil, append_assoc}
 use Rattle.sched_text.specs.Numbers.{number_of}
@@ -12,12 +12,7 @@ pub record AgesAt (words : List (List ℕ)) (ages : List ℕ) (k : ℕ) : Type 0
 
 pub ages_next : (words : List (List ℕ)) (ages now : List ℕ) (k age : ℕ) → AgesAt words ages k → k < length words
     → number (slice_index_or words k []) ≡ Some age → now ≡ ages ++ age ∷ [] → AgesAt words now (k + 1)
-ages_next words ages now k age at inside is more =
-    let here = drop-cons words k [] inside in
-    rw (more, add-one k) (record {
-      all = at.all ∙ rw (here, is) refl;
-      are = at.are ∙ rw (here, is, append_assoc ages (age ∷ []) (map number_of (drop (suc k) words))) refl;
-    })
+ages_next words ages now k age at inside is more = grind (arith, drop-cons words k [] inside, add-one k, append_assoc ages (age ∷ []) (map number_of (drop (suc k) words)))
 
 pub ages_fault : (words : List (List ℕ)) (ages : List ℕ) (k : ℕ) → AgesAt words ages k → k < length words
     → number (slice_index_or words k []) ≡ None → list_all is_age (drop 2 words) ≡ false

@@ -40,27 +40,20 @@ bits_back [] = refl
 bits_back (b ∷ bits) = bytes_back (b ∷ bits)
 
 width_is : (n width : ℕ) (bits : List Bool) → length bits ≡ width → width_fault n width (bits_of (bits_words bits)) ≡ None
-width_is n width bits same =
-    let e : length (bits_of (bits_words bits)) ≡ width = ap length (bits_back bits) ∙ same in
-    let t : (length (bits_of (bits_words bits)) == width) ≡ true = eq-eqb (length (bits_of (bits_words bits))) width e in
-    ap (λ (u : Bool). if u then None else Some (WrongWidth n)) t
+width_is n width bits same = grind (arith, bits_back, eq-eqb)
 
 -- ---- start values
 
 permits_is : (init : Init) (b : Bool) → Permits init b → permits init b ≡ true
-permits_is Zero b is = ap not is
-permits_is One b is = is
-permits_is Either b is = refl
+permits_is init b is = grind arith
 
 none_refused : (i : ℕ) (latches : List Latch) (bits : List Bool) → AllZip (λ (latch : Latch). Permits latch.init) latches bits → first_refused i latches bits ≡ None
 none_refused i [] bits all = refl
 none_refused i (latch ∷ latches) [] all = refl
-none_refused i (latch ∷ latches) (b ∷ bits) all =
-    ap (λ (t : Bool). if t then first_refused (i + 1) latches bits else Some i) (permits_is latch.init b all.0) ∙ none_refused (i + 1) latches bits all.1
+none_refused i (latch ∷ latches) (b ∷ bits) all = grind (arith, permits_is, none_refused (i + 1) latches bits all.1)
 
 start_is : (net : Parts) (n : ℕ) (bits : List Bool) → IsInitialState net bits → start_fault n net.latches (bits_of (bits_words bits)) ≡ None
-start_is net n bits initial =
-    ap (λ bs. start_fault n net.latches bs) (bits_back bits) ∙ ap (option_map (BadStart n)) (none_refused 0 net.latches bits initial)
+start_is net n bits initial = grind (arith, bits_back, none_refused)
 
 -- ---- ages
 
@@ -71,15 +64,10 @@ ages_are (age ∷ ages) small = rw (number_decimal age (All-head IsSmall age age
 -- ---- which lines may stand where
 
 round_is_in_tick : (before : Option Kind) → may_follow before Round ≡ true → may_follow before Tick ≡ true
-round_is_in_tick (Some Tick) may = refl
-round_is_in_tick (Some Round) may = refl
-round_is_in_tick (Some Event) may = refl
-round_is_in_tick before may = absurd (cc may)
+round_is_in_tick before may = grind arith
 
 event_is_in_tick : (before : Option Kind) → may_follow before Event ≡ true → may_follow before Round ≡ true
-event_is_in_tick (Some Round) may = refl
-event_is_in_tick (Some Event) may = refl
-event_is_in_tick before may = absurd (cc may)
+event_is_in_tick before may = grind arith
 
 -- what the latches start with, free or as their inits permit
 abbrev start_kind : Bool → Kind
@@ -87,11 +75,7 @@ start_kind true = State
 start_kind false = Latches
 
 start_behind_past : (free : Bool) (before : Option Kind) → may_follow before Past ≡ true → may_follow before (start_kind free) ≡ true
-start_behind_past true (Some Window) may = refl
-start_behind_past true (Some Past) may = refl
-start_behind_past false (Some Window) may = refl
-start_behind_past false (Some Past) may = refl
-start_behind_past free before may = absurd (cc may)
+start_behind_past free before may = grind arith
 
 -- ---- lines without a fault
 
@@ -132,12 +116,7 @@ module _ (net : Parts) (ticks end : ℕ) where
 
   module _ (valid : IsNetlist net) where
     event_fine : (before : Option Kind) (begun : ℕ) (planned : PlannedEvent) → may_follow before Event ≡ true → IsWritable net planned → IsFine before begun Event (event_line net planned)
-    event_fine before begun planned may good = record {
-      kind = refl;
-      follows = may;
-      words = ages_are planned.event.ages good.1;
-      fault = λ n. rw (gate_of_name net planned.event.gate valid good.0) refl;
-    }
+    event_fine before begun planned may good = grind (arith, ages_are planned.event.ages good.1, gate_of_name net planned.event.gate valid good.0)
 
     events_free : (begun : ℕ) (planned : List PlannedEvent) (more : List (List (List ℕ))) → All (IsWritable net) planned → FreeAt Event begun more → FreeAt Event begun (map (event_line net) planned ++ more)
     events_free begun [] more good free = free
@@ -160,9 +139,7 @@ module _ (net : Parts) (ticks end : ℕ) where
         (events_free begun round.events rest (All-head (AreWritable net) round rounds good) (λ k m p l. later k m (event_is_in_tick k p) l) (Some Round) (n + 1) refl (omega (arith, size, width))))
 
     end_free : (begun : ℕ) → ticks ≡ begun → FreeAt Tick begun []
-    end_free begun all before n may size earlier at =
-        let enough : nat_lt begun ticks ≡ false = grind (arith, nat_tests) in
-        rw (at.before, at.begun, head_before Tick refl before may, enough) refl
+    end_free begun all before n may size earlier at = grind arith
 
     ticks_free : (begun : ℕ) (ts : List (List RoundPlan)) → begun + length ts ≡ ticks → All (All (AreWritable net)) ts → FreeAt Tick begun (flat_map (tick_lines net) ts)
     ticks_free begun [] all good = end_free begun (omega (arith, all))
@@ -187,30 +164,10 @@ module _ (net : Parts) (ticks end : ℕ) where
 
     start_fine : (before : Option Kind) (free : Bool) (bits : List Bool) → may_follow before Past ≡ true → length bits ≡ length net.latches → (free ≡ false → IsInitialState net bits)
         → IsFine before 0 (start_kind free) (start_word free ∷ bits_words bits)
-    start_fine before true bits may width initial = record {
-      kind = refl;
-      follows = start_behind_past true before may;
-      words = words_are_bits bits;
-      fault = λ n. width_is n (length net.latches) bits width;
-    }
-    start_fine before false bits may width initial = record {
-      kind = refl;
-      follows = start_behind_past false before may;
-      words = words_are_bits bits;
-      fault = λ n. rw (width_is n (length net.latches) bits width) (start_is net n bits (initial refl));
-    }
+    start_fine before free bits may width initial = grind (arith, start_behind_past, words_are_bits, width_is, start_is)
 
     gates_fine : (free : Bool) (bits : List Bool) → length bits ≡ length net.gates → IsFine (Some (start_kind free)) 0 Gates (codes "gates" ∷ bits_words bits)
-    gates_fine free bits width = record {
-      kind = refl;
-      follows = by free;
-      words = words_are_bits bits;
-      fault = λ n. width_is n (length net.gates) bits width;
-    }
-      where
-        by : (free : Bool) → may_follow (Some (start_kind free)) Gates ≡ true
-        by true = refl
-        by false = refl
+    gates_fine free bits width = grind (arith, words_are_bits, width_is)
 
     start_free : (free : Bool) (latches gates : List Bool) (more : List (List (List ℕ))) → length latches ≡ length net.latches → length gates ≡ length net.gates → (free ≡ false → IsInitialState net latches)
         → FreeAt Tick 0 more → FreeAt Past 0 ((start_word free ∷ bits_words latches) ∷ ((codes "gates" ∷ bits_words gates) ∷ more))
@@ -220,8 +177,7 @@ module _ (net : Parts) (ticks end : ℕ) where
         (later (Some Gates) (n + 1 + 1) refl (omega (arith, size))))
       where
         by : (free : Bool) → 0 ≡ cond (is_tick (start_kind free)) 1 0 + 0
-        by true = refl
-        by false = refl
+        by free = grind arith
 
 -- a written schedule has no fault
 pub no_fault : (net : Parts) (schedule : Schedule) (end : ℕ) → IsNetlist net → FitsNetlist net (length schedule.ticks) schedule → IsSmall schedule.window → All (All (AreWritable net)) schedule.ticks

@@ -17,10 +17,7 @@ use Rattle.sched_text.specs.LineFaults.{gate_number}
 -- the names of the gates come last
 name_of_gate : (net : Parts) (k : ℕ) → k < length (gate_names net)
     → get_or (gate_names net) k [] ≡ get_or (signal_names net) (length net.inputs + length net.latches + k) []
-name_of_gate net k inside =
-    sym (ap (λ n. get_or (signal_names net) (n + k) []) (sym (length-column_names net))
-    ∙ ap (λ (names : List (List ℕ)). get_or names (length (column_names net) + k) []) (names_split net)
-    ∙ get_or-append-add (column_names net) (gate_names net) k [])
+name_of_gate net k inside = grind (arith, length-column_names, names_split, get_or-append-add)
 
 pub gate_found : (net : Parts) (name : List ℕ) (s : ℕ) → IsNetlist net → slice_get (signal_names net) s ≡ Some name → length net.inputs + length net.latches ≤ s
     → Some (s - (length net.inputs + length net.latches)) ≡ gate_number net name
@@ -30,11 +27,7 @@ gate_found net name s h found behind =
     let within : s < length (signal_names net) = slice_get_within (signal_names net) s name found in
     let inside : s - first < length (gate_names net) = omega (arith, within, behind, length-names net) in
     let back : first + (s - first) ≡ s = omega (arith, behind) in
-    place_of (bytes_eq name) (gate_names net) (s - first)
-    (position_or_len_is (bytes_eq name) (gate_names net) (s - first) [] (omega (arith, inside))
-    (λ k lt. ap (bytes_eq name) (name_of_gate net k (omega (arith, lt, inside))) ∙ others_differ (signal_names net) name s (first + k) h.names_differ found (omega (arith, length-names net, lt, inside)) (λ e. omega (arith, lt, behind, e)))
-    (λ _. (bytes_eq-Decides name (get_or (gate_names net) (s - first) [])).1 (sym is ∙ ap (λ n. get_or (signal_names net) n []) (sym back) ∙ sym (name_of_gate net (s - first) inside))))
-    inside
+    grind (arith, place_of (bytes_eq name) (gate_names net) (s - first), position_or_len_is (bytes_eq name) (gate_names net) (s - first) [], name_of_gate net, others_differ (signal_names net) name s, length-names net, bytes_eq-Decides name (get_or (gate_names net) (s - first) []), name_of_gate net (s - first) inside)
 
 none_of_gate : (net : Parts) (name : List ℕ) → ((k : ℕ) → k < length (signal_names net) → length net.inputs + length net.latches ≤ k → bytes_eq name (get_or (signal_names net) k []) ≡ false)
     → None ≡ gate_number net name
@@ -46,30 +39,22 @@ none_of_gate net name differ =
 
 pub gate_before : (net : Parts) (name : List ℕ) (s : ℕ) → IsNetlist net → slice_get (signal_names net) s ≡ Some name → s < length net.inputs + length net.latches
     → None ≡ gate_number net name
-gate_before net name s h found before =
-    none_of_gate net name (λ k inside behind. others_differ (signal_names net) name s k h.names_differ found inside (λ e. omega (arith, e, before, behind)))
+gate_before net name s h found before = grind (arith, none_of_gate, others_differ)
 
 pub gate_absent : (net : Parts) (name : List ℕ) → list_any (bytes_eq name) (signal_names net) ≡ false → None ≡ gate_number net name
-gate_absent net name absent =
-    none_of_gate net name (λ k inside behind. absent_at (signal_names net) name k absent inside)
+gate_absent net name absent = grind (arith, none_of_gate, absent_at)
 
 gate_place : (net : Parts) (n : ℕ) → n < length net.gates → length net.inputs + length net.latches + n < length (signal_names net)
 gate_place net n inside = omega (arith, length-names net, length-map net.gates (λ gate. gate.name), inside)
 
 gate_name : (net : Parts) (n : ℕ) → n < length net.gates → get_or (signal_names net) (length net.inputs + length net.latches + n) [] ≡ (gate_at net n).name
-gate_name net n inside =
-    sym (name_of_gate net n (omega (arith, length-map net.gates (λ gate. gate.name), inside)))
-    ∙ get_or-map (λ (gate : Gate). gate.name) net.gates n no_gate [] inside
+gate_name net n inside = grind (arith, name_of_gate, length-map, get_or-map)
 
 -- a gate is found by its name
 pub gate_of_name : (net : Parts) (n : ℕ) → IsNetlist net → n < length net.gates → gate_number net (gate_at net n).name ≡ Some n
 gate_of_name net n valid inside =
     let first = length net.inputs + length net.latches in
-    sym (gate_found net (gate_at net n).name (first + n) valid
-    (slice_get-get_or (signal_names net) (first + n) [] (gate_place net n inside) ∙ ap (λ w. Some w) (gate_name net n inside)) (omega arith))
-    ∙ ap (λ k. Some k) (let e : first + n - first ≡ n = omega arith in e)
+    grind (arith, gate_found net (gate_at net n).name (first + n) valid, slice_get-get_or (signal_names net) (first + n) [] (gate_place net n inside), gate_place net n inside, gate_name net n inside)
 
 pub gate_named : (net : Parts) (n : ℕ) → IsNetlist net → n < length net.gates → IsBlifName (gate_at net n).name
-gate_named net n valid inside =
-    subst IsBlifName (gate_name net n inside)
-    (All-get_or IsBlifName (signal_names net) (length net.inputs + length net.latches + n) [] (gate_place net n inside) valid.names)
+gate_named net n valid inside = grind (arith, gate_name net n inside, All-get_or IsBlifName (signal_names net) (length net.inputs + length net.latches + n) [] (gate_place net n inside) valid.names, gate_place net n inside)

@@ -1,5 +1,5 @@
 -- What holds of each line of the ticks of a schedule, level by level: events, rounds, ticks.
-use Rattle.std.proofs.Common.{ℕ, List, [], ◌∷◌, length, map, get_or, All}
+use Rattle.std.proofs.Common.{ℕ, List, [], ◌∷◌, length, map, get_or, All, arith}
 use Rattle.sched_text.proofs.Common.{codes, flat_map, All-head, All-tail, All-nil, All-cons, Parts, PlannedEvent, RoundPlan, IsOfGates, HasSmallAges, event_line, round_lines, tick_lines}
 use Rattle.std.proofs.lemmas.List.Elements.{All-append, All-map}
 
@@ -17,8 +17,7 @@ All-flat_map P f (x ∷ xs) each =
 
 module _ (net : Parts) (P : List (List ℕ) → Type 0) (tick : P (codes "tick" ∷ [])) (round : P (codes "round" ∷ [])) (event : (p : PlannedEvent) → IsWritable net p → P (event_line net p)) where
   round_each : (plan : RoundPlan) → AreWritable net plan → All P (round_lines net plan)
-  round_each plan good =
-      All-cons P (codes "round" ∷ []) (map (event_line net) plan.events) round (All-map P (event_line net) plan.events (λ k d l. event (get_or plan.events k d) (good k d l)))
+  round_each plan good = grind (arith, All-cons P (codes "round" ∷ []) (map (event_line net) plan.events) round, All-map P (event_line net) plan.events)
 
   pub ticks_each : (ticks : List (List RoundPlan)) → All (All (AreWritable net)) ticks → All P (flat_map (tick_lines net) ticks)
   ticks_each ticks good =

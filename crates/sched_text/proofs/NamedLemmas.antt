@@ -27,8 +27,7 @@ bytes_named (true ∷ bits) = All-cons IsBlifByte 49 (bits_text bits) (omega ari
 bytes_named (false ∷ bits) = All-cons IsBlifByte 48 (bits_text bits) (omega arith, omega arith, λ e. omega (arith, e)) (bytes_named bits)
 
 bits_filled : (b : Bool) (bits : List Bool) → bits_text (b ∷ bits) ≢ []
-bits_filled true bits e = cc
-bits_filled false bits e = cc
+bits_filled b bits e = grind arith
 
 bits_named : (bits : List Bool) → All IsBlifName (bits_words bits)
 bits_named [] = All-nil IsBlifName

@@ -11,22 +11,7 @@ no_less n (b ∷ digits) = let more = no_less (n * 10 + (b - 48)) digits in omeg
 
 pub more_digits : (n m b : ℕ) (rest : List ℕ) → (is_digit b && nat_le (n * 10 + (b - 48)) 4294967295) ≡ true → m ≡ n * 10 + (b - 48)
     → up_to_most n (b ∷ rest) ≡ up_to_most m rest
-more_digits n m b rest fits is = ap (λ (k : ℕ). if is_digit b && list_all is_digit rest && nat_le (with_digits k rest) 4294967295 then Some (with_digits k rest) else None) (sym is)
-    ∙ by_digit (is_digit b) fits
-  where
-    by_digit : (t : Bool) → (t && nat_le (n * 10 + (b - 48)) 4294967295) ≡ true
-        → (if t && list_all is_digit rest && nat_le (with_digits m rest) 4294967295 then Some (with_digits m rest) else None) ≡ up_to_most m rest
-    by_digit true e = refl
-    by_digit false e = cc
+more_digits n m b rest fits is = grind arith
 
 pub no_more_digits : (n b : ℕ) (rest : List ℕ) → (is_digit b && nat_le (n * 10 + (b - 48)) 4294967295) ≡ false → up_to_most n (b ∷ rest) ≡ None
-no_more_digits n b rest over = by_digit (is_digit b) over (list_all is_digit rest)
-  where
-    too_many : nat_le (n * 10 + (b - 48)) 4294967295 ≡ false → nat_le (with_digits (n * 10 + (b - 48)) rest) 4294967295 ≡ false
-    too_many e = let more = no_less (n * 10 + (b - 48)) rest in grind (arith, e, more)
-
-    by_digit : (t : Bool) → (t && nat_le (n * 10 + (b - 48)) 4294967295) ≡ false → (u : Bool)
-        → (if (t && u) && nat_le (with_digits (n * 10 + (b - 48)) rest) 4294967295 then Some (with_digits (n * 10 + (b - 48)) rest) else None) ≡ None
-    by_digit true e true = ap (λ (t : Bool). if t then Some (with_digits (n * 10 + (b - 48)) rest) else None) (too_many e)
-    by_digit true e false = refl
-    by_digit false e u = refl
+no_more_digits n b rest over = grind (arith, no_less)

@@ -38,25 +38,16 @@ module _ (net : Parts) (ticks end : ℕ) (piece : List Line) (place : Place) (dr
         let within = is.within in
         let same = is.same i inside in
         let e : base + (i + 1) ≡ base + i + 1 = omega arith in
-        rw e
-        (at_next net ticks end lines now next so_far after (base + i) (ends_here end (line_at lines (base + i))) (before lines base is reads) (omega arith) (cut_here lines base is)
-        (rw same none) (rw same said) (rw same behind) (rw same count) one)
+        grind (arith, at_next net ticks end lines now next so_far after (base + i) (ends_here end (line_at lines (base + i))) (before lines base is reads), cut_here lines base is)
 
     pub piece_fault : (fault : SchedFault) → fault_at net ticks now.before now.begun (ends_here end (line_at piece i)) (line_at piece i) ≡ Some fault → FailsPiece net ticks end piece place draft fault
-    piece_fault fault some lines base is reads =
-        let within = is.within in
-        let same = is.same i inside in
-        at_fault net ticks end lines now so_far (base + i) (ends_here end (line_at lines (base + i))) fault (before lines base is reads) (omega arith) (cut_here lines base is) (rw same some)
+    piece_fault fault some lines base is reads = grind (arith, at_fault net ticks end lines now so_far (base + i) (ends_here end (line_at lines (base + i))) fault (before lines base is reads), cut_here lines base is)
 
 -- ---- the pieces of a text
 
 bad_answer : {X : Type 0} (read : List Line → Result X SchedFault) (bad : Option ℕ) (all : List Line) (fault : SchedFault)
     → option_map (λ n. BadLine n) bad ≡ Some fault → of_lines read (unless_bad bad all) ≡ Err fault
-bad_answer read (Some n) all fault is =
-    let is : Some (BadLine n) ≡ Some fault = is in
-    let e : BadLine n ≡ fault = cc in
-    ap (λ f. Err f) e
-bad_answer read None all fault is = absurd (cc is)
+bad_answer read bad all fault is = grind arith
 
 module _ (net : Parts) (ticks end : ℕ) (text : List ℕ) where
   -- so many lines were read, and these are left
@@ -69,14 +60,7 @@ module _ (net : Parts) (ticks end : ℕ) (text : List ℕ) where
     pub reads : ReadsAt net ticks end (lines_from 1 text) place draft base
 
   pub at_first : (draft : Draft) → draft ≡ new_draft → AtPiece 0 text (place_behind []) draft
-  at_first draft is = record {
-    base = 0;
-    inside = omega arith;
-    lines = refl;
-    bad = refl;
-    small = omega arith;
-    reads = at_start net ticks end (lines_from 1 text) draft is;
-  }
+  at_first draft is = grind arith
 
 module _ (net : Parts) (ticks end : ℕ) (text : List ℕ) (end_is : end ≡ end_number text) where
   abbrev all_lines : List Line
@@ -84,53 +68,27 @@ module _ (net : Parts) (ticks end : ℕ) (text : List ℕ) (end_is : end ≡ end
 
   -- of all lines the one with the end number is the last
   ends : (i : ℕ) → i < length all_lines → is_cut_off end (line_at all_lines i) (drop (i + 1) all_lines) ≡ ends_here end (line_at all_lines i)
-  ends i inside = by (cases_lt (i + 1) (length all_lines))
-    where
-      by : (i + 1 < length all_lines) ⊎ (length all_lines ≤ i + 1) → is_cut_off end (line_at all_lines i) (drop (i + 1) all_lines) ≡ ends_here end (line_at all_lines i)
-      by (inl more) =
-          let line = line_at all_lines i in
-          let size = size_of_physical text in
-          let low = rising 1 (1 + length (physical text)) (physical text) (omega arith) i more in
-          let differ : line.number ≢ end = omega (arith, low, size, end_is) in
-          ap (is_cut_off end line) (drop-cons all_lines (i + 1) (record { number = 0; words = [] }) more)
-          ∙ sym (ap (λ t. t && lacks_lines (Some (kind line))) (ne_eqb line.number end differ))
-      by (inr last) = ap (is_cut_off end (line_at all_lines i)) (drop_of_length-le all_lines last)
+  ends i inside = grind (arith, cases_lt, size_of_physical, rising, ne_eqb, drop_of_length-le)
 
   module _ (done : ℕ) (left : List ℕ) (place : Place) (draft : Draft) (at : AtPiece net ticks end text done left place draft) where
     pub bad_here : (fault : SchedFault) → option_map (λ n. BadLine n) (bad_line (done + 1) left) ≡ Some fault → schedule_read text net ticks ≡ Err fault
     bad_here fault is = bad_answer (schedule net ticks (end_number text)) (bad_line 1 text) all_lines fault (ap (option_map (λ n. BadLine n)) at.bad ∙ is)
 
     good : bad_line (done + 1) left ≡ None → schedule_read text net ticks ≡ schedule net ticks end all_lines
-    good none =
-        ap (λ b. of_lines (schedule net ticks (end_number text)) (unless_bad b all_lines)) (at.bad ∙ none)
-        ∙ ap (λ n. schedule net ticks n all_lines) (sym end_is)
+    good none = grind arith
 
     module _ (after : ℕ) (later : List ℕ) (piece : List Line) (next : IsNext done after left later piece) where
       split : drop at.base all_lines ≡ piece ++ lines_from (after + 1) later
       split = at.lines ∙ next.lines
 
       within : at.base + length piece ≤ length all_lines
-      within =
-          let inside = at.inside in
-          let size = length-drop at.base all_lines in
-          let parts = ap length split ∙ length-append piece (lines_from (after + 1) later) in
-          omega (arith, inside, size, parts)
+      within = grind (arith, length-drop at.base all_lines, split, length-append piece (lines_from (after + 1) later))
 
       is_piece : IsPieceOf end all_lines at.base piece
-      is_piece = record {
-        within = within;
-        same = λ i l. sym (get_or-drop at.base all_lines i (record { number = 0; words = [] }))
-            ∙ ap (λ ls. line_at ls i) split
-            ∙ get_or_append_left piece (lines_from (after + 1) later) (record { number = 0; words = [] }) i l;
-        ends = ends;
-      }
+      is_piece = grind (arith, within, get_or-drop, split, get_or_append_left, ends)
 
       pub few : place.begun + length piece ≤ end
-      few =
-          let begun = at.reads.few in
-          let size = size_of_physical text in
-          let lines = numbered_few 1 (physical text) in
-          omega (arith, begun, within, size, lines, end_is)
+      few = grind (arith, size_of_physical, numbered_few, within)
 
       pub at_later : (now : Place) (so_far : Draft) → ReadsPiece net ticks end piece place draft now so_far (length piece) → AtPiece net ticks end text after later now so_far
       at_later now so_far reads = record {
@@ -152,10 +110,7 @@ module _ (net : Parts) (ticks end : ℕ) (text : List ℕ) (end_is : end ≡ end
 
     module _ (nothing : left ≡ []) where
       over : length all_lines ≤ at.base
-      over =
-          let size = length-drop at.base all_lines in
-          let none : drop at.base all_lines ≡ [] = at.lines ∙ ap (lines_from (done + 1)) nothing in
-          omega (arith, size, ap length none)
+      over = grind (arith, length-drop at.base all_lines)
 
       good_last : schedule_read text net ticks ≡ schedule net ticks end all_lines
       good_last = good (ap (bad_line (done + 1)) nothing)

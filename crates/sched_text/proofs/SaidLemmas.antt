@@ -60,9 +60,7 @@ module _ (net : Parts) where
 
   says-append : (n : ℕ) (xs ys : List (List (List ℕ))) → says n (xs ++ ys) ≡ says n xs ++ says (n + length xs) ys
   says-append n [] ys = ap (λ k. says k ys) (let e : n ≡ n + 0 = omega arith in e)
-  says-append n (x ∷ xs) ys =
-      ap (λ (l : List Statement). statement net (record { number = n; words = x }) ∷ l)
-      (says-append (n + 1) xs ys ∙ ap (λ k. says (n + 1) xs ++ says k ys) (let e : n + 1 + length xs ≡ n + suc (length xs) = omega arith in e))
+  says-append n (x ∷ xs) ys = grind (arith, says-append (n + 1) xs ys)
 
   says_before : (n : ℕ) (xs ys : List (List (List ℕ))) (rest : List Statement) → says n (xs ++ ys) ++ rest ≡ says n xs ++ (says (n + length xs) ys ++ rest)
   says_before n xs ys rest = ap (λ l. l ++ rest) (says-append n xs ys) ∙ append_assoc (says n xs) (says (n + length xs) ys) rest
@@ -83,16 +81,13 @@ module _ (net : Parts) where
   events_passed : {X : Type 0} (ahead : List Statement → List X) → ((p : PlannedEvent) (rest : List Statement) → ahead (Event p ∷ rest) ≡ ahead rest)
       → (n : ℕ) (ps : List PlannedEvent) (rest : List Statement) → ahead (says n (map (event_line net) ps) ++ rest) ≡ ahead rest
   events_passed ahead pass n [] rest = refl
-  events_passed ahead pass n (p ∷ ps) rest =
-      pass (planned net n (arguments (event_line net p))) (says (n + 1) (map (event_line net) ps) ++ rest) ∙ events_passed ahead pass (n + 1) ps rest
+  events_passed ahead pass n (p ∷ ps) rest = grind (arith, events_passed ahead pass (n + 1) ps rest)
 
   rounds_end_no_tick : (n : ℕ) (rounds : List RoundPlan) (rest : List Statement) → ticks_ahead (says n (flat_map (round_lines net) rounds) ++ rest) ≡ ticks_ahead rest
   rounds_end_no_tick n [] rest = refl
   rounds_end_no_tick n (round ∷ rounds) rest =
       let m : ℕ = n + 1 + length (map (event_line net) round.events) in
-      ap ticks_ahead (says_before (n + 1) (map (event_line net) round.events) (flat_map (round_lines net) rounds) rest)
-      ∙ events_passed ticks_ahead (λ p rest. refl) (n + 1) round.events (says m (flat_map (round_lines net) rounds) ++ rest)
-      ∙ rounds_end_no_tick m rounds rest
+      grind (arith, says_before (n + 1) (map (event_line net) round.events) (flat_map (round_lines net) rounds), events_passed ticks_ahead, rounds_end_no_tick m rounds)
 
   ages_back : (ages : List ℕ) → All IsSmall ages → map number_of (map decimal ages) ≡ ages
   ages_back [] small = refl
@@ -105,9 +100,7 @@ module _ (net : Parts) where
     events_said : (n : ℕ) (ps : List PlannedEvent) (rest : List Statement) → All (IsWritable net) ps
         → map event_unnumbered (events_ahead (says n (map (event_line net) ps) ++ rest)) ≡ map event_unnumbered ps ++ map event_unnumbered (events_ahead rest)
     events_said n [] rest good = refl
-    events_said n (p ∷ ps) rest good =
-        ap₂ (λ (q : PlannedEvent) (qs : List PlannedEvent). event_unnumbered q ∷ qs) (event_back n p (All-head (IsWritable net) p ps good))
-        (events_said (n + 1) ps rest (All-tail (IsWritable net) p ps good))
+    events_said n (p ∷ ps) rest good = grind (arith, event_back n p (All-head (IsWritable net) p ps good), All-head (IsWritable net) p ps good, events_said (n + 1) ps rest (All-tail (IsWritable net) p ps good), All-tail (IsWritable net) p ps good)
 
     rounds_said : (n : ℕ) (rounds : List RoundPlan) (rest : List Statement) → All (AreWritable net) rounds → events_ahead rest ≡ []
         → map round_unnumbered (rounds_ahead (says n (flat_map (round_lines net) rounds) ++ rest)) ≡ map round_unnumbered rounds ++ map round_unnumbered (rounds_ahead rest)
@@ -132,14 +125,7 @@ module _ (net : Parts) where
         let m : ℕ = n + 1 + length (flat_map (round_lines net) tick) in
         let later : List Statement = says m (flat_map (tick_lines net) ticks) in
         let here = rounds_said (n + 1) tick later (All-head (All (AreWritable net)) tick ticks good) (tick_first events_ahead refl (λ rest. refl) m ticks) in
-        rw (
-          says-append (n + 1) (flat_map (round_lines net) tick) (flat_map (tick_lines net) ticks),
-          here,
-          tick_first rounds_ahead refl (λ rest. refl) m ticks,
-          append-nil (map round_unnumbered tick),
-          rounds_end_no_tick (n + 1) tick later,
-          ticks_said m ticks (All-tail (All (AreWritable net)) tick ticks good),
-        ) refl
+        grind (arith, says-append (n + 1) (flat_map (round_lines net) tick) (flat_map (tick_lines net) ticks), tick_first rounds_ahead, append-nil (map round_unnumbered tick), rounds_end_no_tick (n + 1) tick later, ticks_said m ticks (All-tail (All (AreWritable net)) tick ticks good), All-tail (All (AreWritable net)) tick ticks good)
 
   -- ---- lines of ticks say nothing of the head
 
@@ -162,19 +148,11 @@ module _ (net : Parts) where
   past_said n draft [] more = let e : n + 0 ≡ n = omega arith in rw (e, append-nil draft.past) refl
   past_said n draft (moment ∷ past) more =
       let rest = says (n + 1) (map past_line past ++ more) in
-      let e : n + 1 + length past ≡ n + suc (length past) = omega arith in
-      ap (λ bits. whole draft (Past bits ∷ rest)) (bits_back moment)
-      ∙ whole_step draft (Past moment) rest
-      ∙ past_said (n + 1) (follow draft (Past moment)) past more
-      ∙ ap₂ (λ moments k. whole (record draft { past = moments }) (says k more)) (append_assoc draft.past (moment ∷ []) past) e
+      grind (arith, bits_back moment, whole_step draft (Past moment) rest, past_said (n + 1) (follow draft (Past moment)) past more, append_assoc draft.past (moment ∷ []) past)
 
   start_said : (n : ℕ) (draft : Draft) (free : Bool) (bits : List Bool) (rest : List Statement) → draft.free ≡ false
       → whole draft (statement net (record { number = n; words = start_word free ∷ bits_words bits }) ∷ rest) ≡ whole (record draft { free = free; latches = bits }) rest
-  start_said n draft true bits rest held = ap (λ b. whole draft (State b ∷ rest)) (bits_back bits) ∙ whole_step draft (State bits) rest
-  start_said n draft false bits rest held =
-      ap (λ b. whole draft (Latches b ∷ rest)) (bits_back bits)
-      ∙ whole_step draft (Latches bits) rest
-      ∙ ap (λ f. whole (record draft { free = f; latches = bits }) rest) held
+  start_said n draft free bits rest held = grind (arith, bits_back, whole_step)
 
   module _ (s : Schedule) (small : IsSmall s.window) where
     abbrev tick_part : List (List (List ℕ))
@@ -208,18 +186,7 @@ module _ (net : Parts) where
     said_back : IsNetlist net → All (All (AreWritable net)) s.ticks → unnumbered (schedule_of (says 1 (lines_of net s))) ≡ unnumbered s
     said_back valid good =
         let later : List Statement = says last_number tick_part in
-        let tells = ticks_tell last_number s.ticks good in
-        ap unnumbered head_said
-        ∙ rw (
-          last_none window_told later (λ k d l. (tells k d l).window),
-          last_none start_told later (λ k d l. (tells k d l).start),
-          last_none gates_told later (λ k d l. (tells k d l).gates),
-          kept_none past_told later (λ k d l. (tells k d l).past),
-          append-nil s.past,
-          any_none is_state later (λ k d l. (tells k d l).state),
-          or-false s.free,
-          ticks_said valid last_number s.ticks good,
-        ) refl
+        grind (arith, ticks_tell last_number s.ticks good, head_said, last_none window_told later, last_none start_told later, last_none gates_told later, kept_none past_told later, append-nil s.past, any_none is_state later, or-false s.free, ticks_said valid last_number s.ticks good)
 
 pub reads_back : WrittenReadsBack
 reads_back net s valid fits numbers =

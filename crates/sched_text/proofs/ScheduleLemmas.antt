@@ -17,74 +17,48 @@ use Rattle.sched_text.specs.ReadingOn.{rounds_from, ticks_from, whole, before, a
 -- ---- the draft that goes on
 
 or_true : (b c : Bool) → (b || (true || c)) ≡ true
-or_true true c = refl
-or_true false c = refl
+or_true b c = grind arith
 
 next_told : {X : Type 0} (later told : Option X) (known : X) → unwrap_or (option_or later told) known ≡ unwrap_or later (unwrap_or told known)
-next_told (Some x) told known = refl
-next_told None told known = refl
+next_told later told known = grind arith
 
 -- the round in progress, where no event follows and no other round
 rounds_over : (round : Option RoundPlan) (said : List Statement) → events_ahead said ≡ [] → rounds_ahead said ≡ [] → rounds_from round said ≡ option_to_list round
-rounds_over None said no_event no_round = no_round
-rounds_over (Some round) said no_event no_round = rw (no_event, no_round, append-nil round.events) refl
+rounds_over round said no_event no_round = grind (arith, append-nil)
 
 pub whole_end : (draft : Draft) → whole draft [] ≡ ended draft
-whole_end draft = rw (append-nil draft.past, or-false draft.free, by draft.tick) refl
-  where
-    by : (tick : Option OpenTick) → ticks_from tick [] ≡ option_to_list (option_map ended_tick tick)
-    by None = refl
-    by (Some tick) = rw (rounds_over tick.round [] refl refl) refl
+whole_end draft = grind (arith, append-nil, or-false, rounds_over)
 
 -- the ticks behind a line that begins a tick
 ticks_at_tick : (ticks : List (List RoundPlan)) (tick : Option OpenTick) (rest : List Statement)
     → ticks ++ ticks_from tick (Tick ∷ rest) ≡ (ticks ++ option_to_list (option_map ended_tick tick)) ++ ticks_from (Some new_tick) rest
-ticks_at_tick ticks None rest = sym (append_assoc ticks [] (ticks_from (Some new_tick) rest))
-ticks_at_tick ticks (Some tick) rest =
-    rw (rounds_over tick.round (Tick ∷ rest) refl refl) (sym (append_assoc ticks (ended_tick tick ∷ []) (ticks_from (Some new_tick) rest)))
+ticks_at_tick ticks tick rest = grind (arith, append_assoc, rounds_over)
 
 -- and behind one that begins a round
 rounds_at_round : (n : ℕ) (round : Option RoundPlan) (rest : List Statement)
     → rounds_from round (Round n ∷ rest) ≡ option_to_list round ++ rounds_from (Some (new_round n)) rest
-rounds_at_round n None rest = refl
-rounds_at_round n (Some round) rest = rw (append-nil round.events) refl
+rounds_at_round n round rest = grind (arith, append-nil)
 
 ticks_at_round : (n : ℕ) (tick : Option OpenTick) (rest : List Statement) → ticks_from tick (Round n ∷ rest) ≡ ticks_from (option_map (begin_round n) tick) rest
-ticks_at_round n None rest = refl
-ticks_at_round n (Some tick) rest =
-    rw (rounds_at_round n tick.round rest, append_assoc tick.rounds (option_to_list tick.round) (rounds_from (Some (new_round n)) rest)) refl
+ticks_at_round n tick rest = grind (arith, rounds_at_round, append_assoc)
 
 -- and behind an event
 rounds_at_event : (planned : PlannedEvent) (round : Option RoundPlan) (rest : List Statement)
     → rounds_from round (Event planned ∷ rest) ≡ rounds_from (option_map (with_event planned) round) rest
-rounds_at_event planned None rest = refl
-rounds_at_event planned (Some round) rest = rw (append_assoc round.events (planned ∷ []) (events_ahead rest)) refl
+rounds_at_event planned round rest = grind (arith, append_assoc)
 
 ticks_at_event : (planned : PlannedEvent) (tick : Option OpenTick) (rest : List Statement) → ticks_from tick (Event planned ∷ rest) ≡ ticks_from (option_map (add_event planned) tick) rest
-ticks_at_event planned None rest = refl
-ticks_at_event planned (Some tick) rest = rw (rounds_at_event planned tick.round rest) refl
+ticks_at_event planned tick rest = grind (arith, rounds_at_event)
 
 -- they stay where the line is of the head
 ticks_at_other : (tick : Option OpenTick) (said : Statement) (rest : List Statement)
     → events_ahead (said ∷ rest) ≡ events_ahead rest → rounds_ahead (said ∷ rest) ≡ rounds_ahead rest → ticks_ahead (said ∷ rest) ≡ ticks_ahead rest
     → ticks_from tick (said ∷ rest) ≡ ticks_from tick rest
-ticks_at_other None said rest es rs ts = ts
-ticks_at_other (Some tick) said rest es rs ts = ap₂ (λ rounds later. (tick.rounds ++ rounds) ∷ later) (by tick.round) ts
-  where
-    by : (round : Option RoundPlan) → rounds_from round (said ∷ rest) ≡ rounds_from round rest
-    by None = rs
-    by (Some round) = rw (es, rs) refl
+ticks_at_other tick said rest es rs ts = grind arith
 
 -- what the next line says
 pub whole_step : (draft : Draft) (said : Statement) (rest : List Statement) → whole draft (said ∷ rest) ≡ whole (follow draft said) rest
-whole_step draft Tick rest = rw (ticks_at_tick draft.ticks draft.tick rest) (simp next_told)
-whole_step draft (Round n) rest = rw (ticks_at_round n draft.tick rest) (simp next_told)
-whole_step draft (Event planned) rest = rw (ticks_at_event planned draft.tick rest) (simp next_told)
-whole_step draft (Past bits) rest =
-    rw (ticks_at_other draft.tick (Past bits) rest refl refl refl, append_assoc draft.past (bits ∷ []) (filter_map past_told rest)) (simp next_told)
-whole_step draft (State bits) rest =
-    rw (ticks_at_other draft.tick (State bits) rest refl refl refl, or_true draft.free (list_any is_state rest)) (simp next_told)
-whole_step draft said rest = rw (ticks_at_other draft.tick said rest refl refl refl) (simp next_told)
+whole_step draft said rest = grind (arith, ticks_at_tick, next_told, ticks_at_round, ticks_at_event, ticks_at_other, append_assoc, or_true)
 
 -- ---- reading on
 
@@ -97,8 +71,7 @@ fault_here : (net : Parts) (ticks end : ℕ) (lines : List Line) (place : Place)
     → fault_at net ticks place.before place.begun cut_off (line_at lines i) ≡ found
     → unless (option_or found (first_fault net ticks end (line_at lines i ∷ before lines i) (drop (suc i) lines)))
     (whole draft (statement net (line_at lines i) ∷ map (statement net) (drop (suc i) lines))) ≡ schedule net ticks end lines
-fault_here net ticks end lines place draft i cut_off found at inside cut is =
-    rw (← is, at.nearest, at.begun, ← cut, add-one i) (ap (answer net ticks end draft (before lines i)) (sym (lines_here lines i inside)) ∙ at.answers)
+fault_here net ticks end lines place draft i cut_off found at inside cut is = grind (arith, add-one i, lines_here lines i inside)
 
 pub at_next : (net : Parts) (ticks end : ℕ) (lines : List Line) (place next : Place) (draft now : Draft) (i : ℕ) (cut_off : Bool)
     → ReadsAt net ticks end lines place draft i → i < length lines → is_cut_off end (line_at lines i) (drop (i + 1) lines) ≡ cut_off
@@ -129,7 +102,4 @@ at_fault net ticks end lines place draft i cut_off found at inside cut is = sym 
 pub answers_end : (net : Parts) (ticks end : ℕ) (lines : List Line) (place : Place) (draft : Draft) (i : ℕ) (found : Option SchedFault)
     → ReadsAt net ticks end lines place draft i → length lines ≤ i → fault_at_end ticks end place.before place.begun ≡ found
     → schedule net ticks end lines ≡ unless found (ended draft)
-answers_end net ticks end lines place draft i found at over is =
-    sym at.answers
-    ∙ ap (answer net ticks end draft (before lines i)) (drop_of_length-le lines over)
-    ∙ rw (← is, at.nearest, at.begun, whole_end draft) refl
+answers_end net ticks end lines place draft i found at over is = grind (arith, drop_of_length-le, whole_end)

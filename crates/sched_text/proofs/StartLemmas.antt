@@ -1,5 +1,5 @@
 -- What latches start with, latch by latch.
-use Rattle.std.proofs.Common.{◌≡◌, ◌<◌, ℕ, ◌+◌, Bool, List, length, drop, get_or, slice_get, Some, ◌∙◌, add-one, refl}
+use Rattle.std.proofs.Common.{◌≡◌, ◌<◌, ℕ, ◌+◌, Bool, List, length, drop, get_or, slice_get, Some, ◌∙◌, add-one, refl, arith}
 use Rattle.sched_text.proofs.Common.{if◌then◌else◌, drop-cons, Latch, permits, first_refused}
 use Rattle.std.proofs.lemmas.Option.{get_or_from_slice_get}
 
@@ -8,5 +8,4 @@ pub start_here : (latches : List Latch) (bits : List Bool) (i : ℕ) (latch : La
     → first_refused 0 latches bits ≡ first_refused i (drop i latches) (drop i bits)
     → slice_get latches i ≡ Some latch → i < length latches → i < length bits → permits latch.init (get_or bits i d) ≡ t
     → first_refused 0 latches bits ≡ (if t then first_refused (i + 1) (drop (i + 1) latches) (drop (i + 1) bits) else Some i)
-start_here latches bits i latch d t so_far at inside within is =
-    so_far ∙ rw (drop-cons latches i latch inside, get_or_from_slice_get latches i latch latch at, drop-cons bits i d within, is, add-one i) refl
+start_here latches bits i latch d t so_far at inside within is = grind (arith, drop-cons latches i latch inside, get_or_from_slice_get latches i latch latch, drop-cons bits i d within, add-one i)

@@ -1,5 +1,5 @@
 -- The answer that there is once the lines that are left are read, and what vectors are like.
-use Rattle.std.proofs.Common.{◌≡◌, ◌≢◌, ◌≤◌, ◌<◌, ℕ, suc, ◌+◌, Bool, true, false, List, [], ◌∷◌, ◌++◌, All, length, drop, map, Some, None, Ok, Err, refl, sym, ap, subst, ◌∙◌, add-one, drop_of_length-le, eqb-true}
+use Rattle.std.proofs.Common.{◌≡◌, ◌≢◌, ◌≤◌, ◌<◌, ℕ, suc, ◌+◌, Bool, true, false, List, [], ◌∷◌, ◌++◌, All, length, drop, map, Some, None, Ok, Err, refl, sym, ap, subst, ◌∙◌, add-one, drop_of_length-le, eqb-true, arith}
 use Rattle.sched_text.proofs.Common.{Option, Result, codes, if◌then◌else◌, list_all, option_or, drop-cons, length-map, All-nil, All-cons, Line, line_at, SchedFault, unless, BadLine, WrongWidth, value_of}
 use Rattle.std.specs.Prelude.{◌||◌, ◌==◌, bytes_eq}
 use Rattle.std.proofs.lemmas.Bool.{and_parts}
@@ -23,8 +23,7 @@ lines_here lines i inside = drop-cons lines i (record { number = 0; words = [] }
 fault_here : (width : ℕ) (unknowns : Bool) (lines : List Line) (done : List (List Trit)) (i : ℕ) (found : Option SchedFault)
     → ReadsAt width unknowns lines done i → i < length lines → vector_fault width unknowns (line_at lines i) ≡ found
     → unless (option_or found (first_fault width unknowns (drop (suc i) lines))) (done ++ vector_of width (line_at lines i) ∷ vectors_of width (drop (suc i) lines)) ≡ vectors width unknowns lines
-fault_here width unknowns lines done i found at inside is =
-    rw (← is) (ap (answer width unknowns done) (sym (lines_here lines i inside)) ∙ at.answers)
+fault_here width unknowns lines done i found at inside is = grind (arith, lines_here)
 
 pub at_next : (width : ℕ) (unknowns : Bool) (lines : List Line) (done now : List (List Trit)) (i : ℕ)
     → ReadsAt width unknowns lines done i → i < length lines → vector_fault width unknowns (line_at lines i) ≡ None
@@ -32,11 +31,7 @@ pub at_next : (width : ℕ) (unknowns : Bool) (lines : List Line) (done now : Li
     → ReadsAt width unknowns lines now (i + 1)
 at_next width unknowns lines done now i at inside none is =
     let rest = drop (suc i) lines in
-    rw (is, add-one i) (record {
-      answers =
-          ap (unless (first_fault width unknowns rest)) (append_assoc done (vector_of width (line_at lines i) ∷ []) (vectors_of width rest))
-          ∙ fault_here width unknowns lines done i None at inside none;
-    })
+    grind (arith, add-one i, append_assoc done (vector_of width (line_at lines i) ∷ []) (vectors_of width rest), fault_here width unknowns lines done i None)
 
 pub at_fault : (width : ℕ) (unknowns : Bool) (lines : List Line) (done : List (List Trit)) (i : ℕ) (found : SchedFault)
     → ReadsAt width unknowns lines done i → i < length lines → vector_fault width unknowns (line_at lines i) ≡ Some found
@@ -45,77 +40,57 @@ at_fault width unknowns lines done i found at inside is = sym (fault_here width 
 
 pub at_end : (width : ℕ) (unknowns : Bool) (lines : List Line) (done : List (List Trit)) (i : ℕ)
     → ReadsAt width unknowns lines done i → length lines ≤ i → vectors width unknowns lines ≡ Ok done
-at_end width unknowns lines done i at over =
-    sym at.answers
-    ∙ ap (answer width unknowns done) (drop_of_length-le lines over)
-    ∙ ap Ok (append-nil done)
+at_end width unknowns lines done i at over = grind (arith, drop_of_length-le, append-nil)
 
 -- What vectors without a fault are like.
 
 pub no_fault : {X : Type 0} (fault : Option SchedFault) (meant found : X) → unless fault meant ≡ Ok found → fault ≡ None
-no_fault None meant found is = refl
-no_fault (Some fault) meant found is = absurd (cc is)
+no_fault fault meant found is = grind arith
 
 pub as_meant : {X : Type 0} (fault : Option SchedFault) (meant found : X) → unless fault meant ≡ Ok found → meant ≡ found
-as_meant None meant found is = cc is
-as_meant (Some fault) meant found is = absurd (cc is)
+as_meant fault meant found is = grind arith
 
 -- each line without a fault gives a vector that is as wanted
 each_is : (width : ℕ) (unknowns : Bool) (P : List Trit → Type 0)
     → ((line : Line) → vector_fault width unknowns line ≡ None → P (vector_of width line))
     → (lines : List Line) → first_fault width unknowns lines ≡ None → All P (vectors_of width lines)
 each_is width unknowns P one [] none = All-nil P
-each_is width unknowns P one (line ∷ rest) none =
-    let neither = option_or-neither (vector_fault width unknowns line) (first_fault width unknowns rest) none in
-    All-cons P (vector_of width line) (vectors_of width rest) (one line neither.0) (each_is width unknowns P one rest neither.1)
+each_is width unknowns P one (line ∷ rest) none = grind (arith, option_or-neither, All-cons, each_is width unknowns P one rest)
 
 each_read : (width : ℕ) (unknowns : Bool) (P : List Trit → Type 0)
     → ((line : Line) → vector_fault width unknowns line ≡ None → P (vector_of width line))
     → (lines : List Line) (found : List (List Trit)) → vectors width unknowns lines ≡ Ok found → All P found
 each_read width unknowns P one lines found is =
-    subst (All P) (as_meant (first_fault width unknowns lines) (vectors_of width lines) found is)
-    (each_is width unknowns P one lines (no_fault (first_fault width unknowns lines) (vectors_of width lines) found is))
+    grind (arith, as_meant (first_fault width unknowns lines) (vectors_of width lines) found is, each_is width unknowns P one lines (no_fault (first_fault width unknowns lines) (vectors_of width lines) found is), no_fault (first_fault width unknowns lines) (vectors_of width lines) found is)
 
 width_of_word : (width : ℕ) (n : ℕ) (word : List ℕ) (dash good fits : Bool)
     → is_dash width word ≡ dash → (length word == width) ≡ fits
     → (if dash then None else (if good then (if fits then None else Some (WrongWidth n)) else Some (BadLine n))) ≡ None
     → length (if dash then [] else map value_of word) ≡ width
-width_of_word width n word true good fits d e none = sym (eqb-true width 0 (and_parts (width == 0) (bytes_eq word (codes "-")) d).0)
-width_of_word width n word false true true d e none = length-map word value_of ∙ eqb-true (length word) width e
-width_of_word width n word dash good fits d e none = absurd (cc none)
+width_of_word width n word dash good fits d e none = grind (arith, eqb-true, and_parts, length-map)
 
 width_of_words : (width : ℕ) (unknowns : Bool) (n : ℕ) (words : List (List ℕ)) → words_fault width unknowns n words ≡ None → length (vector_of_words width words) ≡ width
-width_of_words width unknowns n (word ∷ []) none =
-    width_of_word width n word (is_dash width word) (list_all (is_value unknowns) word) (length word == width) refl refl none
-width_of_words width unknowns n words none = absurd (cc none)
+width_of_words width unknowns n words none = grind (arith, width_of_word)
 
 pub have_width : (width : ℕ) (unknowns : Bool) (lines : List Line) (found : List (List Trit)) → vectors width unknowns lines ≡ Ok found → HaveWidth width found
 have_width width unknowns lines found is =
     each_read width unknowns (λ vector. length vector ≡ width) (λ line none. width_of_words width unknowns line.number line.words none) lines found is
 
 known_value : (zero one : Bool) → (zero || one || false) ≡ true → (if zero then Zero else (if one then One else X)) ≢ X
-known_value true one is same = absurd (cc same)
-known_value false true is same = absurd (cc same)
-known_value false false is same = absurd (cc is)
+known_value zero one is same = grind arith
 
 known_values : (word : List ℕ) → list_all (is_value false) word ≡ true → All (λ value. value ≢ X) (map value_of word)
 known_values [] is = All-nil (λ value. value ≢ X)
-known_values (b ∷ rest) is =
-    let both = and_parts (is_value false b) (list_all (is_value false) rest) is in
-    All-cons (λ value. value ≢ X) (value_of b) (map value_of rest) (known_value (b == 48) (b == 49) both.0) (known_values rest both.1)
+known_values (b ∷ rest) is = grind (arith, and_parts, All-cons, known_value, known_values rest)
 
 known_word : (width n : ℕ) (word : List ℕ) (dash good fits : Bool)
     → list_all (is_value false) word ≡ good
     → (if dash then None else (if good then (if fits then None else Some (WrongWidth n)) else Some (BadLine n))) ≡ None
     → All (λ value. value ≢ X) (if dash then [] else map value_of word)
-known_word width n word true good fits g none = All-nil (λ value. value ≢ X)
-known_word width n word false false fits g none = absurd (cc none)
-known_word width n word false true fits g none = known_values word g
+known_word width n word dash good fits g none = grind (arith, All-nil, known_values)
 
 known_words : (width n : ℕ) (words : List (List ℕ)) → words_fault width false n words ≡ None → All (λ value. value ≢ X) (vector_of_words width words)
-known_words width n (word ∷ []) none =
-    known_word width n word (is_dash width word) (list_all (is_value false) word) (length word == width) refl none
-known_words width n words none = absurd (cc none)
+known_words width n words none = grind (arith, known_word)
 
 pub are_known : (width : ℕ) (unknowns : Bool) (lines : List Line) (found : List (List Trit)) → unknowns ≡ false → vectors width unknowns lines ≡ Ok found → AreKnown found
 are_known width unknowns lines found boolean is =

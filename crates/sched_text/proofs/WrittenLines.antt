@@ -1,5 +1,5 @@
 -- A text of lines of names reads back as these lines.
-use Rattle.std.proofs.Common.{◌≡◌, ℕ, ◌+◌, List, [], ◌∷◌, ◌++◌, false, refl, sym, ap, ◌∙◌, append_assoc, append-nil, length}
+use Rattle.std.proofs.Common.{◌≡◌, ℕ, ◌+◌, List, [], ◌∷◌, ◌++◌, false, refl, sym, ap, ◌∙◌, append_assoc, append-nil, length, arith}
 use Rattle.std.specs.Prelude.{All, Ok}
 use Rattle.sched_text.proofs.Common.{flat_map, lines, end_number, IsLine, numbered, after_blank, line_text}
 use Rattle.blif_text.proofs.WrittenLines.{spaced, line_of}
@@ -13,9 +13,7 @@ behind_spaced word (next ∷ rest) = ap (λ text. word ++ 32 ∷ text) (behind_s
 -- no line ends in a blank
 line_is : (words : List (List ℕ)) → line_text words ≡ line_of (λ ws. false) words ++ 10 ∷ []
 line_is [] = refl
-line_is (word ∷ rest) =
-    sym (append_assoc word (flat_map after_blank rest) (10 ∷ []))
-    ∙ ap (λ text. text ++ 10 ∷ []) (behind_spaced word rest ∙ sym (append-nil (spaced (word ∷ rest))))
+line_is (word ∷ rest) = grind (arith, append_assoc, behind_spaced, append-nil)
 
 pub written_lines : (written : List (List (List ℕ))) → All IsLine written → lines (text_of written) false ≡ Ok (numbered 1 written)
 written_lines written each = texts.written_lines line_text (λ ws. false) line_is false (λ ws names. refl) written each

@@ -28,13 +28,7 @@ with_digits-append k [] es = refl
 with_digits-append k (d ∷ ds) es = with_digits-append (k * 10 + (d - 48)) ds es
 
 one_digit : (n : ℕ) → n < 10 → IsWritten n ((48 + n) ∷ [])
-one_digit n small = record {
-  digits = ap (λ t. t && true) (digit_is n small);
-  value = let e : 0 * 10 + (48 + n - 48) ≡ n = omega arith in e;
-  filled = omega arith;
-  leads = λ some. omega (arith, some);
-  one = λ few. refl;
-}
+one_digit n small = grind arith
 
 more_digits : (n : ℕ) (ds : List ℕ) → 10 ≤ n → IsWritten (n / 10) ds → IsWritten n (ds ++ ((48 + n % 10) ∷ []))
 more_digits n ds many before =
@@ -60,20 +54,12 @@ pub decimal_written : (n : ℕ) → n < 2 ^ 64 → IsWritten n (decimal n)
 decimal_written = decimal_by_steps IsWritten one_digit more_digits
 
 most_is : (n : ℕ) (ds : List ℕ) → IsWritten n ds → n ≤ 4294967295 → up_to_most 0 ds ≡ Some n
-most_is n ds is small =
-    let fits : nat_le n 4294967295 ≡ true = grind (arith, nat_tests) in
-    ap (λ (t : Bool). if t && nat_le (with_digits 0 ds) 4294967295 then Some (with_digits 0 ds) else None) is.digits
-    ∙ ap (λ (k : ℕ). if nat_le k 4294967295 then Some k else None) is.value
-    ∙ ap (λ (t : Bool). if t then Some n else None) fits
+most_is n ds is small = grind arith
 
 number_by : (n : ℕ) (ds : List ℕ) → IsWritten n ds → n ≤ 4294967295 → number ds ≡ Some n
 number_by n [] is small = let filled = is.filled in absurd (omega (arith, filled))
 number_by n (b ∷ []) is small = most_is n (b ∷ []) is small
-number_by n (b ∷ c ∷ rest) is small =
-    let many : 10 ≤ n = elim (cases_lt n 10) [ inl few ↦ (let one = is.one few in absurd (omega (arith, one))) | inr many ↦ many ] in
-    let leads : 48 < b = is.leads (omega (arith, many)) in
-    let ne : (b == 48) ≡ false = ne_eqb b 48 (omega (arith, leads)) in
-    ap (λ (t : Bool). if t then None else up_to_most 0 (b ∷ c ∷ rest)) ne ∙ most_is n (b ∷ c ∷ rest) is small
+number_by n (b ∷ c ∷ rest) is small = grind arith
 
 -- a number of 32 bits reads back
 pub number_decimal : (n : ℕ) → IsSmall n → number (decimal n) ≡ Some n
@@ -81,12 +67,7 @@ number_decimal n small = number_by n (decimal n) (decimal_written n (omega (arit
 
 digits_named : (ds : List ℕ) → list_all is_digit ds ≡ true → All IsBlifByte ds
 digits_named [] all = All-nil IsBlifByte
-digits_named (d ∷ ds) all =
-    let parts = and_parts (is_digit d) (list_all is_digit ds) all in
-    let bounds = digit_bounds d parts.0 in
-    All-cons IsBlifByte d ds (omega (arith, bounds.0), omega (arith, bounds.1), λ e. omega (arith, bounds.0, e)) (digits_named ds parts.1)
+digits_named (d ∷ ds) all = grind (arith, and_parts, digit_bounds, All-cons, digits_named ds)
 
 pub decimal_named : (n : ℕ) → IsSmall n → IsBlifName (decimal n)
-decimal_named n small =
-    let is = decimal_written n (omega (arith, small)) in
-    ((λ none. let size : length (decimal n) ≡ 0 = ap length none in let filled = is.filled in omega (arith, size, filled)), digits_named (decimal n) is.digits)
+decimal_named n small = grind (arith, decimal_written n, digits_named (decimal n))

@@ -1,5 +1,5 @@
 -- The lines of a schedule, as they are appended.
-use Rattle.std.proofs.Common.{◌≡◌, ℕ, List, [], ◌∷◌, ◌++◌, map, refl, ap, ◌∙◌, append_assoc, append-nil}
+use Rattle.std.proofs.Common.{◌≡◌, ℕ, List, [], ◌∷◌, ◌++◌, map, refl, ap, ◌∙◌, append_assoc, append-nil, arith}
 use Rattle.sched_text.proofs.Common.{codes, decimal, flat_map, Parts, gate_at, PlannedEvent, RoundPlan, Schedule, after_blank, line_text, bits_words, past_line, start_word, event_line, round_lines, tick_lines, event_text, round_text, tick_text}
 use Rattle.std.proofs.lemmas.List.Concat.{flat_map-append}
 use Rattle.std.proofs.lemmas.List.Folds.{flat_map-map}
@@ -11,17 +11,13 @@ window_is window = ap (λ l. codes "window " ++ (l ++ codes "\n")) (append-nil (
 
 pub event_is : (net : Parts) (planned : PlannedEvent)
     → event_text net planned ≡ (codes "e " ++ (gate_at net planned.event.gate).name) ++ (ages_text planned.event.ages ++ codes "\n")
-event_is net planned =
-    let name : List ℕ = (gate_at net planned.event.gate).name in
-    ap (λ l. codes "e " ++ ((name ++ l) ++ codes "\n")) (flat_map-map after_blank decimal planned.event.ages)
-    ∙ ap (λ l. codes "e " ++ l) (append_assoc name (ages_text planned.event.ages) (codes "\n"))
+event_is net planned = grind (arith, flat_map-map, append_assoc)
 
 -- ---- the whole text
 
 texts_of : {X : Type 0} (f : X → List (List (List ℕ))) (g : X → List ℕ) (xs : List X) → ((x : X) → text_of (f x) ≡ g x) → text_of (flat_map f xs) ≡ flat_map g xs
 texts_of f g [] same = refl
-texts_of f g (x ∷ xs) same =
-    flat_map-append line_text (f x) (flat_map f xs) ∙ ap (λ l. l ++ text_of (flat_map f xs)) (same x) ∙ ap (λ l. g x ++ l) (texts_of f g xs same)
+texts_of f g (x ∷ xs) same = grind (arith, flat_map-append, texts_of f g xs same)
 
 round_is : (net : Parts) (round : RoundPlan) → text_of (round_lines net round) ≡ round_text net round
 round_is net round = ap (λ l. codes "round\n" ++ l) (flat_map-map line_text (event_line net) round.events)
@@ -30,17 +26,7 @@ tick_is : (net : Parts) (rounds : List RoundPlan) → text_of (tick_lines net ro
 tick_is net rounds = ap (λ l. codes "tick\n" ++ l) (texts_of (round_lines net) (round_text net) rounds (round_is net))
 
 pub head_is : (schedule : Schedule) → text_of (head_lines schedule) ≡ head_text schedule
-head_is schedule =
-    let window = line_text (codes "window" ∷ decimal schedule.window ∷ []) in
-    let start = line_text (start_word schedule.free ∷ bits_words schedule.latches) in
-    let gates = line_text (codes "gates" ∷ bits_words schedule.gates) in
-    ap (λ l. codes "schedule 2\n" ++ (window ++ l))
-    (flat_map-append line_text (map past_line schedule.past) ((start_word schedule.free ∷ bits_words schedule.latches) ∷ (codes "gates" ∷ bits_words schedule.gates) ∷ [])
-    ∙ ap (λ l. l ++ (start ++ (gates ++ []))) (flat_map-map line_text past_line schedule.past)
-    ∙ ap (λ l. past_text schedule.past ++ (start ++ l)) (append-nil gates))
+head_is schedule = grind (arith, flat_map-append, flat_map-map, append-nil)
 
 pub written_is : (net : Parts) (schedule : Schedule) → written net schedule ≡ head_text schedule ++ ticks_text net schedule.ticks
-written_is net schedule =
-    flat_map-append line_text (head_lines schedule) (flat_map (tick_lines net) schedule.ticks)
-    ∙ ap (λ l. l ++ text_of (flat_map (tick_lines net) schedule.ticks)) (head_is schedule)
-    ∙ ap (λ l. head_text schedule ++ l) (texts_of (tick_lines net) (tick_text net) schedule.ticks (tick_is net))
+written_is net schedule = grind (arith, flat_map-append line_text (head_lines schedule) (flat_map (tick_lines net) schedule.ticks), head_is schedule, texts_of (tick_lines net) (tick_text net) schedule.ticks (tick_is net), tick_is net)

@@ -15,19 +15,7 @@ loop-k-preserved c =
     }
 
 pub returns-in-None : goal.returns-in-None
-returns-in-None c = λ other.
-    ap (λ t. if t then None else Some (BadLine c.args.line.now.number))
-    (ages_fault c.args.line.now.words c.loop-k.ages.items c.loop-k.k c.loop-k.invariant.ages
-    (omega (arith, c.loop-k-test.true, c.words-words.ensures))
-    (sym (ap number c.word.ensures) ∙ sym c.number.ensures ∙ c.in-None.is))
-    ∙ ap (λ fault. Some fault) (sym c.bad_line.ensures)
+returns-in-None c = grind (arith, ages_fault)
 
 pub returns : goal.returns
-returns c = record {
-  no_fault = ap (λ t. if t then None else Some (BadLine c.args.line.now.number))
-      (ages_good c.args.line.now.words c.loop-k.ages.items c.loop-k.k c.loop-k.invariant.ages
-      (omega (arith, c.loop-k-test.false, c.words-words.ensures)));
-  is = c.of.ensures
-      ∙ ages_end c.args.line.now.words c.loop-k.ages.items c.loop-k.k c.loop-k.invariant.ages
-      (omega (arith, c.loop-k-test.false, c.words-words.ensures));
-}
+returns c = grind (arith, ages_good, ages_end)

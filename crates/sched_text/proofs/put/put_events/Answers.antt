@@ -5,9 +5,7 @@ use Rattle.delay_core.specs.EventLists.{planned_at}
 use Rattle.sched_text.proofs.put.put_events.Goals as goal
 
 pub put_event-requires-clause-gate : goal.put_event-requires-clause-gate
-put_event-requires-clause-gate g c =
-    let short : c.loop-i.i < length c.args.events.now = omega (arith, c.loop-i-test.true, c.len-i-end.ensures) in
-    c.requires c.loop-i.i _ short
+put_event-requires-clause-gate g c = grind arith
 
 pub loop-i-init : goal.loop-i-init
 loop-i-init g c = record { text = appended_none _ _ _; small = λ k d inside. absurd (omega (arith, inside)) }

@@ -1,4 +1,4 @@
-use Rattle.std.proofs.Common.{refl}
+use Rattle.std.proofs.Common.{refl, arith}
 use Rattle.std.specs.Prelude.{OnOk, Ok, Err}
 use Rattle.std.specs.declared.result.Result.{Result}
 use Rattle.sched_text.proofs.SaidLemmas.{reads_back}
@@ -13,8 +13,7 @@ pub returns-clause-text : goal.returns-clause-text
 returns-clause-text g c = appended_equal _ _ _ _ (written_is c.args.net.now c.args.schedule.now) (rw (← c.items.ensures) (appended_then _ _ _ _ _ _ _ _ _ _ c.in_ok-put_head.ensures.text c.put_ticks.ensures.text))
 
 on_ok : {T E P Q : Type 0} (r : Result T E) → (P → Q) → OnOk r P → OnOk r Q
-on_ok (Ok x) f p = f p
-on_ok (Err e) f p = tt
+on_ok r f p = grind arith
 
 pub returns-clause-reads_back : goal.returns-clause-reads_back
 returns-clause-reads_back g c =

@@ -7,10 +7,7 @@ use Rattle.sched_text.proofs.ReadingLemmas.{nothing_read, piece_next, piece_faul
 use Rattle.sched_text.proofs.line.LineReader.take_piece.Goals as goal
 
 pub loop-i-init : goal.loop-i-init
-loop-i-init c = record {
-  few = omega arith;
-  reads = nothing_read c.args.self.now.net.now c.args.self.now.ticks c.args.self.now.end c.args.lines.now c.args.place (seen c.args.draft.now);
-}
+loop-i-init c = grind arith
 
 pub loop-i-preserved : goal.loop-i-preserved
 loop-i-preserved c =
