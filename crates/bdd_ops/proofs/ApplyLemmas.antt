@@ -1,5 +1,5 @@
 -- One step of an operation: from the answers to the cofactors to the answer to the operands.
-use Rattle.std.proofs.Common.{◌≡◌, ℕ, ◌+◌, ◌<◌, ◌≤◌, ◌⊎◌, Bool, true, false, List, [], ◌∷◌, ◌++◌, length, drop, get_or, replicate, Result, Ok, IfOk, if◌then◌else◌, refl, sym, ap, subst, ◌∙◌, arith, append_assoc}
+use Rattle.std.proofs.Common.{◌≡◌, ℕ, ◌+◌, ◌<◌, ◌≤◌, ◌⊎◌, Bool, true, false, List, [], ◌∷◌, ◌++◌, length, drop, get_or, replicate, Result, Ok, IfOk, refl, sym, ap, subst, ◌∙◌, arith, append_assoc}
 use Rattle.std.proofs.lemmas.List.{length-replicate, drop_at, get_or_at, length_push}
 use Rattle.bdd_store.specs.declared.node.Node.{Node}
 use Rattle.bdd_store.specs.Arena.{Arena, complemented, den, top_of, IsNodeOf, choice}
@@ -47,10 +47,6 @@ IsSplit-kept k h = record {
 module _ (operation : Operation) (s : Arena) (q : Operands) (var : ℕ) (bit : Bool) (p : Operands) (of : AreCofactors s q var bit p) where
   pub AreNodesOf-cofactors : AreNodesOf s p
   AreNodesOf-cofactors = record { a = of.a.node; b = of.b.node; c = of.c.node; d = of.d.node }
-
-  -- where the bit is so, the values are those of the cofactors
-  pub value-cofactors : (bits : List Bool) → get_or bits var false ≡ bit → value operation s q bits ≡ value operation s p bits
-  value-cofactors bits read = λ j. combine operation (of.a.function bits read j) (of.b.function bits read j) (of.c.function bits read j) (of.d.function bits read j)
 
   -- the cofactors' node reads later bits alone
   pub below_answer : var < s.vars → (n : Node) → IsAnswer operation s p n → var < top_of s n

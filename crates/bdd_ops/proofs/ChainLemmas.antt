@@ -1,5 +1,5 @@
 -- The questions that wait: each is a part of the root's function.
-use Rattle.std.proofs.Common.{◌≡◌, ℕ, true, false, Bool, not, List, [], ◌∷◌, ◌++◌, ◌⊎◌, inl, inr, Result, Ok, Err, is_ok, is_err, if◌then◌else◌, true≢false, refl, sym, ap, subst, ◌∙◌, reverse, arith}
+use Rattle.std.proofs.Common.{◌≡◌, ℕ, true, false, Bool, not, List, [], ◌∷◌, ◌++◌, ◌⊎◌, inl, inr, Result, is_ok, is_err, if◌then◌else◌, refl, sym, ap, subst, ◌∙◌, reverse, arith}
 use Rattle.std.proofs.lemmas.List.{reverse-append}
 use Rattle.bdd_store.specs.declared.node.Node.{Node}
 use Rattle.bdd_store.specs.Arena.{Arena, complemented_if, flipped}

@@ -1,11 +1,10 @@
 -- Answers to choices stay right.
-use Rattle.std.proofs.Common.{◌≡◌, ℕ, Bool, ◌⊎◌, inl, inr, List, Option, Some, None, IfSome, Contains, if◌then◌else◌, refl, sym, subst, ◌∙◌, arith}
+use Rattle.std.proofs.Common.{◌≡◌, ℕ, Bool, ◌⊎◌, inl, inr, List, Option, Some, None, IfSome, Contains, if◌then◌else◌, refl, sym, subst, arith}
 use Rattle.bdd_store.specs.declared.node.Node.{Node}
 use Rattle.bdd_store.specs.declared.node.Choice.{Choice}
 use Rattle.bdd_store.specs.Arena.{Arena, empty, den, with_answers, answer_to, same_choice, IsNodeOf}
 use Rattle.bdd_store.specs.Growth.{KeepsNodes}
 use Rattle.bdd_store.proofs.AnswerLemmas.{same_choice-true}
-use Rattle.bdd_store.proofs.GrowthLemmas.{IsNodeOf-kept}
 use Rattle.lru.proofs.CallerLemmas.{Contains-lookup}
 use Rattle.bdd_ops.specs.Operations.{if_then_else}
 use Rattle.bdd_ops.specs.Choices.{IsNodeOfChoice, AreRight}

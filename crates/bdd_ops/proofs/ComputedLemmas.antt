@@ -1,5 +1,5 @@
 -- The computed table: what it holds stays right as the table grows, and as the store does.
-use Rattle.std.proofs.Common.{◌≡◌, ◌⊎◌, inl, inr, Bool, false, List, ◌++◌, map, All, Contains, sym, subst, arith}
+use Rattle.std.proofs.Common.{◌≡◌, ◌⊎◌, Bool, false, List, ◌++◌, map, All, Contains, sym, subst, arith}
 use Rattle.std.proofs.lemmas.List.Elements.{All-append, All-map, All-weaker, All-contains, All-contains_itself, Contains-append_left, Contains-append_right}
 use Rattle.cyc_base.proofs.ListLemmas.{Contains-map}
 use Rattle.bdd_store.specs.declared.node.Node.{Node}

@@ -1,7 +1,7 @@
 -- The way to the least vector: the bits up to the node that is reached are at most those of each vector at which
 -- the function is true.
-use Rattle.std.proofs.Common.{◌≡◌, ◌≢◌, ℕ, zero, suc, ◌+◌, ◌-◌, ◌<◌, ◌≤◌, Bool, true, false, List, [], ◌∷◌, ◌++◌, length, drop, get_or, set, replicate, refl, sym, ap, subst, ◌∙◌, arith, append_assoc, length-append, nat_eq, eq-eqb, inl, inr, true≢false}
-use Rattle.std.proofs.lemmas.Bool.{cases_lt, eqb-true}
+use Rattle.std.proofs.Common.{◌≡◌, ◌≢◌, ℕ, zero, suc, ◌+◌, ◌-◌, ◌<◌, ◌≤◌, Bool, true, false, List, [], ◌∷◌, ◌++◌, length, drop, get_or, set, replicate, refl, sym, ap, subst, ◌∙◌, arith, append_assoc, length-append, nat_eq, eq-eqb, true≢false}
+use Rattle.std.proofs.lemmas.Bool.{eqb-true}
 use Rattle.std.proofs.lemmas.List.{append-nil, length-replicate, get_or_at, drop_all, replicate-append-replicate}
 use Rattle.std.proofs.Math.Seq.{drop-cons, set-append_seam}
 use Rattle.bdd_store.specs.declared.node.Node.{Node}

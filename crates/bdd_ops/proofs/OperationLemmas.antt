@@ -1,5 +1,5 @@
 -- Conjunction, disjunction and exclusive or as choices.
-use Rattle.std.proofs.Common.{◌≡◌, Bool, true, false, ◌&&◌, ◌||◌, List, if◌then◌else◌, refl, ◌∙◌, arith}
+use Rattle.std.proofs.Common.{◌≡◌, Bool, true, false, ◌&&◌, ◌||◌, List, if◌then◌else◌, ◌∙◌, arith}
 use Rattle.bdd_store.specs.declared.node.Node.{Node}
 use Rattle.bdd_store.specs.Arena.{Arena, den}
 use Rattle.bdd_ops.specs.Operations.{conjunction, disjunction, if_then_else}

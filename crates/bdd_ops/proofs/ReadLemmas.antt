@@ -4,9 +4,8 @@ use Rattle.std.proofs.Common.{◌≡◌, ◌≢◌, ℕ, ◌+◌, ◌*◌, ◌<�
 use Rattle.std.proofs.lemmas.Bool.{cases_eq, cases_lt}
 use Rattle.std.proofs.lemmas.List.{get_or_past}
 use Rattle.bdd_store.specs.declared.node.Node.{Node}
-use Rattle.bdd_store.specs.Arena.{Arena, index, is_marked, flipped, den, value_at, top_of}
+use Rattle.bdd_store.specs.Arena.{Arena, index, is_marked, flipped, den, top_of}
 use Rattle.bdd_store.specs.Soundness.{IsLawful}
-use Rattle.bdd_store.proofs.NodeLemmas.{plain}
 use Rattle.bdd_store.proofs.ValueLemmas.{value_at-zero}
 use Rattle.bdd_ops.specs.Apply.{IsCofactor}
 use Rattle.bdd_ops.specs.Least.{IsLayout, by_variable}

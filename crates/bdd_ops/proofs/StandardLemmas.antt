@@ -1,5 +1,5 @@
 -- Each step to the standard form keeps the answer, up to a mark.
-use Rattle.std.proofs.Common.{◌≡◌, ℕ, ◌≤◌, Bool, true, false, not, List, ◌≢◌, inl, inr, if◌then◌else◌, refl, sym, ap, subst, ◌∙◌, arith}
+use Rattle.std.proofs.Common.{◌≡◌, ℕ, ◌≤◌, Bool, true, false, not, List, ◌≢◌, if◌then◌else◌, refl, sym, ap, subst, ◌∙◌, arith}
 use Rattle.bdd_store.specs.declared.node.Node.{Node}
 use Rattle.bdd_store.specs.Arena.{Arena, index, IsBranching, complemented, complemented_if, flipped, constant, den, top_of, top_at}
 use Rattle.bdd_store.proofs.NodeLemmas.{same_entry, flipped-twice, index-complemented_if}

@@ -1,12 +1,12 @@
 -- Each step leaves fewer of them.
-use Rattle.std.proofs.Common.{◌≡◌, ℕ, zero, suc, ◌+◌, ◌-◌, ◌<◌, ◌≤◌, Bool, List, [], ◌∷◌, ◌++◌, reverse, sym, ap, subst, ◌∙◌, arith}
+use Rattle.std.proofs.Common.{◌≡◌, ℕ, zero, suc, ◌+◌, ◌-◌, ◌<◌, ◌≤◌, List, [], ◌∷◌, ◌++◌, reverse, arith}
 use Rattle.bdd_store.specs.Arena.{Arena}
 use Rattle.bdd_ops.specs.declared.operands.Operation.{Operation}
 use Rattle.bdd_ops.specs.declared.operands.Operands.{Operands}
 use Rattle.bdd_ops.specs.declared.apply.Question.{Question}
 use Rattle.bdd_ops.specs.declared.apply.Question.TheVariants.{Low, High}
 use Rattle.bdd_ops.specs.declared.apply.Turn.TheVariants.{Ask}
-use Rattle.bdd_ops.specs.Apply.{IsBelow, AreCofactors}
+use Rattle.bdd_ops.specs.Apply.{IsBelow}
 use Rattle.bdd_ops.specs.Standard.{IsFormOf}
 use Rattle.bdd_ops.specs.Steps.{var_of, most_steps, last_vars, steps_from, steps_left}
 use Rattle.bdd_ops.specs.Turns.{WaitsFor, IsChain, asked_of, mark_of}
@@ -20,10 +20,6 @@ most_steps-grow (suc m) (suc n) h = omega (arith, most_steps-grow m n (omega (ar
 
 most_steps-twice : (m n : ℕ) → m < n → most_steps m + most_steps m + 3 ≤ most_steps n
 most_steps-twice m n h = most_steps-grow (suc m) n h
-
--- cofactors read later variables alone
-IsBelow-cofactors : {s : Arena} {q p : Operands} {var : ℕ} {bit : Bool} → AreCofactors s q var bit p → IsBelow s p (suc var)
-IsBelow-cofactors of = record { a = of.a.lower; b = of.b.lower; c = of.c.lower; d = of.d.lower }
 
 module _ (operation : Operation) (s : Arena) where
   within : (w : Question) (q : Operands) → WaitsFor operation s w q → var_of w < s.vars

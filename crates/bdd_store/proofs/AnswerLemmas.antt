@@ -1,6 +1,6 @@
 -- Answers to choices: what is there after one is kept.
-use Rattle.std.proofs.Common.{◌≡◌, true, ◌==◌, ◌⊎◌, inl, inr, Contains, refl, sym, ap, subst, eq-eqb, arith}
-use Rattle.bdd_store.proofs.Common.{eqb-true, and_parts, Node}
+use Rattle.std.proofs.Common.{◌≡◌, true, ◌⊎◌, Contains, refl, ap, subst, eq-eqb, arith}
+use Rattle.bdd_store.proofs.Common.{Node}
 use Rattle.std.proofs.lemmas.Bool.{and_from}
 use Rattle.std.specs.Cmp.{IsEquivalence}
 use Rattle.cyc_base.proofs.TruthLemmas.{same_truth}

@@ -1,6 +1,6 @@
 -- Nodes of one function are one node (Bryant 1986), and the laws of each store. Without marks each function is true
 -- where all bits are 1, since no high branch has a mark: so equal functions have equal marks.
-use Rattle.std.proofs.Common.{◌≡◌, ℕ, zero, suc, ◌+◌, ◌-◌, ◌<◌, ◌≤◌, Bool, true, false, List, length, drop, get_or, set, slice_get, replicate, Some, refl, sym, ap, ◌∙◌, inl, inr, ◌⊎◌, arith, length-set, get_or-set_same}
+use Rattle.std.proofs.Common.{◌≡◌, ℕ, zero, suc, ◌+◌, ◌-◌, ◌<◌, ◌≤◌, Bool, true, false, List, length, drop, get_or, set, slice_get, replicate, Some, refl, sym, ap, ◌∙◌, ◌⊎◌, arith, length-set, get_or-set_same}
 use Rattle.std.proofs.lemmas.List.{length-replicate, get_or-drop, get_or-replicate, drop-set-lt}
 use Rattle.bdd_store.proofs.Common.{cases_lt, Node, Entry, Arena, index, is_marked, flipped, value_at, node_value, top_at, chosen, branch, IsSound, IsLawful}
 use Rattle.bdd_store.specs.Soundness.{AreWithin, IsCanonical}

@@ -1,6 +1,5 @@
 -- How a store grows: what is kept, which nodes are new, and how many.
 use Rattle.std.proofs.Common.{◌≡◌, ◌≢◌, ℕ, zero, suc, ◌+◌, ◌-◌, ◌*◌, ◌<◌, ◌≤◌, Bool, true, false, not, List, [], ◌∷◌, ◌++◌, inl, inr, length, drop, refl, sym, ap, subst, ◌∙◌, arith}
-use Rattle.std.proofs.Math.Nat.{mul-le-mul_left}
 use Rattle.std.proofs.lemmas.Map.Keys.{IsDistinct-cons}
 use Rattle.bdd_store.proofs.Common.{AllByRecursion, Node, Arena, index, complemented, den, IsNodeOf, IsLawful, table, is_constant, nodes, IsPart, KeepsNodes, cases_lt}
 use Rattle.std.specs.List.{IsDistinct}

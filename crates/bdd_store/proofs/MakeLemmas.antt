@@ -1,7 +1,7 @@
 -- What `make` leaves: a sound store, in which the earlier nodes keep their functions and one has the wanted function.
 -- The entry is that of the function without a mark.
 use Rattle.std.proofs.Common.{◌≡◌, ◌≢◌, ℕ, zero, suc, ◌+◌, ◌*◌, ◌<◌, ◌≤◌, Bool, true, false, position, ◌&&◌, if◌then◌else◌, List, [], ◌∷◌, ◌++◌, length, get_or, slice_get, Some, Contains, refl, sym, ap, subst, ◌∙◌, inl, inr, ◌⊎◌, arith, length-append}
-use Rattle.bdd_store.proofs.Common.{length_push, slice_get-get_or, slice_get_within, same_Some, cases_lt, eqb-true, and_parts, Node, Entry, Arena, index, is_marked, complemented, complemented_if, flipped, value_at, node_value, den, top_at, top_of, chosen, IsNodeOf, branch, IsSound, KeepsNodes}
+use Rattle.bdd_store.proofs.Common.{length_push, slice_get-get_or, slice_get_within, same_Some, cases_lt, Node, Entry, Arena, index, is_marked, complemented, complemented_if, flipped, value_at, node_value, den, top_at, top_of, chosen, IsNodeOf, branch, IsSound, KeepsNodes}
 use Rattle.std.proofs.lemmas.List.{append-nil}
 use Rattle.std.proofs.lemmas.Option.{get_or_from_slice_get}
 use Rattle.std.proofs.Math.Dec.{eqb}
@@ -10,7 +10,7 @@ use Rattle.std.proofs.lemmas.List.Quantifiers.{position-Some}
 use Rattle.bdd_store.specs.Arena.{choice}
 use Rattle.bdd_store.specs.Soundness.{IsSoundEntry}
 use Rattle.bdd_store.specs.Growth.{IsEntered, IsRefused, IsNewFunction}
-use Rattle.bdd_store.proofs.NodeLemmas.{same_entry, flipped-twice, flipped-marks, flipped-own, index-complemented_if, is_marked-complemented_if, is_marked-own, complemented_if-twice, plain}
+use Rattle.bdd_store.proofs.NodeLemmas.{same_entry, flipped-twice, flipped-marks, flipped-own, index-complemented_if, is_marked-complemented_if, plain}
 use Rattle.bdd_store.proofs.ValueLemmas.{branch_both, value_at-entry, slice_get-last, value_at-append, top_at-append, top_at-entry, node_value-complemented_if}
 use Rattle.bdd_store.proofs.CanonicalLemmas.{early, IsCanonical-sound}
 

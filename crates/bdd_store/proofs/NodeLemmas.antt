@@ -1,6 +1,6 @@
 -- A node's index and mark, and what they tell of it.
-use Rattle.std.proofs.Common.{◌≡◌, ℕ, ◌+◌, ◌-◌, ◌*◌, ◌%◌, Bool, true, false, not, ◌==◌, ◌⊎◌, inl, inr, refl, sym, ap, ◌∙◌, arith, true≢false}
-use Rattle.bdd_store.proofs.Common.{cases_eq, Node, index, is_marked, complemented, complemented_if, flipped}
+use Rattle.std.proofs.Common.{◌≡◌, ℕ, ◌+◌, ◌-◌, ◌*◌, ◌%◌, Bool, false, not, ◌==◌, ◌⊎◌, sym, ap, ◌∙◌, arith}
+use Rattle.bdd_store.proofs.Common.{Node, index, is_marked, complemented, complemented_if, flipped}
 use Rattle.cyc_base.proofs.ListLemmas.{parity}
 
 -- ---- negated values
@@ -14,9 +14,6 @@ flipped-not m b = grind arith
 pub flipped-same : (m b c : Bool) → flipped m b ≡ flipped m c → b ≡ c
 flipped-same m b c e = sym (flipped-twice m b) ∙ ap (flipped m) e ∙ flipped-twice m c
 
-not-same : (b : Bool) → not b ≡ b → ⊥
-not-same b e = grind arith
-
 -- a mark is read off what it makes of a value
 pub flipped-marks : (m n b : Bool) → flipped m b ≡ flipped n b → m ≡ n
 flipped-marks m n b e = grind arith
@@ -25,9 +22,6 @@ pub flipped-own : (b : Bool) → flipped b b ≡ false
 flipped-own b = grind arith
 
 -- ---- parity
-
-pub marked-even : (n : Node) → n.number % 2 ≡ 0 → is_marked n ≡ true
-marked-even n e = ap (λ r. r == 0) e
 
 pub unmarked-odd : (n : Node) → n.number % 2 ≡ 1 → is_marked n ≡ false
 unmarked-odd n e = ap (λ r. r == 0) e
@@ -45,9 +39,6 @@ index-complemented_if m n = grind arith
 
 pub is_marked-complemented_if : (m : Bool) (n : Node) → is_marked (complemented_if m n) ≡ flipped m (is_marked n)
 is_marked-complemented_if m n = grind arith
-
-pub complemented-twice : (n : Node) → complemented (complemented n) ≡ n
-complemented-twice n = let same : (complemented (complemented n)).number ≡ n.number = omega arith in λ j. record { number = same j }
 
 pub complemented_if-twice : (m : Bool) (n : Node) → complemented_if m (complemented_if m n) ≡ n
 complemented_if-twice m n = grind arith

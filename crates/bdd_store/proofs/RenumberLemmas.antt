@@ -1,5 +1,5 @@
 -- The table that a sweep makes: what is kept stands there once, at its place, with its function.
-use Rattle.std.proofs.Common.{◌≡◌, ℕ, zero, suc, ◌+◌, ◌%◌, ◌<◌, ◌≤◌, Bool, true, false, List, [], ◌∷◌, ◌++◌, length, get_or, set, slice_get, Some, Contains, cond, if◌then◌else◌, refl, sym, ap, ◌∙◌, inl, inr, ◌⊎◌, arith, get_or-set_same, get_or-set_other, true≢false, add-one, length-append}
+use Rattle.std.proofs.Common.{◌≡◌, ℕ, zero, suc, ◌+◌, ◌%◌, ◌<◌, ◌≤◌, Bool, true, false, List, [], ◌∷◌, ◌++◌, length, get_or, set, slice_get, Some, Contains, if◌then◌else◌, refl, sym, ap, ◌∙◌, inl, inr, ◌⊎◌, arith, get_or-set_same, get_or-set_other, true≢false, add-one, length-append}
 use Rattle.std.specs.List.{list_any, filter, range_with_len}
 use Rattle.bdd_store.proofs.Common.{cases_eq, cases_lt, length_push, slice_get-get_or, slice_get_within, same_Some, Node, Entry, index, is_marked, flipped, value_at, node_value, top_at, branch, IsSound, is_marked_at, moved_node, AreMoved}
 use Rattle.std.proofs.lemmas.Bool.{cases_Bool}

@@ -1,14 +1,11 @@
 -- Functions of bits with their first bits fixed, and their tables.
-use Rattle.std.proofs.Common.{◌≡◌, ℕ, zero, suc, ◌≤◌, Bool, true, false, not, ◌||◌, List, [], ◌∷◌, ◌++◌, inl, inr, length, drop, map, filter, Contains, refl, sym, ap, ◌∙◌, arith, append_assoc, length-append, length-drop, true≢false}
+use Rattle.std.proofs.Common.{◌≡◌, ℕ, zero, suc, ◌≤◌, Bool, true, false, List, [], ◌∷◌, ◌++◌, length, drop, map, Contains, refl, ap, ◌∙◌, arith, append_assoc, length-append, length-drop, true≢false}
 use Rattle.std.proofs.lemmas.List.{drop_all, append-nil, drop-append-le}
 use Rattle.std.proofs.lemmas.Slice.{drop-append-drop}
 use Rattle.std.proofs.Math.Bool.{not-not}
 use Rattle.bdd_store.proofs.Common.{and_parts, cases_lt, AllByRecursion, table, is_constant, nodes, IsPart}
 use Rattle.std.proofs.lemmas.List.Elements.{All-contains, All-from_recursion, Contains-append_left, Contains-append_right}
 use Rattle.std.specs.List.{list_all}
-use Rattle.std.specs.Set.{distinct_count}
-use Rattle.std.specs.Bool.{beq}
-use Rattle.std.specs.Cmp.Lexicographic.{pointwise}
 use Rattle.cyc_base.specs.Vectors.{vectors}
 use Rattle.cyc_base.proofs.ListLemmas.{Contains-here, all_append, all_map, all_weaker}
 use Rattle.cyc_base.proofs.VectorLemmas.{Contains-vectors}

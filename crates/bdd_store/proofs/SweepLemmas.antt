@@ -1,7 +1,7 @@
 -- What a sweep leaves: the roots' functions, and the entries that are reached.
-use Rattle.std.proofs.Common.{◌≡◌, ◌↔◌, ℕ, zero, suc, ◌+◌, ◌<◌, ◌≤◌, Bool, true, List, length, Option, Some, None, IsSome, refl, sym, ap, subst, ◌∙◌, inl, inr, arith}
+use Rattle.std.proofs.Common.{◌≡◌, ◌↔◌, ℕ, zero, suc, ◌+◌, ◌<◌, ◌≤◌, Bool, true, List, length, Option, Some, IsSome, refl, ap, subst, ◌∙◌, inl, inr, arith}
 use Rattle.std.specs.Option.{option_map}
-use Rattle.bdd_store.proofs.Common.{slice_get_within, same_Some, Node, Entry, Arena, index, den, top_at, top_of, IsSound, root_in, is_marked_at, AreMarks, moved_node, AreMoved}
+use Rattle.bdd_store.proofs.Common.{slice_get_within, Node, Entry, Arena, index, IsSound, root_in, is_marked_at, AreMarks, moved_node, AreMoved}
 use Rattle.cyc_base.specs.declared.limits.TheConstants.{MAX_NODES}
 use Rattle.bdd_store.specs.Arena.{root_at}
 use Rattle.bdd_store.specs.Soundness.{AreWithin}

@@ -1,11 +1,11 @@
 -- Lines as words with marks.
-use Rattle.std.proofs.Common.{◌≡◌, ◌≢◌, ℕ, suc, zero, ◌+◌, ◌-◌, ◌<◌, ◌≤◌, List, [], ◌∷◌, ◌++◌, take, drop, length, get_or, refl, sym, ap, subst, ◌∙◌, arith, length-append, length-drop, drop_of_length-le, append-nil, true}
+use Rattle.std.proofs.Common.{◌≡◌, ◌≢◌, ℕ, suc, zero, ◌+◌, ◌-◌, ◌<◌, ◌≤◌, List, [], ◌∷◌, ◌++◌, take, drop, length, get_or, refl, sym, ap, ◌∙◌, arith, length-append, length-drop, drop_of_length-le, append-nil, true}
 use Rattle.std.proofs.lemmas.List.{drop-append-le}
 use Rattle.std.proofs.lemmas.Grind.{common_steps}
 use Rattle.std.proofs.lemmas.Bool.{ne_eqb}
-use Rattle.std.specs.Prelude.{Bool, slice_range, if◌then◌else◌}
+use Rattle.std.specs.Prelude.{slice_range}
 use Rattle.blif_text.specs.WordBuffers.{last_end}
-use Rattle.blif_text.specs.Texts.{Line, ends_in_backslash}
+use Rattle.blif_text.specs.Texts.{ends_in_backslash}
 use Rattle.blif_text.specs.Reading.{word_if_filled, line_if_filled}
 use Rattle.blif_text.specs.declared.marks.Mark.{Mark}
 use Rattle.blif_text.specs.Lines.{line_at}

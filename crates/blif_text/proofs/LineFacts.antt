@@ -1,12 +1,11 @@
 -- Each word of a line is a BLIF name, and a text has at least as many bytes as words.
-use Rattle.std.proofs.Common.{◌≡◌, ◌≢◌, ◌≤◌, ℕ, ◌+◌, List, [], ◌∷◌, ◌++◌, length, true, false, refl, sym, ap, subst, ◌∙◌, arith, length-append, All}
-use Rattle.std.specs.Prelude.{filter, map, Bool, ◌==◌, ◌&&◌, ◌||◌, if◌then◌else◌, Some, None, Ok, Option}
+use Rattle.std.proofs.Common.{◌≡◌, ◌≢◌, ◌≤◌, ℕ, ◌+◌, List, [], ◌∷◌, ◌++◌, length, true, false, refl, arith, length-append, All}
+use Rattle.std.specs.Prelude.{filter, map, Bool, ◌==◌, ◌&&◌, if◌then◌else◌, Some, None, Ok, Option}
 use Rattle.std.specs.List.{list_all}
 use Rattle.std.proofs.lemmas.List.Elements.{All-nil, All-cons, All-head, All-tail, All-append, All-filter}
-use Rattle.std.proofs.lemmas.Bool.Decides.{nat_tests}
 use Rattle.cyc_base.specs.Names.{IsBlifByte, IsBlifName}
 use Rattle.cyc_base.proofs.TruthLemmas.{first_of_and, second_of_and}
-use Rattle.blif_text.specs.Texts.{pieces, in_front, is_filled, is_blank, is_lf, is_printed, is_allowed, begins_with, without_cr, before_hash, physical, bad_byte, Joined, Line, ends_in_backslash, without_last, continued, joined, words_of, in_words, has_words, logical, unless_bad, lines}
+use Rattle.blif_text.specs.Texts.{pieces, in_front, is_filled, is_blank, is_lf, is_allowed, without_cr, before_hash, physical, bad_byte, Joined, Line, ends_in_backslash, without_last, continued, joined, words_of, in_words, has_words, logical, unless_bad, lines}
 
 -- Bytes of a line without its comment.
 
@@ -15,9 +14,6 @@ IsLineByte b = (is_allowed b ≡ true) × (b ≢ 35)
 
 abbrev NoHash : ℕ → Type 0
 NoHash b = b ≢ 35
-
-is_hash : (b : ℕ) → b ≡ 35 → (b == 35) ≡ true
-is_hash b e = ap (λ n. n == 35) e
 
 no_hash_front : (t : Bool) (b : ℕ) (rest : List ℕ) → (b == 35) ≡ t → All NoHash rest → All NoHash (if t then [] else b ∷ rest)
 no_hash_front t b rest is each = grind arith
@@ -75,9 +71,6 @@ clean_joined joins n (line ∷ rest) each =
 
 -- Words.
 
-printed_range : (b : ℕ) → is_printed b ≡ true → (33 ≤ b) × (b ≤ 126)
-printed_range b is = grind (arith, nat_tests)
-
 name_byte : (b : ℕ) → IsLineByte b → is_blank b ≡ false → IsBlifByte b
 name_byte b clean other = grind arith
 
@@ -126,10 +119,6 @@ words_are_names text joins found is = grind (arith, found_is (bad_byte 1 (physic
 abbrev pub total : {X : Type 0} → (X → ℕ) → List X → ℕ
 total f [] = 0
 total f (x ∷ xs) = f x + total f xs
-
-front_size : (b : ℕ) (parts : List (List ℕ)) → total length (in_front b parts) ≡ 1 + total length parts
-front_size b [] = refl
-front_size b (part ∷ parts) = omega arith
 
 pieces_choice_size : (t : Bool) (b : ℕ) (parts : List (List ℕ)) → total length (if t then [] ∷ parts else in_front b parts) ≤ 1 + total length parts
 pieces_choice_size t b parts = grind arith

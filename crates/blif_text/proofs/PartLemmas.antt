@@ -1,12 +1,12 @@
 -- The lines of a text of which some are handed out while it is read.
-use Rattle.std.proofs.Common.{◌≡◌, ℕ, zero, suc, ◌+◌, ◌-◌, ◌<◌, ◌≤◌, List, ◌∷◌, ◌++◌, length, drop, map, drop_of_length-le, get_or, true, false, refl, sym, ap, subst, ◌∙◌, arith, append_assoc}
-use Rattle.std.specs.Prelude.{Bool, ◌==◌, ◌&&◌, if◌then◌else◌, filter, option_and_then, Some, None, Ok, Err}
+use Rattle.std.proofs.Common.{◌≡◌, ℕ, zero, suc, ◌+◌, ◌-◌, ◌<◌, ◌≤◌, List, ◌++◌, length, drop, drop_of_length-le, get_or, true, false, refl, ap, subst, ◌∙◌, arith, append_assoc}
+use Rattle.std.specs.Prelude.{Bool, ◌==◌, ◌&&◌, if◌then◌else◌, option_and_then, Some, Ok, Err}
 use Rattle.std.specs.declared.option.Option.{Option}
 use Rattle.std.specs.declared.result.Result.{Result}
-use Rattle.blif_text.specs.Texts.{Line, lines, without_cr, begins_with, pieces, is_lf, before_hash, bad_byte, unless_bad, has_words, in_words, joined}
+use Rattle.blif_text.specs.Texts.{Line, lines, without_cr, begins_with, unless_bad}
 use Rattle.blif_text.specs.Reading.{State, start, step, finish}
 use Rattle.blif_text.specs.Parts.{state_behind, state_over, with_part}
-use Rattle.blif_text.proofs.Pieces.{first_of, others_of, NoBlank}
+use Rattle.blif_text.proofs.Pieces.{first_of, NoBlank}
 use Rattle.blif_text.proofs.ReadingLemmas.{meaning, behind, under, line_left, after, reads_start, step_meaning, none_step, meaning_end}
 use Rattle.blif_text.proofs.LoopLemmas.{rest_here, number_step}
 

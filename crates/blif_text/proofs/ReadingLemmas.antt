@@ -6,9 +6,9 @@ use Rattle.std.specs.declared.option.Option.{Option}
 use Rattle.std.specs.declared.result.Result.{Result}
 use Rattle.std.proofs.lemmas.List.Elements.{filter-append}
 use Rattle.std.proofs.lemmas.Bool.Decides.{nat_tests}
-use Rattle.blif_text.specs.Texts.{pieces, in_front, is_blank, is_lf, is_allowed, is_printed, words_of, ends_in_backslash, without_last, Joined, Line, joined, continued, in_words, has_words, bad_byte, unless_bad, before_hash, lines, logical, without_cr}
+use Rattle.blif_text.specs.Texts.{pieces, is_blank, is_lf, is_allowed, is_printed, ends_in_backslash, without_last, Joined, Line, joined, continued, in_words, has_words, bad_byte, unless_bad, before_hash, lines, logical, without_cr}
 use Rattle.blif_text.specs.Reading.{State, start, put, end_word, begin_comment, join_line, close_line, line_break, step, finish, word_if_filled, line_if_filled}
-use Rattle.blif_text.proofs.Pieces.{first_of, others_of, first_in_front, others_in_front, pieces_other, pieces_here, pieces_whole, NoBlank, NoBlank-put, NoBlank-without_last, words_behind, words_alone, ends_behind, without_last_behind}
+use Rattle.blif_text.proofs.Pieces.{first_of, others_of, pieces_here, pieces_whole, NoBlank, NoBlank-put, NoBlank-without_last, words_behind, words_alone, ends_behind, without_last_behind}
 
 -- the first line with its number and the words in front of its own
 abbrev pub under : ℕ → List (List ℕ) → List Line → List Line
@@ -34,16 +34,9 @@ meaning joins s rest = answer joins s (line_left s.comment (first_of (pieces is_
 bad_front : (n b : ℕ) (line : List ℕ) (rest : List (List ℕ)) → is_allowed b ≡ true → bad_byte n ((b ∷ line) ∷ rest) ≡ bad_byte n (line ∷ rest)
 bad_front n b line rest allowed = ap (λ (t : Bool). if (t && list_all is_allowed line) then bad_byte (n + 1) rest else Some n) allowed
 
-bad_here : (n b : ℕ) (line : List ℕ) (rest : List (List ℕ)) → is_allowed b ≡ false → bad_byte n ((b ∷ line) ∷ rest) ≡ Some n
-bad_here n b line rest bad = ap (λ (t : Bool). if (t && list_all is_allowed line) then bad_byte (n + 1) rest else Some n) bad
-
 answer_put : (joins : Bool) (s : State) (b : ℕ) (line : List ℕ) (rest : List (List ℕ)) → is_allowed b ≡ true
     → answer joins s (b ∷ line) rest ≡ answer joins (put b s) line rest
 answer_put joins s b line rest allowed = grind (arith, bad_front, append_assoc)
-
-answer_bad : (joins : Bool) (s : State) (b : ℕ) (line : List ℕ) (rest : List (List ℕ)) → is_allowed b ≡ false
-    → answer joins s (b ∷ line) rest ≡ Err s.number
-answer_bad joins s b line rest bad = grind arith
 
 -- The end of a word.
 
@@ -140,10 +133,6 @@ line_goes_on t s = grind arith
 at_lf : (joins : Bool) (s : State) (b : ℕ) (rest : List ℕ) → NoBlank s.run → is_lf b ≡ true
     → meaning joins s (b ∷ rest) ≡ meaning joins (line_break joins s) rest
 at_lf joins s b rest none lf = grind (arith, first_of, pieces_here, line_left_nothing, pieces_whole, answer_line, line_goes_on)
-
-at_other : (joins : Bool) (s : State) (b : ℕ) (rest : List ℕ) → is_lf b ≡ false
-    → meaning joins s (b ∷ rest) ≡ answer joins s (line_left s.comment (b ∷ first_of (pieces is_lf rest))) (map before_hash (others_of (pieces is_lf rest)))
-at_other joins s b rest other = grind arith
 
 in_comment : (joins : Bool) (s : State) (b : ℕ) (rest : List ℕ) → is_lf b ≡ false → s.comment ≡ true
     → meaning joins s (b ∷ rest) ≡ meaning joins s rest

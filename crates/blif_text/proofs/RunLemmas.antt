@@ -1,11 +1,10 @@
 -- Bytes of a word that are read at once.
 use Rattle.std.proofs.Common.{◌≡◌, ℕ, zero, suc, ◌+◌, ◌-◌, ◌<◌, ◌≤◌, List, [], ◌∷◌, ◌++◌, take, drop, length, get_or, true, false, refl, sym, ap, ◌∙◌, arith, append-nil, append_assoc, get_or-drop, length-drop, take-suc}
-use Rattle.std.specs.Prelude.{Bool, ◌==◌, ◌&&◌, slice_range, if◌then◌else◌, option_and_then, Some}
+use Rattle.std.specs.Prelude.{Bool, ◌==◌, slice_range, Some}
 use Rattle.std.specs.List.{list_all}
-use Rattle.std.proofs.lemmas.Bool.Decides.{nat_tests}
 use Rattle.std.proofs.lemmas.List.Folds.{list_all-append}
 use Rattle.std.proofs.lemmas.Bool.{and_parts}
-use Rattle.blif_text.specs.Texts.{begins_with, is_lf, is_blank, is_printed}
+use Rattle.blif_text.specs.Texts.{is_lf, is_blank, is_printed}
 use Rattle.blif_text.specs.Reading.{State, step, put, put_all}
 use Rattle.blif_text.specs.Parts.{state_behind, state_over, is_word_byte}
 use Rattle.blif_text.proofs.ReadingLemmas.{choice}

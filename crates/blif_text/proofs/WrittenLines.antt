@@ -1,14 +1,14 @@
 -- A text of lines of names reads back as these lines. The words of a line have one blank between, and another may stand
 -- behind the last of them.
-use Rattle.std.proofs.Common.{◌≡◌, ◌≢◌, ℕ, ◌+◌, ◌≤◌, List, [], ◌∷◌, ◌++◌, true, false, refl, sym, ap, ◌∙◌, append_assoc, append-nil, length, arith}
-use Rattle.std.specs.Prelude.{filter, map, All, Bool, ◌==◌, ◌&&◌, if◌then◌else◌, cond, count_by, Some, None, Ok}
+use Rattle.std.proofs.Common.{◌≡◌, ◌≢◌, ℕ, ◌+◌, ◌≤◌, List, [], ◌∷◌, ◌++◌, true, false, refl, ap, ◌∙◌, append_assoc, append-nil, length, arith}
+use Rattle.std.specs.Prelude.{filter, map, All, Bool, ◌==◌, ◌&&◌, if◌then◌else◌, cond, count_by, None, Ok}
 use Rattle.std.specs.List.{list_all, flat_map}
 use Rattle.std.proofs.lemmas.Bool.{ne_eqb}
 use Rattle.std.proofs.lemmas.Bool.Decides.{nat_tests}
 use Rattle.std.proofs.lemmas.List.Elements.{All-head, All-tail}
 use Rattle.std.proofs.lemmas.List.Sums.{sum_by-cons}
 use Rattle.cyc_base.specs.Names.{IsBlifByte, IsBlifName}
-use Rattle.blif_text.specs.Texts.{pieces, in_front, is_blank, is_lf, is_allowed, words_of, ends_in_backslash, without_last, Joined, Line, joined, continued, in_words, has_words, bad_byte, unless_bad, before_hash, lines, end_number, physical, without_cr, begins_with}
+use Rattle.blif_text.specs.Texts.{pieces, in_front, is_blank, is_lf, is_allowed, words_of, ends_in_backslash, Joined, Line, joined, in_words, has_words, bad_byte, before_hash, lines, end_number, physical, without_cr}
 use Rattle.blif_text.specs.Reading.{word_if_filled}
 use Rattle.blif_text.proofs.Pieces.{pieces_other, NoBlank, words_behind, words_alone}
 

@@ -7,7 +7,7 @@ pub use Rattle.blif_write.specs.Putting.{behind, gate_text}
 pub use Rattle.blif_write.specs.Written.{all_gate_lines, clock_lines, control_words, edge_word, gate_lines, init_word, latch_line, latch_lines, line_text, lines_of, lit_byte, lits_words, name_of, plane_word, row_line}
 pub use Rattle.cover_logic.specs.Covers.{IsCover}
 pub use Rattle.cover_logic.specs.declared.row.Lit.{Lit}
-pub use Rattle.cover_logic.specs.declared.row.Lit.TheVariants.{Any, One, Zero}
+pub use Rattle.cover_logic.specs.declared.row.Lit.TheVariants.{Zero}
 pub use Rattle.cyc_base.specs.declared.sig.Sig.{Sig}
 pub use Rattle.cyc_io.proofs.ItemLemmas.{appended_in_item, appended_item, appended_items}
 pub use Rattle.cyc_io.proofs.TakenLemmas.{appended_cut, appended_equal, appended_none, appended_then}

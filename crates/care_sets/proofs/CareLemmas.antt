@@ -1,5 +1,5 @@
 -- A netlist's vectors have what the models of its care set read.
-use Rattle.std.proofs.Common.{◌≡◌, ℕ, ◌+◌, ◌<◌, ◌≤◌, Bool, List, length, get_or, Option, Some, None, arith}
+use Rattle.std.proofs.Common.{◌≡◌, ℕ, ◌+◌, Bool, List, length, Option, arith}
 use Rattle.std.specs.Prelude.{IfSome}
 use Rattle.netlist.specs.declared.parts.Parts.{Parts}
 use Rattle.care_sets.specs.declared.model.CareModel.{CareModel}

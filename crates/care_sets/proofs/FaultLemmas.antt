@@ -1,9 +1,8 @@
 -- The first fault of a care model, as the checks find it.
-use Rattle.std.proofs.Common.{◌≡◌, ◌⊎◌, inl, inr, ℕ, Bool, true, false, ◌==◌, ◌||◌, ◌≤◌, List, length, Option, Some, None, refl, sym, ◌∙◌, eqb-true, arith}
+use Rattle.std.proofs.Common.{◌≡◌, ◌⊎◌, inl, inr, ℕ, Bool, true, false, ◌==◌, ◌||◌, ◌≤◌, List, length, Option, Some, None, refl, ◌∙◌, eqb-true, arith}
 use Rattle.std.proofs.lemmas.Bool.Decides.{nat_tests}
 use Rattle.std.specs.Prelude.{All, IfSome, IsSomeAnd, is_some, find, option_map}
 use Rattle.std.specs.Option.{option_or}
-use Rattle.std.proofs.lemmas.Option.{same_Some}
 use Rattle.netlist.specs.Walks.{IsLoopFree}
 use Rattle.netlist.specs.declared.parts.Parts.{Parts}
 use Rattle.care_sets.proofs.BindingLemmas.{same_length}
@@ -63,9 +62,6 @@ invariant_fails net a i bound fault h (inl memory) = inl memory
 invariant_fails net a i bound fault h (inr fails) = inr (inr (inr (record { assume_passes = bound_passes net 0 a bound h; invariant_fails = fails })))
 
 -- The first fault is one.
-
-no_fault_there : (net : Parts) (first : ℕ) (model : Parts) (fault : CareFault) → HasNoFault net first model → IsFaultOf net first fault model → ⊥
-no_fault_there net first model fault passes h = grind arith
 
 one_fault : (net : Parts) (first : ℕ) (model : Parts) (f g : CareFault) → IsFaultOf net first f model → IsFaultOf net first g model → f ≡ g
 one_fault net first model f g h e = grind arith

@@ -1,11 +1,11 @@
 -- The output of a care model, among the values of its signals.
-use Rattle.std.proofs.Common.{◌≡◌, ℕ, ◌+◌, ◌-◌, ◌<◌, Bool, false, List, [], ◌∷◌, length, map, get_or, refl, sym, ap, ◌∙◌, arith}
+use Rattle.std.proofs.Common.{◌≡◌, ℕ, ◌-◌, ◌<◌, Bool, false, List, [], ◌∷◌, length, map, get_or, refl, ap, ◌∙◌, arith}
 use Rattle.std.proofs.lemmas.List.{get_or-map, length-map}
 use Rattle.cyc_base.specs.declared.sig.Sig.{Sig}
 use Rattle.cyc_base.specs.declared.trit.Trit.{Trit}
 use Rattle.cyc_base.specs.declared.trit.Trit.TheVariants.{X}
 use Rattle.cyc_base.specs.Values.{bit, bits}
-use Rattle.netlist.specs.Netlists.{count, IsNetlist}
+use Rattle.netlist.specs.Netlists.{IsNetlist}
 use Rattle.netlist.specs.Fixpoint.{wire, fix}
 use Rattle.netlist.proofs.FixpointLemmas.{length-fix}
 use Rattle.care_sets.specs.declared.model.CareModel.{CareModel}

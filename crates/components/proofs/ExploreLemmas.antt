@@ -1,9 +1,8 @@
 -- The search from its start to its end, and the components that it has found.
-use Rattle.std.proofs.Common.{◌≡◌, inl, inr, ℕ, ◌<◌, ◌≤◌, List, [], ◌∷◌, length, map, get_or, replicate, refl, ap, sym, ◌∙◌, subst, arith}
+use Rattle.std.proofs.Common.{◌≡◌, ℕ, ◌<◌, ◌≤◌, List, [], ◌∷◌, length, map, get_or, replicate, refl, ap, sym, ◌∙◌, subst, arith}
 use Rattle.std.proofs.lemmas.Bool.{cases_lt}
 use Rattle.std.proofs.lemmas.List.{length-map, get_or-map, get_or-replicate, get_or_past, length-replicate}
 use Rattle.components.specs.declared.components.Components.{Components}
-use Rattle.components.specs.declared.search.Mark.{Mark}
 use Rattle.components.specs.declared.search.Mark.TheVariants.{New, Open, Closed}
 use Rattle.components.specs.Graphs.{Edge, Walk, AreStronglyConnected, AreComponentsOf}
 use Rattle.components.specs.Search.{State, mark_of, IsSound, Searching, opened, Advances, started, Rests, Explores, HasExplored, component_of}

@@ -9,7 +9,7 @@ use Rattle.cover_logic.specs.declared.row.Lit.{Lit}
 use Rattle.cover_logic.specs.declared.row.Lit.TheVariants as lit
 use Rattle.cover_logic.specs.declared.row.Row.{Row}
 use Rattle.cover_logic.specs.Covers.{allows, matches, some_row_matches}
-use Rattle.cover_logic.specs.Partial.{may_allow, may_match, is_tautology, unknown_count, open_pins, open_lits, open_row, open_rows}
+use Rattle.cover_logic.specs.Partial.{may_allow, may_match, is_tautology, unknown_count, open_pins, open_lits, open_rows}
 use Rattle.cover_logic.proofs.ExtensionLemmas.{passes_above, passes_listed}
 
 -- ---- the unknown pins of a completion, and the completion of those

@@ -1,6 +1,6 @@
 -- Where some row matches at each completion, by the unate recursive paradigm.
 use Rattle.std.proofs.Common.{◌≡◌, ◌≢◌, ℕ, zero, suc, Bool, true, false, not, ◌&&◌, List, [], ◌∷◌, set, get_or, All, refl, ap, sym, ◌∙◌, subst, inl, inr, true≢false, ◌<◌, ◌≤◌, ◌+◌, length, slice_get, Some, arith}
-use Rattle.std.proofs.lemmas.Bool.{and_parts, and_from, or_cases, or_parts, or_left, or_right, false_from_ne_true, not-false}
+use Rattle.std.proofs.lemmas.Bool.{and_parts, and_from, or_cases, or_parts, or_left, or_right, false_from_ne_true}
 use Rattle.std.proofs.lemmas.List.Elements.{All-head, All-tail}
 use Rattle.std.proofs.lemmas.List.{get_or_default, set-set, set-get_or}
 use Rattle.std.proofs.lemmas.List.Folds.{list_any_at}
@@ -84,10 +84,6 @@ may_completion (l ∷ lits) (t ∷ trits) h =
     let p = and_parts (may_allow l t) (may_match lits trits) h in
     let rest = may_completion lits trits p.1 in
     (freed l t ∷ rest.0, (freed-above l t, rest.1), and_from (allows l (freed l t)) (matches lits rest.0) (freed-allowed l t p.0) rest.2)
-
--- a row that does not ask for b at a pin, and matches where the pin is b, matches at the other value too
-pub allows_other : (l : Lit) (b : Bool) → not (allows l (not b)) ≡ false → allows l (not b) ≡ true
-allows_other l b h = grind arith
 
 pub matches_other : (lits : List Lit) (bs : List Bool) (pin : ℕ) (b : Bool) → asks lits pin b ≡ false → matches lits (set bs pin b) ≡ true → matches lits (set bs pin (not b)) ≡ true
 matches_other [] bs pin b n h = refl

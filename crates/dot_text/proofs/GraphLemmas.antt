@@ -7,7 +7,7 @@ use Rattle.cyc_base.specs.Values.{bit, bits}
 use Rattle.netlist.specs.Fixpoint.{fix, fix_gates}
 use Rattle.loops.proofs.Sweeps.{length-fix}
 use Rattle.std.specs.Prelude.{if◌then◌else◌, slice_index, slice_index_or, ◌||◌}
-use Rattle.std.proofs.lemmas.Bool.{le-leb, lt-leb}
+use Rattle.std.proofs.lemmas.Bool.{le-leb}
 use Rattle.std.proofs.Math.Path.{fun_ext}
 use Rattle.cyc_base.specs.declared.sig.Sig.{Sig}
 use Rattle.dot_text.proofs.Common.{Trit, Parts, gate_sig, is_marked, loops_of, pin_wire, loop_wire}
@@ -71,6 +71,3 @@ module _ (p : Picture) (n : ℕ) (pin : Sig) where
   driven_drawn source is =
       let number : pin.0 ≡ first_gate p.net + source = ap (λ (s : Sig). s.0) is in
       ap₂ drawn_by (le-leb (first_gate p.net) pin.0 (omega (arith, number))) (omega (arith, number))
-
-  pub column_drawn : pin.0 < first_gate p.net → pin_wire p n pin ≡ needed_wire pin.0 p.net n (slice_index_or p.needs pin.0 X)
-  column_drawn given = ap (λ (driven : Bool). drawn_by driven (gate_of p.net pin)) (lt-leb (first_gate p.net) pin.0 given)

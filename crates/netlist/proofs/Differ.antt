@@ -1,5 +1,5 @@
 -- A list repeats nothing exactly where its items differ from each other.
-use Rattle.std.proofs.Common.{◌≡◌, ◌++◌, ◌||◌, Bool, true, false, if◌then◌else◌, List, [], ◌∷◌, length, None, Some, refl, ◌∙◌, true≢false, arith}
+use Rattle.std.proofs.Common.{◌≡◌, ◌++◌, ◌||◌, Bool, false, List, [], ◌∷◌, None, refl, ◌∙◌, arith}
 use Rattle.std.specs.List.{list_any, AllByRecursion, IsDistinct}
 use Rattle.std.proofs.lemmas.List.{append-nil, append_assoc}
 use Rattle.netlist.specs.Faults.{repeat_after, first_repeat}

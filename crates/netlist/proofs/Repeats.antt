@@ -1,15 +1,12 @@
 -- The first repeat of a list, part by part.
-use Rattle.std.proofs.Common.{◌≡◌, ◌++◌, ◌+◌, ◌<◌, inl, inr, ℕ, Bool, true, false, List, [], ◌∷◌, length, map, take, drop, get_or, position, slice_get, refl, sym, ap, ◌∙◌, None, Some, Option, if◌then◌else◌, arith}
-use Rattle.std.specs.Option.{option_or, option_map}
-use Rattle.std.specs.List.{list_any}
+use Rattle.std.proofs.Common.{◌≡◌, ◌++◌, ◌+◌, ◌<◌, inl, inr, ℕ, Bool, List, [], ◌∷◌, length, map, take, drop, get_or, position, slice_get, refl, sym, ap, ◌∙◌, Some, arith}
+use Rattle.std.specs.Option.{option_or}
 use Rattle.std.specs.Str.{bytes_eq}
 use Rattle.std.proofs.lemmas.List.{append-nil, append_assoc, take_more, map-append, take-append-drop}
 use Rattle.std.proofs.lemmas.List.Quantifiers.{position-Some}
 use Rattle.std.proofs.lemmas.Option.{slice_get-get_or}
 use Rattle.std.proofs.lemmas.Slice.Eq.{bytes_eq-Decides}
 use Rattle.netlist.specs.declared.parts.PartsFault.{PartsFault}
-use Rattle.netlist.specs.declared.parts.PartsFault.TheVariants.{NameTwice}
-use Rattle.netlist.specs.Netlists.{signal}
 use Rattle.netlist.specs.Faults.{repeat_after}
 use Rattle.netlist.specs.Naming.{AddsAll, RepeatsIn, StopsAt}
 

@@ -27,7 +27,7 @@ use Rattle.blif_read.specs.Find.{has_name}
 use Rattle.blif_read.specs.declared.models.BlifModel.{BlifModel}
 use Rattle.flatten.specs.Flat.{flat}
 use Rattle.flatten.specs.declared.fault.FlatFault.{FlatFault}
-use Rattle.parsed_files.specs.CareFiles.{no_care, part_of, some_part, with_assume, with_invariant, has_loop, model_fault, models_fault, bound_model, unless_fault, bound, care_of, care_models}
+use Rattle.parsed_files.specs.CareFiles.{part_of, some_part, with_assume, with_invariant, has_loop, model_fault, models_fault, bound_model, unless_fault, bound, care_of, care_models}
 use Rattle.parsed_files.specs.Faults.{care_fault, flat_fault, too_long}
 use Rattle.parsed_files.specs.NetlistFiles.{flat_result}
 
@@ -189,7 +189,3 @@ bind_error net models a i found lack is_a is_i fault = by_fault (bind_fault net 
     by_fault : (found ≡ lack) ⊎ (bound net a i ≡ Err (care_fault found)) → (found ≡ lack) ⊎ (care_models net (Ok models) ≡ Err (care_fault found))
     by_fault (inl same) = inl same
     by_fault (inr is) = inr (both_parts net models a i is_a is_i ∙ is)
-
--- without a care file
-pub none_is : (care : CareSet) → care.assume ≡ None → care.invariant ≡ None → care ≡ no_care
-none_is care no_assume no_invariant = ap₂ (λ (x y : Option CareModel). record { assume = x; invariant = y }) no_assume no_invariant

@@ -18,7 +18,7 @@ pub use Rattle.sched_text.specs.Kinds.{is_tick, kind, lacks_lines}
 pub use Rattle.sched_text.specs.LineFaults.{arguments, begins_tick, bit_of, bits_of, fault_at, fault_at_end, first_fault, first_refused, is_cut_off, nearest, permits, ticks_begun}
 pub use Rattle.sched_text.specs.Numbers.{number}
 pub use Rattle.sched_text.specs.Pieces.{bad_line}
-pub use Rattle.sched_text.specs.Putting.{AreSmall, HasSmallAges, IsSmall, TicksAreSmall, event_text, round_text, tick_text}
+pub use Rattle.sched_text.specs.Putting.{AreSmall, HasSmallAges, IsSmall, event_text, round_text, tick_text}
 pub use Rattle.sched_text.specs.ReadingOn.{ReadsPiece}
 pub use Rattle.sched_text.specs.Running.{Draft, ended, follow, new_draft, seen}
 pub use Rattle.sched_text.specs.Schedules.{schedule}

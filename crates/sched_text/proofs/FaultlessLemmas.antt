@@ -1,20 +1,17 @@
 -- A written schedule has no fault: each line is fine where it stands.
-use Rattle.std.proofs.Common.{◌≡◌, ◌+◌, ◌==◌, ℕ, suc, Bool, true, false, not, cond, ◌&&◌, nat_lt, List, [], ◌∷◌, ◌++◌, length, map, refl, ap, sym, ◌∙◌, subst, arith, All, Some, None, append_assoc}
-use Rattle.sched_text.proofs.Common.{codes, decimal, is_some, option_map, if◌then◌else◌, list_all, flat_map, ne_eqb, nat_tests, All-head, All-tail, sum_by-cons, Latch, Parts, IsNetlist, PlannedEvent, RoundPlan, Schedule, Line, numbered, WrongWidth, FitsNetlist, is_tick, lacks_lines, arguments, bit_of, bits_of, permits, first_refused, nearest, begins_tick, ticks_begun, is_cut_off, first_fault, IsSmall, bits_words, past_line, start_word, event_line, round_lines, tick_lines, lines_of}
+use Rattle.std.proofs.Common.{◌≡◌, ◌+◌, ℕ, suc, Bool, true, false, cond, ◌&&◌, List, [], ◌∷◌, ◌++◌, length, map, refl, ap, sym, ◌∙◌, subst, arith, All, Some, None, append_assoc}
+use Rattle.sched_text.proofs.Common.{codes, decimal, is_some, list_all, flat_map, ne_eqb, All-head, All-tail, sum_by-cons, Latch, Parts, IsNetlist, PlannedEvent, RoundPlan, Schedule, Line, numbered, FitsNetlist, is_tick, lacks_lines, arguments, bit_of, bits_of, permits, first_refused, nearest, begins_tick, ticks_begun, is_cut_off, first_fault, IsSmall, bits_words, past_line, start_word, event_line, round_lines, tick_lines, lines_of}
 use Rattle.std.specs.List.{AllZip}
 use Rattle.cyc_io.specs.Bits.{bits_text}
 use Rattle.std.specs.declared.option.Option.{Option}
 use Rattle.std.proofs.lemmas.Bool.{eq-eqb, lt-ltb}
 use Rattle.netlist.specs.declared.parts.Init.{Init}
-use Rattle.netlist.specs.declared.parts.Init.TheVariants.{Zero, One, Either}
 use Rattle.netlist.specs.Netlists.{count}
 use Rattle.netlist.specs.Fixpoint.{Permits, IsInitialState}
-use Rattle.sched_text.specs.declared.fault.SchedFault.TheVariants.{BadStart}
 use Rattle.sched_text.specs.declared.kind.Kind.{Kind}
 use Rattle.sched_text.specs.declared.kind.Kind.TheVariants.{FormatTwo, Window, Past, Latches, State, Gates, Tick, Round, Event}
 use Rattle.sched_text.specs.Kinds.{kind_of_words, may_follow}
 use Rattle.sched_text.specs.LineFaults.{are_bits, is_bit, is_age, has_words_of, width_fault, start_fault, fault_of_kind}
-use Rattle.sched_text.proofs.FitLemmas.{head_before}
 use Rattle.sched_text.proofs.GateLemmas.{gate_of_name}
 use Rattle.sched_text.proofs.LevelLemmas.{IsWritable, AreWritable}
 use Rattle.sched_text.proofs.WrittenNumbers.{number_decimal}

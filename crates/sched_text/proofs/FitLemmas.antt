@@ -1,26 +1,25 @@
 -- A schedule whose lines have no fault fits the netlist and the number of ticks.
-use Rattle.std.proofs.Common.{◌≡◌, ◌≤◌, ◌<◌, ℕ, ◌+◌, ◌||◌, Bool, true, false, not, cond, List, [], ◌∷◌, ◌++◌, All, length, map, Some, None, Ok, refl, sym, subst, arith, eqb-true, true≢false}
-use Rattle.sched_text.proofs.Common.{Option, if◌then◌else◌, is_some, unwrap_or, option_map, length-map, All-nil, sum_by-cons, Latch, Parts, PlannedEvent, RoundPlan, Schedule, Line, SchedFault, BadLine, WrongWidth, kind, is_tick, lacks_lines, arguments, bits_of, permits, first_refused, nearest, begins_tick, ticks_begun, is_cut_off, fault_at_end, first_fault, statement, schedule, Draft, new_draft, follow, ended, IsOfGates, AreOfGates, FitsNetlist}
-use Rattle.std.specs.Prelude.{◌&&◌, ◌==◌, nat_lt, option_to_list, bytes_eq}
+use Rattle.std.proofs.Common.{◌≡◌, ◌≤◌, ◌<◌, ℕ, ◌+◌, ◌||◌, Bool, true, false, not, cond, List, [], ◌∷◌, ◌++◌, All, length, map, Some, None, Ok, sym, subst, arith, eqb-true, true≢false}
+use Rattle.sched_text.proofs.Common.{Option, if◌then◌else◌, option_map, length-map, All-nil, sum_by-cons, Latch, Parts, PlannedEvent, RoundPlan, Schedule, Line, SchedFault, BadLine, WrongWidth, kind, is_tick, lacks_lines, arguments, bits_of, permits, first_refused, nearest, begins_tick, ticks_begun, is_cut_off, fault_at_end, first_fault, statement, schedule, Draft, new_draft, follow, ended, IsOfGates, AreOfGates, FitsNetlist}
+use Rattle.std.specs.Prelude.{◌&&◌, ◌==◌, nat_lt, option_to_list}
 use Rattle.std.specs.List.{AllZip}
-use Rattle.std.proofs.lemmas.Bool.{and_parts, false≢true, ltb-true, ltb-false}
+use Rattle.std.proofs.lemmas.Bool.{and_parts, false≢true, ltb-true}
 use Rattle.std.proofs.Math.Bool.{or-true}
 use Rattle.cyc_base.proofs.ListLemmas.{All-but_last, option_map-nothing, option_or-neither}
 use Rattle.std.proofs.lemmas.List.{length-append}
 use Rattle.std.proofs.lemmas.List.Elements.{All-push}
 use Rattle.std.proofs.lemmas.List.Quantifiers.{position-Some}
 use Rattle.netlist.specs.declared.parts.Init.{Init}
-use Rattle.netlist.specs.declared.parts.Init.TheVariants.{Zero, One, Either}
 use Rattle.netlist.specs.Netlists.{count}
 use Rattle.netlist.specs.Fixpoint.{Permits, IsInitialState}
-use Rattle.sched_text.specs.declared.fault.SchedFault.TheVariants.{UnknownGate, TickCount}
+use Rattle.sched_text.specs.declared.fault.SchedFault.TheVariants.{TickCount}
 use Rattle.sched_text.specs.declared.kind.Kind.{Kind}
 use Rattle.sched_text.specs.declared.kind.Kind.TheVariants as kinds
 use Rattle.sched_text.specs.Kinds.{is_of_a_tick, may_follow}
-use Rattle.sched_text.specs.LineFaults.{has_words_of, width_fault, start_fault, gate_number, gate_fault, tick_fault, fault_of_kind, fault_of_words, line_fault}
+use Rattle.sched_text.specs.LineFaults.{has_words_of, width_fault, start_fault, gate_fault, tick_fault, fault_of_kind, fault_of_words, line_fault}
 use Rattle.sched_text.specs.Statements.{gate_of, planned, statement_of}
 use Rattle.sched_text.specs.Schedules.{schedule_of}
-use Rattle.sched_text.specs.Running.{OpenTick, ended_tick, ended_ticks, with_event, new_round, begin_round, add_event}
+use Rattle.sched_text.specs.Running.{OpenTick, ended_tick, ended_ticks, with_event, begin_round, add_event}
 use Rattle.sched_text.proofs.ScheduleLemmas.{whole_end, whole_step}
 use Rattle.sched_text.specs.ReadingOn.{whole}
 use Rattle.sched_text.proofs.VectorLemmas.{no_fault, as_meant}
@@ -92,10 +91,6 @@ start_in_head before whole = rw whole (or-true (is_start before))
 -- a test that is passed, where a fault stands behind it
 passes : {X : Type 0} (t : Bool) (later : Option X) (fault : X) → (if t then later else Some fault) ≡ None → (t ≡ true) × (later ≡ None)
 passes t later fault none = grind arith
-
--- one that isn't passed, where the fault stands in front
-stays : {X : Type 0} (t : Bool) (fault : X) (later : Option X) → (if t then Some fault else later) ≡ None → (t ≡ false) × (later ≡ None)
-stays t fault later none = grind arith
 
 width_is : (n width : ℕ) (bits : List Bool) → width_fault n width bits ≡ None → length bits ≡ width
 width_is n width bits none = eqb-true (length bits) width (passes (length bits == width) None (WrongWidth n) none).0

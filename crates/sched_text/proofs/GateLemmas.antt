@@ -1,5 +1,5 @@
 -- The gate that has a name.
-use Rattle.std.proofs.Common.{◌≡◌, ℕ, ◌+◌, ◌-◌, ◌<◌, ◌≤◌, false, List, [], length, get_or, slice_get, Some, None, sym, ap, ◌∙◌, arith, subst}
+use Rattle.std.proofs.Common.{◌≡◌, ℕ, ◌+◌, ◌-◌, ◌<◌, ◌≤◌, false, List, [], length, get_or, slice_get, Some, None, sym, ap, ◌∙◌, arith}
 use Rattle.sched_text.proofs.Common.{list_any, length-map, IsBlifName, Parts, gate_at, IsNetlist}
 use Rattle.std.specs.Str.{bytes_eq}
 use Rattle.std.proofs.lemmas.List.{get_or-append-add, get_or-map, get_or_default}
@@ -7,10 +7,8 @@ use Rattle.std.proofs.lemmas.List.Sums.{position_or_len_is}
 use Rattle.std.proofs.lemmas.List.Elements.{All-get_or}
 use Rattle.std.proofs.lemmas.Option.{get_or_from_slice_get, slice_get_within, slice_get-get_or}
 use Rattle.std.proofs.lemmas.Slice.Eq.{bytes_eq-Decides}
-use Rattle.care_sets.specs.Care.{column_names}
 use Rattle.care_sets.proofs.NameLemmas.{gate_names, names_split, length-column_names, length-names, others_differ, absent_at, place_of}
-use Rattle.netlist.specs.declared.parts.Gate.{Gate}
-use Rattle.netlist.specs.Netlists.{signal_names, no_gate}
+use Rattle.netlist.specs.Netlists.{signal_names}
 use Rattle.netlist.proofs.Decisions.{found_none}
 use Rattle.sched_text.specs.LineFaults.{gate_number}
 

@@ -1,6 +1,5 @@
 -- Numbers, read digit by digit.
-use Rattle.std.proofs.Common.{◌≡◌, ℕ, ◌+◌, ◌-◌, ◌*◌, ◌≤◌, Bool, true, false, ◌&&◌, List, [], ◌∷◌, Some, None, refl, sym, ap, ◌∙◌, arith}
-use Rattle.sched_text.proofs.Common.{if◌then◌else◌, list_all}
+use Rattle.std.proofs.Common.{◌≡◌, ℕ, ◌+◌, ◌-◌, ◌*◌, ◌≤◌, true, false, ◌&&◌, List, [], ◌∷◌, None, arith}
 use Rattle.std.specs.Prelude.{nat_le}
 use Rattle.sched_text.specs.Numbers.{is_digit, with_digits, up_to_most}
 

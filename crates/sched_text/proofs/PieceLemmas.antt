@@ -1,6 +1,6 @@
 -- The lines of a text are those of its pieces.
-use Rattle.std.proofs.Common.{◌≡◌, ◌<◌, ◌≤◌, ℕ, zero, suc, ◌+◌, ◌-◌, inl, inr, Bool, true, false, List, [], ◌∷◌, ◌++◌, length, take, drop, map, get_or, All, Some, None, Ok, Err, refl, sym, ap, subst, ◌∙◌, arith, length-append, length-drop, append_assoc, append-nil, eqb-true}
-use Rattle.sched_text.proofs.Common.{if◌then◌else◌, Option, option_map, Result, list_all, option_or, length-map, All-nil, All-cons, sum_by-cons, is_lf, Line, lines, line_at, SchedFault, BadLine, bad_line}
+use Rattle.std.proofs.Common.{◌≡◌, ◌<◌, ◌≤◌, ℕ, suc, ◌+◌, ◌-◌, inl, inr, Bool, true, false, List, [], ◌∷◌, ◌++◌, length, take, drop, map, get_or, All, Some, None, Ok, Err, refl, ap, ◌∙◌, arith, length-append, length-drop, append_assoc, append-nil, eqb-true}
+use Rattle.sched_text.proofs.Common.{if◌then◌else◌, Option, option_map, Result, option_or, length-map, All-nil, All-cons, sum_by-cons, is_lf, Line, lines, line_at, SchedFault, BadLine, bad_line}
 use Rattle.std.specs.Prelude.{filter, ◌==◌, ◌&&◌, cond, count_by, position, IfErr, IsErrAnd}
 use Rattle.std.proofs.lemmas.Bool.{and_parts}
 use Rattle.std.proofs.lemmas.List.{map-append, get_or-drop, take_more, take-append-drop, drop_all, take_all}
@@ -8,7 +8,7 @@ use Rattle.std.proofs.lemmas.List.Quantifiers.{position-Some}
 use Rattle.std.proofs.lemmas.List.Elements.{All-map, All-filter, filter-append}
 use Rattle.std.proofs.lemmas.List.Sums.{count_by-le-length}
 use Rattle.cyc_base.proofs.ListLemmas.{filter-no_longer, option_map-nothing, option_map-or, option_or-None}
-use Rattle.blif_text.specs.Texts.{pieces, in_front, is_allowed, is_filled, words_of, Joined, joined, in_words, has_words, bad_byte, unless_bad, before_hash, physical, without_cr, begins_with}
+use Rattle.blif_text.specs.Texts.{pieces, in_front, Joined, joined, in_words, has_words, bad_byte, unless_bad, before_hash, physical, without_cr, begins_with}
 use Rattle.blif_text.specs.Faults.{Refuses}
 use Rattle.blif_text.specs.declared.fault.TextFault.{TextFault}
 use Rattle.blif_text.specs.declared.fault.TextFault.TheVariants.{BadByte}

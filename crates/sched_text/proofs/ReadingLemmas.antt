@@ -1,10 +1,10 @@
 -- A schedule is read piece by piece.
-use Rattle.std.proofs.Common.{◌≡◌, ◌≢◌, ◌<◌, ◌≤◌, ℕ, ◌+◌, inl, inr, ◌⊎◌, Bool, cond, List, [], ◌++◌, length, drop, Some, None, Ok, Err, refl, sym, ap, ◌∙◌, arith, length-append, length-drop, drop_of_length-le}
-use Rattle.sched_text.proofs.Common.{Option, Result, option_map, drop-cons, cases_lt, ne_eqb, Parts, Schedule, Line, end_number, line_at, SchedFault, BadLine, kind, is_tick, lacks_lines, is_cut_off, fault_at, fault_at_end, statement, schedule, Draft, new_draft, follow, ended, bad_line, ReadsPiece, FitsNetlist}
+use Rattle.std.proofs.Common.{◌≡◌, ◌<◌, ◌≤◌, ℕ, ◌+◌, Bool, cond, List, [], ◌++◌, length, drop, Some, None, Ok, Err, sym, ap, ◌∙◌, arith, length-append, length-drop, drop_of_length-le}
+use Rattle.sched_text.proofs.Common.{Option, Result, option_map, cases_lt, ne_eqb, Parts, Schedule, Line, end_number, line_at, SchedFault, BadLine, kind, is_tick, lacks_lines, is_cut_off, fault_at, fault_at_end, statement, schedule, Draft, new_draft, follow, ended, bad_line, ReadsPiece, FitsNetlist}
 use Rattle.std.specs.Prelude.{◌==◌, ◌&&◌}
 use Rattle.std.proofs.Math.Seq.{drop-append_seam}
 use Rattle.std.proofs.lemmas.List.{get_or-drop, get_or_append_left, drop-drop}
-use Rattle.blif_text.specs.Texts.{unless_bad, physical}
+use Rattle.blif_text.specs.Texts.{unless_bad}
 use Rattle.sched_text.specs.declared.place.Place.{Place}
 use Rattle.sched_text.specs.Faults.{of_lines}
 use Rattle.sched_text.specs.LineFaults.{place_behind}
@@ -13,7 +13,7 @@ use Rattle.sched_text.specs.Pieces.{lines_from, IsNext}
 use Rattle.sched_text.specs.ReadingOn.{ReadsAt, IsPieceOf, FailsPiece}
 use Rattle.sched_text.proofs.FitLemmas.{fits}
 use Rattle.sched_text.proofs.PieceLemmas.{numbered_few, rising, size_of_physical}
-use Rattle.sched_text.proofs.ScheduleLemmas.{at_start, at_next, at_fault, answers_end}
+use Rattle.sched_text.proofs.ScheduleLemmas.{at_next, at_fault, answers_end}
 
 -- ---- the lines of a piece
 

@@ -1,10 +1,10 @@
 -- What the lines of a written schedule say.
-use Rattle.std.proofs.Common.{◌≡◌, ◌+◌, ℕ, suc, Bool, true, false, ◌||◌, List, [], ◌∷◌, ◌++◌, length, map, refl, ap, ap₂, sym, ◌∙◌, arith, All, None, append_assoc, append-nil}
+use Rattle.std.proofs.Common.{◌≡◌, ◌+◌, ℕ, Bool, false, ◌||◌, List, [], ◌∷◌, ◌++◌, length, map, refl, ap, sym, ◌∙◌, arith, All, None, append_assoc, append-nil}
 use Rattle.sched_text.proofs.Common.{codes, decimal, unwrap_or, flat_map, list_any, option_or, All-nil, All-cons, All-head, All-tail, Parts, IsNetlist, PlannedEvent, RoundPlan, Schedule, end_number, IsLine, numbered, unless, arguments, IsSmall, schedule, statement, Draft, new_draft, follow, bits_words, past_line, start_word, event_line, round_lines, tick_lines, lines_of}
 use Rattle.std.specs.List.{filter_map, cons_option}
 use Rattle.std.specs.declared.option.Option.{Option}
 use Rattle.sched_text.specs.declared.statement.Statement.{Statement}
-use Rattle.sched_text.specs.declared.statement.Statement.TheVariants.{Format, Window, Past, Latches, State, Gates, Tick, Round, Event}
+use Rattle.sched_text.specs.declared.statement.Statement.TheVariants.{Format, Window, Past, Gates, Tick, Round, Event}
 use Rattle.sched_text.specs.Faults.{of_lines}
 use Rattle.sched_text.specs.Numbers.{number_of}
 use Rattle.sched_text.specs.ReadingBack.{event_unnumbered, round_unnumbered, unnumbered, WrittenReadsBack}

@@ -1,16 +1,15 @@
 -- The answer that there is once the lines of a schedule that are left are read.
-use Rattle.std.proofs.Common.{◌≡◌, ◌≤◌, ◌<◌, ℕ, suc, ◌+◌, Bool, true, false, cond, List, [], ◌∷◌, ◌++◌, length, drop, map, Some, None, Err, refl, sym, ap, ap₂, ◌∙◌, arith, add-one, drop_of_length-le}
-use Rattle.sched_text.proofs.Common.{Option, unwrap_or, option_map, list_any, option_or, sum_by-cons, Parts, PlannedEvent, RoundPlan, Line, line_at, SchedFault, unless, kind, is_tick, nearest, begins_tick, is_cut_off, fault_at, fault_at_end, first_fault, statement, schedule, Draft, new_draft, follow, ended}
+use Rattle.std.proofs.Common.{◌≡◌, ◌≤◌, ◌<◌, ℕ, suc, ◌+◌, Bool, true, cond, List, [], ◌∷◌, ◌++◌, length, drop, map, Some, None, Err, refl, sym, ap, ◌∙◌, arith, add-one, drop_of_length-le}
+use Rattle.sched_text.proofs.Common.{Option, unwrap_or, option_map, option_or, sum_by-cons, Parts, PlannedEvent, RoundPlan, Line, line_at, SchedFault, unless, kind, is_tick, nearest, begins_tick, is_cut_off, fault_at, fault_at_end, first_fault, statement, schedule, Draft, new_draft, follow, ended}
 use Rattle.std.specs.Prelude.{◌||◌, option_to_list}
-use Rattle.std.specs.List.{filter_map}
 use Rattle.std.proofs.Math.Bool.{or-false}
 use Rattle.std.proofs.lemmas.List.{append-nil, append_assoc}
 use Rattle.sched_text.proofs.VectorLemmas.{lines_here}
 use Rattle.sched_text.specs.declared.place.Place.{Place}
 use Rattle.sched_text.specs.declared.statement.Statement.{Statement}
-use Rattle.sched_text.specs.declared.statement.Statement.TheVariants.{Past, State, Tick, Round, Event}
+use Rattle.sched_text.specs.declared.statement.Statement.TheVariants.{Tick, Round, Event}
 use Rattle.sched_text.specs.LineFaults.{place_behind}
-use Rattle.sched_text.specs.Schedules.{past_told, is_state, events_ahead, rounds_ahead, ticks_ahead}
+use Rattle.sched_text.specs.Schedules.{events_ahead, rounds_ahead, ticks_ahead}
 use Rattle.sched_text.specs.Running.{OpenTick, with_event, new_round, ended_tick, new_tick, begin_round, add_event}
 use Rattle.sched_text.specs.ReadingOn.{rounds_from, ticks_from, whole, before, answer, ReadsAt}
 

@@ -1,5 +1,5 @@
 -- What latches start with, latch by latch.
-use Rattle.std.proofs.Common.{◌≡◌, ◌<◌, ℕ, ◌+◌, Bool, List, length, drop, get_or, slice_get, Some, ◌∙◌, add-one, refl, arith}
+use Rattle.std.proofs.Common.{◌≡◌, ◌<◌, ℕ, ◌+◌, Bool, List, length, drop, get_or, slice_get, Some, add-one, arith}
 use Rattle.sched_text.proofs.Common.{if◌then◌else◌, drop-cons, Latch, permits, first_refused}
 use Rattle.std.proofs.lemmas.Option.{get_or_from_slice_get}
 

@@ -1,7 +1,7 @@
 -- The answer that there is once the lines that are left are read, and what vectors are like.
-use Rattle.std.proofs.Common.{◌≡◌, ◌≢◌, ◌≤◌, ◌<◌, ℕ, suc, ◌+◌, Bool, true, false, List, [], ◌∷◌, ◌++◌, All, length, drop, map, Some, None, Ok, Err, refl, sym, ap, subst, ◌∙◌, add-one, drop_of_length-le, eqb-true, arith}
-use Rattle.sched_text.proofs.Common.{Option, Result, codes, if◌then◌else◌, list_all, option_or, drop-cons, length-map, All-nil, All-cons, Line, line_at, SchedFault, unless, BadLine, WrongWidth, value_of}
-use Rattle.std.specs.Prelude.{◌||◌, ◌==◌, bytes_eq}
+use Rattle.std.proofs.Common.{◌≡◌, ◌≢◌, ◌≤◌, ◌<◌, ℕ, suc, ◌+◌, Bool, true, false, List, [], ◌∷◌, ◌++◌, All, length, drop, map, Some, None, Ok, Err, sym, add-one, drop_of_length-le, eqb-true, arith}
+use Rattle.sched_text.proofs.Common.{Option, Result, if◌then◌else◌, list_all, option_or, drop-cons, length-map, All-nil, All-cons, Line, line_at, SchedFault, unless, BadLine, WrongWidth, value_of}
+use Rattle.std.specs.Prelude.{◌||◌, ◌==◌}
 use Rattle.std.proofs.lemmas.Bool.{and_parts}
 use Rattle.std.proofs.lemmas.List.{append-nil, append_assoc}
 use Rattle.cyc_base.proofs.ListLemmas.{option_or-neither}

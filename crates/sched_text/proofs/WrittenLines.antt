@@ -1,5 +1,5 @@
 -- A text of lines of names reads back as these lines.
-use Rattle.std.proofs.Common.{◌≡◌, ℕ, ◌+◌, List, [], ◌∷◌, ◌++◌, false, refl, sym, ap, ◌∙◌, append_assoc, append-nil, length, arith}
+use Rattle.std.proofs.Common.{◌≡◌, ℕ, ◌+◌, List, [], ◌∷◌, ◌++◌, false, refl, ap, append_assoc, append-nil, length, arith}
 use Rattle.std.specs.Prelude.{All, Ok}
 use Rattle.sched_text.proofs.Common.{flat_map, lines, end_number, IsLine, numbered, after_blank, line_text}
 use Rattle.blif_text.proofs.WrittenLines.{spaced, line_of}

@@ -1,7 +1,6 @@
 -- A written number reads back.
-use Rattle.std.proofs.Common.{◌≡◌, ℕ, ◌+◌, ◌-◌, ◌*◌, ◌/◌, ◌%◌, ◌^◌, ◌<◌, ◌≤◌, Bool, true, false, ◌&&◌, ◌==◌, List, [], ◌∷◌, ◌++◌, length, get_or, All, Some, None, refl, ap, ◌∙◌, arith, inl, inr}
-use Rattle.sched_text.proofs.Common.{if◌then◌else◌, decimal, list_all, ne_eqb, cases_lt, nat_tests, All-nil, All-cons, IsBlifName, number, IsSmall}
-use Rattle.std.specs.Prelude.{nat_le}
+use Rattle.std.proofs.Common.{◌≡◌, ℕ, ◌+◌, ◌-◌, ◌*◌, ◌/◌, ◌%◌, ◌^◌, ◌<◌, ◌≤◌, true, ◌&&◌, List, [], ◌∷◌, ◌++◌, length, get_or, All, Some, refl, ap, ◌∙◌, arith}
+use Rattle.sched_text.proofs.Common.{decimal, list_all, nat_tests, All-nil, All-cons, IsBlifName, number, IsSmall}
 use Rattle.std.proofs.lemmas.Bool.{and_parts}
 use Rattle.std.proofs.lemmas.List.{get_or_append_left, length-append}
 use Rattle.std.proofs.lemmas.List.Folds.{list_all-append}

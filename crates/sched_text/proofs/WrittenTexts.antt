@@ -1,10 +1,10 @@
 -- The lines of a schedule, as they are appended.
-use Rattle.std.proofs.Common.{◌≡◌, ℕ, List, [], ◌∷◌, ◌++◌, map, refl, ap, ◌∙◌, append_assoc, append-nil, arith}
-use Rattle.sched_text.proofs.Common.{codes, decimal, flat_map, Parts, gate_at, PlannedEvent, RoundPlan, Schedule, after_blank, line_text, bits_words, past_line, start_word, event_line, round_lines, tick_lines, event_text, round_text, tick_text}
+use Rattle.std.proofs.Common.{◌≡◌, ℕ, List, [], ◌∷◌, ◌++◌, refl, ap, append_assoc, append-nil, arith}
+use Rattle.sched_text.proofs.Common.{codes, decimal, flat_map, Parts, gate_at, PlannedEvent, RoundPlan, Schedule, line_text, event_line, round_lines, tick_lines, event_text, round_text, tick_text}
 use Rattle.std.proofs.lemmas.List.Concat.{flat_map-append}
 use Rattle.std.proofs.lemmas.List.Folds.{flat_map-map}
 use Rattle.sched_text.specs.Written.{head_lines, text_of, written}
-use Rattle.sched_text.specs.Putting.{ages_text, past_text, ticks_text, head_text}
+use Rattle.sched_text.specs.Putting.{ages_text, ticks_text, head_text}
 
 pub window_is : (window : ℕ) → line_text (codes "window" ∷ decimal window ∷ []) ≡ codes "window " ++ (decimal window ++ codes "\n")
 window_is window = ap (λ l. codes "window " ++ (l ++ codes "\n")) (append-nil (decimal window))

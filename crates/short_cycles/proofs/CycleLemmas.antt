@@ -1,12 +1,12 @@
 -- The way by which a search came to a node, and the cycles through its root.
-use Rattle.std.proofs.Common.{◌≡◌, ◌⊎◌, inl, inr, ℕ, zero, suc, ◌+◌, ◌-◌, ◌<◌, ◌≤◌, List, [], ◌∷◌, length, get_or, drop, refl, ap, sym, ◌∙◌, subst, arith, Option, Some, None}
+use Rattle.std.proofs.Common.{◌≡◌, ◌⊎◌, inl, inr, ℕ, zero, suc, ◌+◌, ◌-◌, ◌<◌, ◌≤◌, List, [], ◌∷◌, length, get_or, drop, ap, sym, ◌∙◌, subst, arith, Option, Some, None}
 use Rattle.std.specs.List.{All, Contains}
 use Rattle.std.proofs.lemmas.Bool.{cases_eq, cases_lt}
 use Rattle.std.proofs.lemmas.List.{get_or_default}
-use Rattle.components.specs.Graphs.{Edge, successors}
+use Rattle.components.specs.Graphs.{Edge}
 use Rattle.short_cycles.specs.declared.search.Step.{Step}
 use Rattle.short_cycles.specs.Cycles.{IsTrail, last, IsCycle, IsWay, IsShortest, ReachesNone}
-use Rattle.short_cycles.specs.Search.{step_at, depth_of, IsPlaced, IsWithin, IsSearch, IsWayBack, Closes, ClosesFirst, IsClosing, IsNearer, IsShortestThrough, IsTooLong, IsThrough, IsBestOf, IsBest, IsLimitBelow, IsNearestOf, IsNoLonger}
+use Rattle.short_cycles.specs.Search.{step_at, depth_of, IsPlaced, IsWithin, IsSearch, IsWayBack, Closes, ClosesFirst, IsClosing, IsNearer, IsShortestThrough, IsTooLong, IsThrough, IsBestOf, IsBest, IsLimitBelow, IsNearestOf}
 use Rattle.short_cycles.proofs.SearchLemmas.{same_step, step_within}
 
 -- ---- the node nearest to the root from which an edge leads back
@@ -33,10 +33,6 @@ closing_kept graph root steps n (Some best) h k = record {
         | inr apart ↦ h.least node other (omega arith) closes
       ];
 }
-
-better_than_all : (graph : List (List ℕ)) (root : ℕ) (steps : List (Option Step)) (n depth : ℕ) (best : Option Step) → IsClosing graph root steps n best → IsNearer best depth →
-    (node : ℕ) (other : Step) → node < n → Closes graph root steps node other → depth ≤ other.depth
-better_than_all graph root steps n depth best h nearer node other l closes = grind arith
 
 pub closing_found : (graph : List (List ℕ)) (root : ℕ) (steps : List (Option Step)) (n : ℕ) (best : Option Step) (step : Step) → IsClosing graph root steps n best →
     Closes graph root steps n step → IsNearer best step.depth → IsClosing graph root steps (n + 1) (Some (record { from = n; depth = step.depth }))
@@ -163,11 +159,6 @@ through_none graph root limit steps h none = λ other cycle through.
     ]
 
 -- ---- the best of the cycles through all roots
-
--- one more root, by which no better cycle leads
-pub best_kept : (graph : List (List ℕ)) (reached : List (Option Step)) (root : ℕ) (best : Option (List ℕ)) → IsBest graph reached root best →
-    ((other : List ℕ) → IsCycle graph other → last other ≡ root → IsPlaced reached root → IsNoLonger best other) → IsBest graph reached (root + 1) best
-best_kept graph reached root best h k = grind arith
 
 pub best_at_one : (graph : List (List ℕ)) (reached : List (Option Step)) (root : ℕ) (best : Option (List ℕ)) → IsBest graph reached root best → IsLimitBelow (length graph) best None → IsBest graph reached (root + 1) best
 best_at_one graph reached root best h few = grind arith

@@ -1,5 +1,5 @@
 -- A search in breadth comes to each node by the fewest edges.
-use Rattle.std.proofs.Common.{◌≡◌, ◌⊎◌, inl, inr, ℕ, zero, suc, ◌+◌, ◌<◌, ◌≤◌, List, [], ◌∷◌, ◌++◌, length, get_or, set, replicate, refl, ap, sym, ◌∙◌, subst, arith, Option, Some, None}
+use Rattle.std.proofs.Common.{◌≡◌, inl, inr, ℕ, zero, suc, ◌+◌, ◌<◌, ◌≤◌, List, [], ◌∷◌, ◌++◌, length, get_or, set, replicate, refl, ap, sym, ◌∙◌, subst, arith, Option, Some, None}
 use Rattle.std.specs.List.{All, Contains}
 use Rattle.std.proofs.lemmas.Bool.{cases_eq, cases_lt}
 use Rattle.std.proofs.lemmas.List.{get_or_default, get_or-set_same, get_or-set_other, get_or-replicate, get_or_past, length-replicate, length-set, length-append}
@@ -9,10 +9,6 @@ use Rattle.short_cycles.specs.declared.search.Step.{Step}
 use Rattle.short_cycles.specs.Search.{step_at, IsPlaced, IsNew, IsWithin, unplaced, IsFresh, Grown, LeadsTo, LeadsFrom, LeadsFromLevel, HasVisited, IsNextLevel, CameBy, Came, IsSearch, IsSearching, IsRooted}
 
 -- ---- one node
-
-pub none_or_some : {A : Type 0} (o : Option A) → (o ≡ None) ⊎ ((a : A) × (o ≡ Some a))
-none_or_some None = inl refl
-none_or_some (Some a) = inr (a, refl)
 
 pub same_step : (a b : Step) → Some a ≡ Some b → a ≡ b
 same_step a b e = cc

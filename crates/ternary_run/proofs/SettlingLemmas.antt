@@ -10,10 +10,10 @@ use Rattle.std.proofs.lemmas.List.FromFn.{length-range_with_len, get_or-range_wi
 use Rattle.std.proofs.Math.Nat.{mul-le-mul_right}
 use Rattle.cyc_base.specs.declared.sig.Sig.{Sig}
 use Rattle.cyc_base.specs.declared.trit.Trit.{Trit}
-use Rattle.cyc_base.specs.declared.trit.Trit.TheVariants.{Zero, One, X}
+use Rattle.cyc_base.specs.declared.trit.Trit.TheVariants.{X}
 use Rattle.cyc_base.specs.Values.{Below, EachBelow}
 use Rattle.cyc_base.proofs.OrderLemmas.{Below-refl, EachBelow-refl, EachBelow-at, EachBelow-antisym, EachBelow-length, EachBelow-from_at}
-use Rattle.cyc_base.proofs.ListLemmas.{Contains-cases, Contains-nothing, Contains-range}
+use Rattle.cyc_base.proofs.ListLemmas.{Contains-cases, Contains-range}
 use Rattle.cover_logic.specs.Extensions.{ext}
 use Rattle.netlist.specs.declared.parts.Parts.{Parts}
 use Rattle.netlist.specs.Netlists.{count, gate_at, gate_sig}

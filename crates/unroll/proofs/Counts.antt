@@ -1,6 +1,5 @@
 -- The number of a gate's block is one for each loop.
-use Rattle.std.proofs.Common.{ap, arith}
-use Rattle.std.specs.List.{slice_index_or}
+use Rattle.std.proofs.Common.{arith}
 use Rattle.unroll.proofs.Common.{Parts, AreLoopsOf, loops_by, sweeps_of, IsOfLoops, Looped, IsLooped}
 use Rattle.loops.specs.declared.structure.Blocks.{Blocks}
 use Rattle.loops.specs.declared.structure.Cut.{Cut}

@@ -1,6 +1,6 @@
 -- The netlist's own gates, by the table of the last copies.
 use Rattle.std.proofs.Common.{◌≡◌, ℕ, ◌+◌, ◌<◌, List, [], ◌∷◌, ◌++◌, length, map, take, get_or, slice_get, Some, ap, sym, ◌∙◌, arith}
-use Rattle.unroll.proofs.Common.{get_or_append_left, map-append, take_more, Sig, Gate, Parts, gate_at, signal, Loops, AreLoopsOf, gate_of, in_loop_of, first_gate, in_loop_from, same_within, shift, old_signal, copy_signal, kept_gate, IsOfLoops, kept_pin, at_table, copy_pin_by, range_with_len, get_or-range_with_len, get_or_from_slice_get, slice_get_within}
+use Rattle.unroll.proofs.Common.{get_or_append_left, map-append, take_more, Sig, Parts, gate_at, signal, Loops, AreLoopsOf, gate_of, in_loop_of, first_gate, in_loop_from, same_within, shift, old_signal, copy_signal, kept_gate, IsOfLoops, kept_pin, at_table, copy_pin_by, range_with_len, get_or-range_with_len, get_or_from_slice_get, slice_get_within}
 use Rattle.unroll.specs.Tables.{gate_by_tables, AreLast}
 use Rattle.unroll.proofs.Numbered.{choice_of_two, moved_high}
 use Rattle.unroll.proofs.Rounds.{has_same, many_of, self_of, map_same}

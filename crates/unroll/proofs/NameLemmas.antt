@@ -1,5 +1,5 @@
 -- The names of copies and of the constant are new, differ among each other, and may stand in a BLIF text.
-use Rattle.std.proofs.Common.{◌≡◌, ℕ, suc, ◌^◌, ◌<◌, ◌≤◌, false, List, [], ◌∷◌, ◌++◌, get_or, ap, subst, arith}
+use Rattle.std.proofs.Common.{◌≡◌, ℕ, suc, ◌^◌, ◌<◌, ◌≤◌, false, List, [], ◌∷◌, ◌++◌, subst, arith}
 use Rattle.std.proofs.lemmas.Fmt.{decimal_injective}
 use Rattle.unroll.proofs.Common.{append-nil, All-append, All-from_recursion, AllByRecursion, list_any, IsDistinct, all_weaker, all_append, longest_run, longest_run_of, copy_name, zero_name, bytes_eq, IsBlifName}
 use Rattle.std.proofs.lemmas.List.Elements.{All-cons}

@@ -1,7 +1,7 @@
 -- The copies of a gate by their numbers, where the number behind the last one is the gate itself: so what a gate of the
 -- unrolled netlist reads is said once.
-use Rattle.std.proofs.Common.{◌≡◌, inl, inr, ℕ, zero, suc, ◌+◌, ◌-◌, ◌<◌, ◌≤◌, leb, ltb, Bool, true, false, ◌&&◌, if◌then◌else◌, List, ◌++◌, length, map, get_or, refl, ap, ap₂, sym, ◌∙◌, arith}
-use Rattle.unroll.proofs.Common.{cases_lt, le-leb, lt-leb, map-map, Sig, Trit, Gate, Parts, signal, gate_at, wire, fix, fix_gates, Loops, AreLoopsOf, first_gate, gate_of, in_loop_of, in_loop_from, Copy, copy_of, copies_of, copies, most, place, constants, shift, moved, old_signal, copy_signal, unrolled, IsOfLoops, copy_pin, kept_pin, get_or-append-add, X, ext, get_or-fix}
+use Rattle.std.proofs.Common.{◌≡◌, inl, inr, ℕ, zero, suc, ◌+◌, ◌-◌, ◌<◌, ◌≤◌, leb, ltb, Bool, true, ◌&&◌, if◌then◌else◌, List, ◌++◌, length, map, get_or, refl, ap, ap₂, sym, ◌∙◌, arith}
+use Rattle.unroll.proofs.Common.{cases_lt, le-leb, lt-leb, map-map, Sig, Trit, Gate, Parts, signal, gate_at, wire, fix, fix_gates, Loops, AreLoopsOf, first_gate, gate_of, in_loop_of, in_loop_from, Copy, copy_of, copies_of, copies, most, place, constants, moved, old_signal, copy_signal, unrolled, IsOfLoops, copy_pin, kept_pin, get_or-append-add, X, ext, get_or-fix}
 use Rattle.std.proofs.lemmas.Bool.{lt-ltb, le-ltb}
 use Rattle.unroll.specs.Unrolled.{redirected}
 use Rattle.unroll.proofs.Measures.{length-unrolled}

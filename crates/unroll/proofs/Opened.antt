@@ -1,7 +1,7 @@
 -- The unrolled netlist has no loop: a walk in it is a walk of the netlist, in which the numbers of the copies rise at each
 -- cut wire.
-use Rattle.std.proofs.Common.{◌≡◌, ◌⊎◌, inl, inr, ℕ, zero, suc, ◌+◌, ◌<◌, ◌≤◌, leb, Bool, true, false, if◌then◌else◌, List, [], ◌∷◌, length, map, get_or, refl, ap, sym, ◌∙◌, subst, arith, Contains, true≢false}
-use Rattle.unroll.proofs.Common.{cases_lt, and_from, le-leb, cases_Bool, get_or-map, get_or_append_left, length-map, AllByRecursion, Sig, all_weaker, all_map, Gate, Parts, signal, gate_at, gate_sig, Loops, AreLoopsOf, first_gate, gate_of, in_loop_of, in_loop_from, same-sym, same-trans, same_within, has_loop, constants, shift, kept_latch, unrolled, IsOfLoops, Feeds, feeds_at}
+use Rattle.std.proofs.Common.{◌≡◌, ◌⊎◌, inl, inr, ℕ, zero, suc, ◌+◌, ◌<◌, ◌≤◌, leb, true, false, List, [], ◌∷◌, length, map, get_or, refl, ap, sym, ◌∙◌, subst, arith, Contains, true≢false}
+use Rattle.unroll.proofs.Common.{cases_lt, and_from, le-leb, cases_Bool, get_or-map, length-map, AllByRecursion, Sig, all_weaker, all_map, Parts, signal, gate_at, gate_sig, Loops, AreLoopsOf, first_gate, gate_of, in_loop_of, in_loop_from, same-sym, same-trans, same_within, has_loop, constants, shift, kept_latch, unrolled, IsOfLoops, Feeds, feeds_at}
 use Rattle.netlist.specs.Walks.{Walk}
 use Rattle.loops.specs.Walks.{SameLoop}
 use Rattle.loops.proofs.Walks.{on_closed_walk, leads-any, cuts_leave_no_loop}
@@ -23,9 +23,6 @@ from_place f xs y c = grind (arith, length-map, get_or-map)
 all_unmap : (P : ℕ → Type 0) (f : ℕ → ℕ) (xs : List ℕ) → AllByRecursion P (map f xs) → AllByRecursion (λ n. P (f n)) xs
 all_unmap P f [] h = tt
 all_unmap P f (x ∷ xs) h = (h.0, all_unmap P f xs h.1)
-
-one_or_none : (b : Bool) (g d : Gate) (q : ℕ) → g.pins ≡ [] → q < length (if b then g ∷ [] else []) → (get_or (if b then g ∷ [] else []) q d).pins ≡ []
-one_or_none b g d q e l = grind arith
 
 module _ (net : Parts) (loops : Loops) (m : ℕ → ℕ) where
   -- where there is a loop, there is the constant

@@ -1,11 +1,8 @@
 -- What the source of a pin says of the pin.
-use Rattle.std.proofs.Common.{◌≡◌, ◌≤◌, ℕ, Bool, true, false, ◌&&◌, nat_le, if◌then◌else◌, Some, None, refl, sym, ap, ap₂, ◌∙◌, arith}
-use Rattle.unroll.proofs.Common.{le-leb, Sig, Parts, Loops, loops_by, first_gate, gate_of, in_loop_of, Option, loops_of, Looped, IsLooped}
+use Rattle.std.proofs.Common.{◌≡◌, ◌≤◌, ℕ, Bool, true, false, if◌then◌else◌, Some, None, arith}
+use Rattle.unroll.proofs.Common.{Sig, Parts, Loops, loops_by, first_gate, gate_of, in_loop_of, Option, loops_of, Looped, IsLooped}
 use Rattle.std.specs.Bool.{then_some}
 use Rattle.loops.proofs.LoopedLemmas.{one_loop_is_told}
-
-some_where : (b : Bool) (x : ℕ) → then_some b x ≡ (if b then Some x else None)
-some_where b x = grind arith
 
 -- the gate that drives a pin, where a test tells whether it is in the loop
 pub source_is : (net : Parts) (loops : Loops) (n source : ℕ) (s : Sig) (b : Bool) → first_gate net ≤ s.0 → source ≡ gate_of net s → loops.same n source ≡ b

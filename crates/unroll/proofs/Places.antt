@@ -1,7 +1,7 @@
 -- Where the copies stand: each at one place, and those of one number one after another.
 use Rattle.std.proofs.Common.{◌≡◌, ◌==◌, inl, inr, ℕ, zero, suc, ◌+◌, ◌<◌, ◌≤◌, leb, Bool, true, ◌&&◌, if◌then◌else◌, List, [], ◌∷◌, ◌++◌, length, map, get_or, refl, ap, ap₂, sym, ◌∙◌, subst, arith, Contains, All, true≢false}
-use Rattle.unroll.proofs.Common.{append_assoc, get_or_append_left, get_or-map, length-append, length-map, get_or-append-add, append-nil, cases_lt, and_from, le-leb, leb-true, false_from_ne_true, get_or-range_with_len, length-range_with_len, range_with_len, Parts, Loops, Copy, copy_of, copies_of, copies_upto, most, copies, place, copied, All-append, All-map}
-use Rattle.std.proofs.lemmas.Bool.{cases_eq, and_parts, eqb-true, eq-eqb}
+use Rattle.unroll.proofs.Common.{append_assoc, get_or_append_left, get_or-map, length-append, length-map, get_or-append-add, append-nil, cases_lt, le-leb, leb-true, false_from_ne_true, get_or-range_with_len, length-range_with_len, range_with_len, Parts, Loops, Copy, copy_of, copies_of, copies_upto, most, copies, place, copied, All-append, All-map}
+use Rattle.std.proofs.lemmas.Bool.{cases_eq}
 use Rattle.std.specs.List.{AllPairs, position_or_len}
 use Rattle.std.proofs.lemmas.List.Elements.{Contains-append_left, Contains-append_right, All-filter, All-weaker, filter_passes}
 use Rattle.std.proofs.lemmas.List.Kept.{AllPairs-cons, AllPairs-filter}

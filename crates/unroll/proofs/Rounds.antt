@@ -1,6 +1,6 @@
 -- One number of copies after another, by tables.
-use Rattle.std.proofs.Common.{◌≡◌, inl, inr, ℕ, zero, suc, ◌+◌, ◌<◌, ◌≤◌, min, leb, ltb, Bool, true, false, if◌then◌else◌, List, [], ◌∷◌, ◌++◌, length, map, filter, replicate, get_or, set, refl, ap, ap₂, sym, ◌∙◌, subst, arith, Contains, All, true≢false, get_or-set_same, get_or-set_other, length-set}
-use Rattle.unroll.proofs.Common.{cases_lt, le-leb, leb-true, length-append, length-map, map-append, append_assoc, append-nil, get_or-replicate, get_or_default, length-replicate, range_with_len, Sig, map-map, Gate, Parts, signal, gate_at, count, Loops, AreLoopsOf, first_gate, gate_of, in_loop_of, in_loop_from, same-sym, same-trans, same_within, mark, copy_name, copy_of, copies_of, copies_upto, most, copies, place, constants, shift, moved, copy_signal, copy_gate, IsOfLoops, copied, copy_pin, at_table, copy_gate_by, entered, copy_pin_by, AreMade}
+use Rattle.std.proofs.Common.{◌≡◌, ℕ, zero, suc, ◌+◌, ◌<◌, ◌≤◌, min, ltb, Bool, true, if◌then◌else◌, List, [], ◌∷◌, ◌++◌, length, map, filter, replicate, get_or, set, refl, ap, ap₂, sym, ◌∙◌, subst, arith, Contains, All, true≢false, get_or-set_same, get_or-set_other, length-set}
+use Rattle.unroll.proofs.Common.{cases_lt, le-leb, leb-true, length-map, map-append, append_assoc, append-nil, get_or-replicate, get_or_default, length-replicate, Sig, map-map, Gate, Parts, signal, count, Loops, AreLoopsOf, first_gate, gate_of, in_loop_of, in_loop_from, same-sym, same-trans, same_within, mark, copy_of, copies_of, copies_upto, most, copies, constants, shift, moved, copy_signal, copy_gate, IsOfLoops, copied, copy_pin, at_table, copy_gate_by, entered, copy_pin_by, AreMade}
 use Rattle.loops.proofs.Reading.{map_agree}
 use Rattle.unroll.specs.Tables.{AreLastCopies, AreCopies}
 use Rattle.unroll.proofs.TableLemmas.{length_entered}

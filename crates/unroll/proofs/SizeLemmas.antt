@@ -1,5 +1,5 @@
 -- Numbers of copies, gate by gate.
-use Rattle.std.proofs.Common.{◌≡◌, ℕ, ◌+◌, ◌<◌, max, Bool, true, [], ◌∷◌, ◌++◌, get_or, refl, ap, ◌∙◌, arith, add-one}
+use Rattle.std.proofs.Common.{◌≡◌, ℕ, ◌+◌, ◌<◌, max, Bool, true, [], ◌∷◌, ◌++◌, refl, ap, ◌∙◌, arith, add-one}
 use Rattle.unroll.proofs.Common.{get_or-range_with_len, length-range_with_len, range_with_len, list_any, sum_by, copies_of, most}
 use Rattle.std.proofs.lemmas.List.Folds.{list_any_at}
 use Rattle.std.proofs.lemmas.List.Sums.{sum_by_push}

@@ -1,6 +1,6 @@
 -- What the gates of the unrolled netlist are by their places.
-use Rattle.std.proofs.Common.{◌≡◌, ℕ, ◌+◌, ◌<◌, List, ◌++◌, length, map, get_or, ap, sym, ◌∙◌, arith}
-use Rattle.unroll.proofs.Common.{get_or_append_left, get_or-map, length-map, get_or-append-add, range_with_len, Parts, gate_at, Loops, Copy, copies, constants, copy_gate, kept_gate, unrolled, get_or-map-range_with_len}
+use Rattle.std.proofs.Common.{◌≡◌, ℕ, ◌+◌, ◌<◌, List, ◌++◌, length, get_or, arith}
+use Rattle.unroll.proofs.Common.{get_or_append_left, get_or-map, length-map, get_or-append-add, Parts, gate_at, Loops, Copy, copies, constants, copy_gate, kept_gate, unrolled, get_or-map-range_with_len}
 
 -- an item of the last of three parts
 third_part : {A : Type 0} (xs ys zs : List A) (k n : ℕ) (d : A) → length ys ≡ k → get_or (xs ++ (ys ++ zs)) (length xs + (k + n)) d ≡ get_or zs n d

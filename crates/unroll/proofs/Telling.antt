@@ -1,6 +1,6 @@
 -- The unrolled netlist keeps the interface, and tells of outputs and latches what the netlist does.
-use Rattle.std.proofs.Common.{◌≡◌, inl, inr, ℕ, zero, suc, ◌+◌, ◌-◌, ◌<◌, ◌≤◌, List, [], ◌++◌, length, map, get_or, refl, ap, ap₂, sym, ◌∙◌, subst, arith}
-use Rattle.unroll.proofs.Common.{cases_lt, get_or_append_left, length-append, length-map, get_or-append-add, Sig, Trit, map-map, Parts, wire, fix, gate_at, signal_names, gate_sig, Loops, first_gate, gate_of, mark, copy_name, copy_of, copies_of, copies, place, shift, copy_signal, old_signal, copy_gate, kept_gate, kept_latch, constants, unrolled}
+use Rattle.std.proofs.Common.{◌≡◌, ℕ, zero, suc, ◌-◌, ◌<◌, ◌≤◌, List, [], length, map, get_or, sym, subst, arith}
+use Rattle.unroll.proofs.Common.{cases_lt, get_or_append_left, length-map, get_or-append-add, Sig, Trit, map-map, Parts, wire, fix, gate_at, signal_names, gate_sig, Loops, gate_of, copy_of, copies_of, copies, place, shift, copy_signal, old_signal, copy_gate, kept_gate, kept_latch, unrolled}
 use Rattle.std.proofs.lemmas.List.{get_or-append_right}
 use Rattle.cyc_base.specs.Values.{EachBelow}
 use Rattle.cyc_base.proofs.OrderLemmas.{EachBelow-map}
@@ -11,7 +11,7 @@ use Rattle.unroll.proofs.Numbered.{moved_low, moved_high}
 use Rattle.unroll.proofs.Places.{copy_placed}
 use Rattle.unroll.proofs.Rounds.{map_same}
 use Rattle.unroll.proofs.Standing.{gate_at_copy, gate_at_kept}
-use Rattle.unroll.proofs.Valid.{names_new, names_old, old_names, old_wide, new_names, zero_names, copy_names, gate_names, unrolled_is_netlist}
+use Rattle.unroll.proofs.Valid.{names_new, names_old, old_wide, unrolled_is_netlist}
 
 pub unrolled_has_its_size : UnrolledHasItsSize
 unrolled_has_its_size net loops are m of_loops = size_is_size net loops m

@@ -1,6 +1,6 @@
 -- The unrolled netlist is a netlist.
-use Rattle.std.proofs.Common.{◌≡◌, ◌⊎◌, inl, inr, ℕ, zero, suc, ◌+◌, ◌^◌, ◌<◌, ◌≤◌, Bool, true, false, if◌then◌else◌, List, [], ◌∷◌, ◌++◌, length, map, get_or, Some, None, IfSome, refl, ap, ap₂, sym, ◌∙◌, subst, arith, All}
-use Rattle.unroll.proofs.Common.{cases_lt, append_assoc, get_or_append_left, get_or-map, length-append, length-map, map-append, get_or-append-add, get_or-range_with_len, length-range_with_len, AllByRecursion, list_any, range_with_len, IsDistinct, Sig, all_weaker, map-map, all_append, all_map, longest_run, longest_run_of, Gate, Parts, gate_at, signal_names, Loops, AreLoopsOf, first_gate, gate_of, in_loop_of, in_loop_from, same_within, mark, copy_name, longest_run_in, clock_names, zero_name, Copy, copy_of, copies_of, copies, most, has_loop, constants, shift, moved, old_signal, copy_gate, kept_gate, kept_latch, unrolled, IsOfLoops, unrolled_size, All-from_recursion, All-map, option_map_or, bytes_eq, Option, IsBlifName, longest-append, Clock}
+use Rattle.std.proofs.Common.{◌≡◌, inl, inr, ℕ, zero, suc, ◌+◌, ◌^◌, ◌<◌, ◌≤◌, Bool, true, false, if◌then◌else◌, List, [], ◌∷◌, ◌++◌, length, map, get_or, IfSome, ap, ap₂, sym, ◌∙◌, subst, arith, All}
+use Rattle.unroll.proofs.Common.{cases_lt, append_assoc, get_or_append_left, get_or-map, length-append, length-map, map-append, get_or-append-add, get_or-range_with_len, length-range_with_len, AllByRecursion, list_any, range_with_len, IsDistinct, Sig, all_weaker, map-map, all_append, all_map, longest_run, longest_run_of, Gate, Parts, gate_at, signal_names, Loops, AreLoopsOf, first_gate, gate_of, in_loop_of, in_loop_from, same_within, mark, copy_name, longest_run_in, clock_names, zero_name, Copy, copy_of, copies_of, copies, most, constants, shift, moved, old_signal, kept_latch, unrolled, IsOfLoops, unrolled_size, All-from_recursion, All-map, option_map_or, bytes_eq, Option, IsBlifName, longest-append, Clock}
 use Rattle.std.proofs.lemmas.Bool.{cases_order, eqb-false, ne_eqb, or_from, or_parts}
 use Rattle.std.proofs.lemmas.List.FromFn.{fill_by_all}
 use Rattle.cyc_base.proofs.ListLemmas.{list_any-map}

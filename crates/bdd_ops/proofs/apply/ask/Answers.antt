@@ -1,7 +1,4 @@
-use Rattle.std.proofs.Common.{Bool, sym, subst, arith}
-use Rattle.bdd_ops.specs.declared.operands.Operands.{Operands}
-use Rattle.bdd_ops.specs.Standard.{IsFormOf}
-use Rattle.bdd_ops.specs.Turns.{mark_of}
+use Rattle.std.proofs.Common.{arith}
 use Rattle.bdd_ops.proofs.StepLemmas.{asked-fewer}
 use Rattle.bdd_ops.proofs.apply.ask.Goals as goal
 

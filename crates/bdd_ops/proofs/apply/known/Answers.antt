@@ -1,5 +1,4 @@
-use Rattle.std.proofs.Common.{sym, subst, arith}
-use Rattle.bdd_ops.specs.Apply.{IsAnswer}
+use Rattle.std.proofs.Common.{arith}
 use Rattle.bdd_ops.proofs.StandardLemmas.{StandsFor-chain}
 use Rattle.bdd_ops.proofs.ComputedLemmas.{IsAnswer-found, IsAnswer-decided}
 use Rattle.bdd_ops.proofs.apply.known.Goals as goal

@@ -1,6 +1,5 @@
-use Rattle.std.proofs.Common.{[], ◌∷◌, ◌++◌, sym, subst, arith}
+use Rattle.std.proofs.Common.{[], ◌∷◌, ◌++◌, arith}
 use Rattle.bdd_ops.specs.declared.apply.Question.TheVariants.{High}
-use Rattle.bdd_ops.specs.Apply.{IsAnswer}
 use Rattle.bdd_ops.proofs.ChainLemmas.{chain-high, answer-behind, pushed}
 use Rattle.bdd_ops.proofs.apply.resume.Goals as goal
 

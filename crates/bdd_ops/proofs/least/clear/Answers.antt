@@ -1,4 +1,4 @@
-use Rattle.std.proofs.Common.{◌≡◌, ◌∙◌, false, ap, length, set, arith}
+use Rattle.std.proofs.Common.{◌∙◌, false, ap, set, arith}
 use Rattle.bdd_ops.proofs.LeastLemmas.{cleared-more, cleared-all}
 use Rattle.bdd_ops.proofs.least.clear.Goals as goal
 

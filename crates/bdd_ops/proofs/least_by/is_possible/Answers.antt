@@ -1,10 +1,9 @@
-use Rattle.std.proofs.Common.{◌≡◌, ◌+◌, true, false, arith, length, length-set, get_or, ap, sym, subst, ◌∙◌, refl, slice_get, Some}
+use Rattle.std.proofs.Common.{◌≡◌, ◌+◌, true, false, arith, length, length-set, get_or, ap, ◌∙◌, refl, slice_get, Some}
 use Rattle.std.proofs.lemmas.Option.{slice_get-get_or}
-use Rattle.bdd_store.specs.Arena.{index, den}
+use Rattle.bdd_store.specs.Arena.{index}
 use Rattle.bdd_store.proofs.NodeLemmas.{plain}
 use Rattle.bdd_ops.specs.declared.least_by.Values.{Values}
-use Rattle.bdd_ops.specs.Least.{by_variable}
-use Rattle.bdd_ops.specs.Possible.{AreValuesOf, branch_values}
+use Rattle.bdd_ops.specs.Possible.{branch_values}
 use Rattle.bdd_ops.proofs.PossibleLemmas.{AreFound-start, AreFound-next, of_index}
 use Rattle.bdd_ops.proofs.least_by.is_possible.Goals as goal
 

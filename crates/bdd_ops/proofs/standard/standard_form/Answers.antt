@@ -1,6 +1,4 @@
-use Rattle.std.proofs.Common.{sym, subst, arith}
-use Rattle.bdd_ops.specs.declared.operands.Operation.{Operation}
-use Rattle.bdd_ops.specs.Standard.{StandsFor}
+use Rattle.std.proofs.Common.{arith}
 use Rattle.bdd_ops.proofs.StandardLemmas.{StandsFor-chain}
 use Rattle.bdd_ops.proofs.standard.standard_form.Goals as goal
 

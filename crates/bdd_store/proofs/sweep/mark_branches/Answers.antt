@@ -1,4 +1,4 @@
-use Rattle.std.proofs.Common.{◌-◌, ◌≤◌, arith, length-set, true, get_or}
+use Rattle.std.proofs.Common.{◌-◌, ◌≤◌, arith, length-set, get_or}
 use Rattle.bdd_store.proofs.Common.{slice_get-get_or, index}
 use Rattle.bdd_store.proofs.ValueLemmas.{no_entry}
 use Rattle.bdd_store.proofs.MarkLemmas.{WaysAreMarked-start, WaysAreMarked-read}

@@ -1,6 +1,6 @@
-use Rattle.std.proofs.Common.{◌<◌, ◌∙◌, sym, subst, arith, rules, length, length-set, set, true}
+use Rattle.std.proofs.Common.{◌<◌, arith, length, length-set, true}
 use Rattle.bdd_store.proofs.Common.{index}
-use Rattle.bdd_store.proofs.MarkLemmas.{RootsAreMarked, RootsAreMarked-start, RootsAreMarked-first, RootsAreMarked-next}
+use Rattle.bdd_store.proofs.MarkLemmas.{RootsAreMarked-start, RootsAreMarked-first, RootsAreMarked-next}
 use Rattle.bdd_store.proofs.sweep.mark_roots.Goals as goal
 
 pub loop-root-init : goal.loop-root-init

@@ -1,6 +1,5 @@
-use Rattle.std.proofs.Common.{sym, ◌+◌, take, subst, ℕ, List, arith}
+use Rattle.std.proofs.Common.{arith}
 use Rattle.std.proofs.lemmas.Result.{err_from_is_err_and}
-use Rattle.care_sets.specs.Binding.{AreColumnsOf}
 use Rattle.care_sets.proofs.BindingLemmas.{columns_start, columns_more, columns_all, first_unknown_name}
 use Rattle.care_sets.proofs.binding.columns_of.Goals as goal
 

@@ -1,4 +1,4 @@
-use Rattle.std.proofs.Common.{length, sym, arith}
+use Rattle.std.proofs.Common.{sym, arith}
 use Rattle.components.proofs.PieceLemmas.{EndAt-at, pieces-at}
 use Rattle.components.proofs.graph.piece.Goals as goal
 

@@ -1,6 +1,5 @@
-use Rattle.std.proofs.Common.{◌≡◌, ℕ, length, arith, sym, ◌∙◌, subst, get_or, false}
+use Rattle.std.proofs.Common.{◌≡◌, length, arith, get_or, false}
 use Rattle.std.proofs.lemmas.List.{get_or_default}
-use Rattle.components.specs.Orders.{HasSeen}
 use Rattle.components.proofs.OrderLemmas.{seen_none, seen_more, seen_pair, all_seen}
 use Rattle.components.proofs.order.all_differ.Goals as goal
 

@@ -1,5 +1,5 @@
-use Rattle.std.proofs.Common.{sym, ◌∙◌, arith, subst}
-use Rattle.components.specs.Search.{State, state_of, Advances}
+use Rattle.std.proofs.Common.{arith}
+use Rattle.components.specs.Search.{state_of}
 use Rattle.components.proofs.ListLemmas.{no_last}
 use Rattle.components.proofs.ExploreLemmas.{opened_searching, explored}
 use Rattle.components.proofs.search.explore.Goals as goal

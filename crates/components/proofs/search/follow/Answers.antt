@@ -1,4 +1,4 @@
-use Rattle.std.proofs.Common.{◌<◌, length, arith, ap, inl, inr}
+use Rattle.std.proofs.Common.{◌<◌, length, arith, ap}
 use Rattle.std.proofs.lemmas.Result.{on_ok_weaker}
 use Rattle.components.specs.declared.search.Mark.TheVariants.{New, Open, Closed}
 use Rattle.components.specs.Search.{state_of}

@@ -1,4 +1,4 @@
-use Rattle.std.proofs.Common.{length, take, ◌-◌, ap, sym, ◌∙◌, arith}
+use Rattle.std.proofs.Common.{◌-◌, arith}
 use Rattle.components.proofs.StepLemmas.{cut_more}
 use Rattle.components.proofs.search.merge.Goals as goal
 

@@ -4,7 +4,7 @@ use Rattle.std.proofs.lemmas.Option.{get_or_from_slice_get}
 use Rattle.std.specs.Vec.{with_items}
 use Rattle.cyc_base.specs.declared.trit.Trit.TheVariants.{X, Zero}
 use Rattle.cyc_base.specs.Values.{bit}
-use Rattle.cover_logic.specs.Partial.{some_row_must_match, is_tautology, unknown_count, open_pins, open_rows}
+use Rattle.cover_logic.specs.Partial.{some_row_must_match, unknown_count, open_pins}
 use Rattle.cover_logic.proofs.OpenLemmas.{same_open, same_unknown_count}
 use Rattle.cover_logic.proofs.TautologyLemmas.{sure, never, decided, one_cofactor, first_fails, first_holds, unknown_count-set}
 use Rattle.cover_logic.proofs.extend.+tautology.Goals as goal

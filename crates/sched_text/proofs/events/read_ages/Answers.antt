@@ -1,5 +1,5 @@
-use Rattle.std.proofs.Common.{ap, sym, ◌∙◌, arith, Some, None}
-use Rattle.sched_text.proofs.Common.{if◌then◌else◌, BadLine, number}
+use Rattle.std.proofs.Common.{ap, sym, ◌∙◌, arith}
+use Rattle.sched_text.proofs.Common.{number}
 use Rattle.sched_text.proofs.AgeLemmas.{ages_next, ages_fault, ages_good, ages_end}
 use Rattle.sched_text.proofs.events.read_ages.Goals as goal
 

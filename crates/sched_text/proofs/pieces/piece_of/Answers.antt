@@ -1,6 +1,5 @@
-use Rattle.std.proofs.Common.{◌≡◌, false, ap, arith, rules}
-use Rattle.sched_text.proofs.Common.{option_map, lines, BadLine}
-use Rattle.blif_text.specs.declared.fault.TextFault.TheVariants.{BadByte}
+use Rattle.std.proofs.Common.{false, arith}
+use Rattle.sched_text.proofs.Common.{lines}
 use Rattle.sched_text.proofs.PieceLemmas.{found_good, found_lines, found_bad, found_numbers, found_within, refused}
 use Rattle.sched_text.proofs.pieces.piece_of.Goals as goal
 

@@ -1,5 +1,5 @@
 use Rattle.std.proofs.Common.{refl, arith}
-use Rattle.std.specs.Prelude.{OnOk, Ok, Err}
+use Rattle.std.specs.Prelude.{OnOk}
 use Rattle.std.specs.declared.result.Result.{Result}
 use Rattle.sched_text.proofs.SaidLemmas.{reads_back}
 use Rattle.sched_text.proofs.Common.{appended_then, appended_cut, appended_equal}

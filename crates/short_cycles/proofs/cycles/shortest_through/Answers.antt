@@ -1,6 +1,5 @@
-use Rattle.std.proofs.Common.{List, Option, sym, subst, None, Some, length, arith}
-use Rattle.short_cycles.specs.declared.search.Step.{Step}
-use Rattle.short_cycles.specs.Search.{IsRooted, IsWayBack, IsClosing}
+use Rattle.std.proofs.Common.{None, length, arith}
+use Rattle.short_cycles.specs.Search.{IsClosing}
 use Rattle.short_cycles.proofs.SearchLemmas.{search_is_rooted}
 use Rattle.short_cycles.proofs.CycleLemmas.{through_some, through_none}
 use Rattle.short_cycles.proofs.cycles.shortest_through.Goals as goal

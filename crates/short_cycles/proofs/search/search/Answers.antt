@@ -1,10 +1,9 @@
-use Rattle.std.proofs.Common.{◌≡◌, ◌+◌, ◌<◌, List, length, take, ◌++◌, sym, subst, arith, Option}
-use Rattle.std.specs.List.{All}
+use Rattle.std.proofs.Common.{◌≡◌, ◌+◌, List, length, take, ◌++◌, sym, subst, arith, Option}
 use Rattle.std.proofs.lemmas.Bool.Decides.{nat_tests}
 use Rattle.std.proofs.lemmas.List.{take_at}
 use Rattle.short_cycles.specs.declared.search.Step.{Step}
 use Rattle.short_cycles.specs.Search.{IsSearch, IsSearching, IsNextLevel}
-use Rattle.short_cycles.proofs.SearchLemmas.{only_root, searching_first_at, searching_more, searched_all, searched_limit, level_within}
+use Rattle.short_cycles.proofs.SearchLemmas.{searching_first_at, searching_more, searched_all, level_within}
 use Rattle.short_cycles.proofs.search.search.Goals as goal
 
 pub loop-depth-init : goal.loop-depth-init

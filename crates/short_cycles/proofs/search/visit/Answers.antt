@@ -1,8 +1,8 @@
-use Rattle.std.proofs.Common.{sym, ◌∙◌, refl, true≢false, arith}
+use Rattle.std.proofs.Common.{arith}
 use Rattle.std.proofs.lemmas.List.{get_or-set_same}
 use Rattle.std.specs.Prelude.{None}
 use Rattle.short_cycles.specs.Search.{LeadsTo}
-use Rattle.short_cycles.proofs.SearchLemmas.{Grown-refl, Grown-one, old_or_placed}
+use Rattle.short_cycles.proofs.SearchLemmas.{Grown-one}
 use Rattle.short_cycles.proofs.search.visit.Goals as goal
 
 pub returns-clause-grown : goal.returns-clause-grown

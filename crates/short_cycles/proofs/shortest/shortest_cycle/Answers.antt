@@ -1,6 +1,5 @@
-use Rattle.std.proofs.Common.{◌≡◌, List, Option, None, length, drop, sym, subst, arith}
-use Rattle.short_cycles.specs.declared.search.Step.{Step}
-use Rattle.short_cycles.specs.Search.{IsSearch, IsRooted, IsWayBack, IsBest, IsBestOf, IsNearestOf}
+use Rattle.std.proofs.Common.{◌≡◌, None, length, drop, arith}
+use Rattle.short_cycles.specs.Search.{IsSearch, IsWayBack, IsBest, IsBestOf, IsNearestOf}
 use Rattle.short_cycles.proofs.SearchLemmas.{search_is_rooted}
 use Rattle.short_cycles.proofs.CycleLemmas.{reaches_none, cycle_is_placed, is_shortest, split_first}
 use Rattle.short_cycles.proofs.shortest.shortest_cycle.Goals as goal

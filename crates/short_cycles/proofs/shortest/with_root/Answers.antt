@@ -1,6 +1,4 @@
-use Rattle.std.proofs.Common.{Some, None, length, arith}
-use Rattle.short_cycles.specs.Search.{IsLimitBelow, IsThrough, IsShortestThrough}
-use Rattle.short_cycles.proofs.CycleLemmas.{best_at_one, best_stays, best_changes}
+use Rattle.std.proofs.Common.{arith}
 use Rattle.short_cycles.proofs.shortest.with_root.Goals as goal
 
 pub returns-in_default : goal.returns-in_default

@@ -2,7 +2,7 @@
 use Rattle.std.proofs.Common.{◌≡◌, ◌++◌, ◌+◌, drop, append_assoc, append-nil, sym, ◌∙◌, ap, List, [], arith}
 use Rattle.std.proofs.lemmas.List.{at_drop_all}
 use Rattle.ternary_run.specs.declared.fanout.Read.{Read}
-use Rattle.ternary_run.specs.Reading.{reads_of_pins, reads_from, reads}
+use Rattle.ternary_run.specs.Reading.{reads_from, reads}
 use Rattle.ternary_run.proofs.ReadingLemmas.{reads_from-drop}
 use Rattle.ternary_run.proofs.fanout.all_reads.Goals as goal
 

@@ -1,5 +1,5 @@
 -- What this latch loads comes after what those before it load.
-use Rattle.std.proofs.Common.{◌≡◌, ◌++◌, ◌+◌, ◌<◌, [], ◌∷◌, drop, map, append_assoc, add-one, sym, ◌∙◌, ap, subst, ℕ, List, Some, append-nil, arith}
+use Rattle.std.proofs.Common.{◌≡◌, ◌++◌, ◌+◌, [], ◌∷◌, drop, map, append_assoc, add-one, sym, ◌∙◌, ap, ℕ, List, Some, append-nil, arith}
 use Rattle.std.proofs.lemmas.List.{at_drop_all}
 use Rattle.std.proofs.lemmas.Option.{get_or_from_slice_get, slice_get_within}
 use Rattle.std.specs.List.{slice_get}

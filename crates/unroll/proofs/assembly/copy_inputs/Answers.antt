@@ -1,5 +1,4 @@
-use Rattle.std.proofs.Common.{◌<◌, ◌++◌, ◌∷◌, [], length, ap₂, sym, ◌∙◌, arith}
-use Rattle.netlist.specs.Netlists.{driven_names}
+use Rattle.std.proofs.Common.{arith}
 use Rattle.unroll.proofs.Kept.{taken_first}
 use Rattle.unroll.proofs.assembly.copy_inputs.Goals as goal
 

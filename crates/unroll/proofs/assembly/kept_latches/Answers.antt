@@ -1,4 +1,4 @@
-use Rattle.std.proofs.Common.{◌++◌, ◌∷◌, [], ap₂, sym, ◌∙◌, arith}
+use Rattle.std.proofs.Common.{arith}
 use Rattle.unroll.proofs.Common.{kept_latch}
 use Rattle.unroll.proofs.Kept.{taken_mapped}
 use Rattle.unroll.proofs.assembly.kept_latches.Goals as goal

@@ -1,4 +1,4 @@
-use Rattle.std.proofs.Common.{◌<◌, ◌++◌, ◌∷◌, [], length, get_or, map, take, ap, ap₂, sym, ◌∙◌, arith}
+use Rattle.std.proofs.Common.{◌∷◌, [], get_or, map, take, arith}
 use Rattle.unroll.proofs.Common.{append_assoc, loops_in, net_of, copy_gate_by}
 use Rattle.std.proofs.lemmas.List.{map_more}
 use Rattle.unroll.proofs.copies.add_gates.Goals as goal

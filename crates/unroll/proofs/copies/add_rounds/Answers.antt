@@ -1,4 +1,4 @@
-use Rattle.std.proofs.Common.{◌≡◌, ◌<◌, ◌≤◌, ◌++◌, ℕ, suc, List, length, map, All, ap, sym, ◌∙◌, subst, arith}
+use Rattle.std.proofs.Common.{◌≡◌, ◌≤◌, ◌++◌, suc, length, map, ap, ◌∙◌, arith}
 use Rattle.unroll.proofs.Common.{length-replicate, first_gate, loops_in, net_of, sweeps_in, most, constants, copies_upto, copy_gate}
 use Rattle.unroll.proofs.Places.{copied_within}
 use Rattle.unroll.proofs.Rounds.{none_made, none_entered, all_entered, round_fits, made_next}

@@ -1,5 +1,5 @@
-use Rattle.std.proofs.Common.{◌≡◌, ◌<◌, ℕ, List, length, All, ap, sym, ◌∙◌, subst, arith}
-use Rattle.unroll.proofs.Common.{get_or-range_with_len, length-range_with_len, range_with_len, Parts, net_of}
+use Rattle.std.proofs.Common.{◌≡◌, ◌<◌, ℕ, List, All, arith}
+use Rattle.unroll.proofs.Common.{get_or-range_with_len, length-range_with_len, range_with_len}
 use Rattle.unroll.proofs.copies.copied_gates.Goals as goal
 
 range_within : (n : ℕ) (xs : List ℕ) → xs ≡ range_with_len 0 n → All (λ k. k < n) xs

@@ -1,4 +1,4 @@
-use Rattle.std.proofs.Common.{◌<◌, length, get_or, set, ap₂, sym, ◌∙◌, arith, length-set}
+use Rattle.std.proofs.Common.{arith, length-set}
 use Rattle.unroll.proofs.Common.{get_or_default}
 use Rattle.unroll.proofs.TableLemmas.{entered_more}
 use Rattle.unroll.proofs.copies.enter.Goals as goal

@@ -1,4 +1,4 @@
-use Rattle.std.proofs.Common.{max, ap₂, sym, ◌∙◌, arith}
+use Rattle.std.proofs.Common.{arith}
 use Rattle.unroll.proofs.MarkLemmas.{with_clock}
 use Rattle.unroll.proofs.names.longest_run_in.Goals as goal
 

@@ -1,9 +1,8 @@
-use Rattle.std.proofs.Common.{◌≡◌, ℕ, inl, inr, None, Some, ap, sym, subst, ◌∙◌, arith}
+use Rattle.std.proofs.Common.{◌≡◌, ℕ, sym, subst, ◌∙◌, arith}
 use Rattle.unroll.proofs.Common.{Parts, Loops, AreLoopsOf, loops_by, sweeps_of, unrolled, IsOfLoops}
 use Rattle.netlist.specs.Walks.{IsLoopFree}
-use Rattle.netlist.specs.Faults.{first_fault}
 use Rattle.netlist.proofs.Validity.{no_fault_of_netlist}
-use Rattle.unroll.specs.Laws.{KeepsInterface, TellsAsMuchAt}
+use Rattle.unroll.specs.Laws.{KeepsInterface}
 use Rattle.unroll.proofs.Counts.{looped_loops, looped_sweeps}
 use Rattle.unroll.proofs.Measures.{size_is_shift}
 use Rattle.unroll.proofs.Opened.{unrolled_is_loop_free}

@@ -1,5 +1,5 @@
-use Rattle.std.proofs.Common.{◌≡◌, slice_get, Some, refl, sym, ap, ◌∙◌, arith, Ok, Err, inl, inr, eq-eqb, true≢false}
-use Rattle.bdd_store.proofs.Common.{slice_get_within, Node, Entry, KeepsNodes}
+use Rattle.std.proofs.Common.{◌≡◌, slice_get, Some, refl, sym, ap, arith, Err}
+use Rattle.bdd_store.proofs.Common.{slice_get_within, Entry, KeepsNodes}
 use Rattle.bdd_store.specs.contracts.store.Store.{the_view}
 use Rattle.std.proofs.lemmas.Result.{err_from_is_err_and}
 use Rattle.bdd_store.specs.Growth.{IsEntered}

@@ -1,5 +1,5 @@
-use Rattle.std.proofs.Common.{◌≤◌, ◌+◌, List, [], length, refl, ap, ◌∙◌, arith}
-use Rattle.bdd_store.proofs.Common.{Entry, Arena, AreMarks, AreMoved}
+use Rattle.std.proofs.Common.{◌≤◌, [], length, refl, arith}
+use Rattle.bdd_store.proofs.Common.{Arena, AreMarks, AreMoved}
 use Rattle.bdd_store.specs.contracts.store.Store.{the_view}
 use Rattle.bdd_store.proofs.MakeLemmas.{with_entries}
 use Rattle.bdd_store.proofs.SweepLemmas.{AreClosed-marks, root-placed, swept-few, swept-count, swept-within, swept-roots, swept-reached}

@@ -1,7 +1,6 @@
-use Rattle.std.proofs.Common.{sym, arith}
+use Rattle.std.proofs.Common.{arith}
 use Rattle.bdd_store.proofs.ValueLemmas.{not_branching, top_of-low}
 use Rattle.bdd_store.proofs.BranchLemmas.{entry-top, entry-within}
-use Rattle.bdd_store.specs.contracts.store.Store.{the_view}
 use Rattle.bdd_store.proofs.store.Store.top.Goals as goal
 
 pub returns-then-is_branching-clause-variable : goal.returns-then-is_branching-clause-variable

@@ -1,4 +1,4 @@
-use Rattle.std.proofs.Common.{ap, sym, ◌∙◌, not, arith}
+use Rattle.std.proofs.Common.{arith}
 use Rattle.bdd_store.proofs.ValueLemmas.{node_value-low, not_branching}
 use Rattle.bdd_store.proofs.store.Store.value.Goals as goal
 

@@ -1,4 +1,4 @@
-use Rattle.std.proofs.Common.{◌∙◌, ap, arith, not}
+use Rattle.std.proofs.Common.{arith}
 use Rattle.components.proofs.PieceLemmas.{length-pieces, Adds, adds}
 use Rattle.components.proofs.graph.Graph.add_node.Goals as goal
 

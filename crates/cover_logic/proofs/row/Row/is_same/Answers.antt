@@ -1,7 +1,6 @@
-use Rattle.std.proofs.Common.{◌≡◌, Decides, ap, refl, arith}
+use Rattle.std.proofs.Common.{◌≡◌, Decides, arith}
 use Rattle.std.proofs.lemmas.Slice.Eq.{slice_eq-Decides}
 use Rattle.cover_logic.specs.declared.row.Lit.{Lit}
-use Rattle.cover_logic.specs.declared.row.Lit.TheVariants.{Zero, One, Any}
 use Rattle.cover_logic.specs.contracts.row.LitPartialEq.TheImpl.{eq-value}
 use Rattle.cover_logic.proofs.row.Row.is_same.Goals as goal
 

@@ -3,7 +3,7 @@ use Rattle.sched_text.proofs.Common.{is_tick, seen, follow}
 use Rattle.sched_text.specs.declared.fault.SchedFault.TheVariants.{Memory}
 use Rattle.sched_text.specs.ReadingOn.{FailsPiece}
 use Rattle.sched_text.proofs.PieceLemmas.{is_err}
-use Rattle.sched_text.proofs.ReadingLemmas.{nothing_read, piece_next, piece_fault}
+use Rattle.sched_text.proofs.ReadingLemmas.{piece_next, piece_fault}
 use Rattle.sched_text.proofs.line.LineReader.take_piece.Goals as goal
 
 pub loop-i-init : goal.loop-i-init

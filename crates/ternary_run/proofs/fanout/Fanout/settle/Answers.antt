@@ -1,8 +1,6 @@
 -- The gates stay below the fixpoint, and the work falls, whether the gate is determined or not.
-use Rattle.std.proofs.Common.{◌≡◌, ◌<◌, [], length, ◌∙◌, ap, arith}
-use Rattle.cyc_base.specs.declared.sig.Sig.{Sig}
+use Rattle.std.proofs.Common.{length, arith}
 use Rattle.cyc_base.proofs.ListLemmas.{empty_list}
-use Rattle.netlist.specs.Netlists.{count, gate_sig}
 use Rattle.ternary_run.proofs.SettlingLemmas.{settling_starts_at, settled_at, gate_unchanged_at, gate_determined_at, determined_falls_at, unchanged_falls_at, waiting_gate, length-settling}
 use Rattle.ternary_run.proofs.fanout.Fanout.settle.Goals as goal
 

@@ -1,6 +1,5 @@
 -- There is a value for each signal, and so for what the outputs and the latches read.
-use Rattle.std.proofs.Common.{◌≡◌, ◌∙◌, ◌+◌, ◌++◌, ap, length, arith, length-append}
-use Rattle.netlist.specs.Netlists.{count}
+use Rattle.std.proofs.Common.{arith, length-append}
 use Rattle.ternary_run.proofs.SettlingLemmas.{length-fix}
 use Rattle.ternary_run.proofs.fanout.Fanout.tick.Goals as goal
 
