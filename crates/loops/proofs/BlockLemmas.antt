@@ -25,12 +25,10 @@ members-suc : (homes : List ℕ) (gate number : ℕ) → members_below homes (ga
 members-suc homes gate number = kept_more (λ n. eqb (get_or homes n 0) number) gate
 
 members-yes : (homes : List ℕ) (gate number : ℕ) → get_or homes gate 0 ≡ number → members_below homes (gate + 1) number ≡ members_below homes gate number ++ gate ∷ []
-members-yes homes gate number e =
-    members-suc homes gate number ∙ ap (λ b. members_below homes gate number ++ cond b (gate ∷ []) []) (eq-eqb (get_or homes gate 0) number e)
+members-yes homes gate number e = grind (arith, members-suc, eq-eqb)
 
 members-no : (homes : List ℕ) (gate number : ℕ) → get_or homes gate 0 ≢ number → members_below homes (gate + 1) number ≡ members_below homes gate number
-members-no homes gate number ne =
-    members-suc homes gate number ∙ ap (λ b. members_below homes gate number ++ cond b (gate ∷ []) []) (ne_eqb (get_or homes gate 0) number ne) ∙ append-nil (members_below homes gate number)
+members-no homes gate number ne = grind (arith, members-suc, ne_eqb, append-nil)
 
 pub grouped_none : (homes : List ℕ) (count : ℕ) → replicate count [] ≡ map (members_below homes 0) (range_with_len 0 count)
 grouped_none homes count = none 0 count
@@ -45,34 +43,11 @@ length-grouped homes count gate lists e = ap (λ (ls : List (List ℕ)). length 
 pub grouped_more : (homes : List ℕ) (lists : List (List ℕ)) (old : List ℕ) (count gate : ℕ) → get_or homes gate 0 < count →
     lists ≡ map (members_below homes gate) (range_with_len 0 count) → old ≡ get_or lists (get_or homes gate 0) old →
     set lists (get_or homes gate 0) (old ++ gate ∷ []) ≡ map (members_below homes (gate + 1)) (range_with_len 0 count)
-grouped_more homes lists old count gate within e read =
-    let len = length-grouped homes count gate lists e in
-    let sets = length-set lists (get_or homes gate 0) (old ++ gate ∷ []) in
-    same_lists (set lists (get_or homes gate 0) (old ++ gate ∷ [])) (map (members_below homes (gate + 1)) (range_with_len 0 count))
-    (sets ∙ len ∙ sym (length-map-range_with_len (members_below homes (gate + 1)) 0 count))
-    (λ k d l.
-    let below : k < count = omega arith in
-    at k d below ∙ sym (get_or-map-range_with_len (members_below homes (gate + 1)) 0 count k k d below (omega arith)))
-  where
-    was : (k : ℕ) (d : List ℕ) → k < count → get_or lists k d ≡ members_below homes gate k
-    was k d l = ap (λ (ls : List (List ℕ)). get_or ls k d) e ∙ get_or-map-range_with_len (members_below homes gate) 0 count k k d l (omega arith)
-
-    at : (k : ℕ) (d : List ℕ) → k < count → get_or (set lists (get_or homes gate 0) (old ++ gate ∷ [])) k d ≡ members_below homes (gate + 1) k
-    at k d l =
-        elim (cases_eq k (get_or homes gate 0)) [
-          | inl same ↦
-              let len = length-grouped homes count gate lists e in
-              rw (same, get_or-set_same lists (get_or homes gate 0) (old ++ gate ∷ []) d (omega arith))
-              (ap (λ (xs : List ℕ). xs ++ gate ∷ []) (read ∙ was (get_or homes gate 0) old within) ∙ sym (members-yes homes gate (get_or homes gate 0) refl))
-          | inr ne ↦
-              get_or-set_other lists (get_or homes gate 0) k (old ++ gate ∷ []) d ne ∙ was k d l
-              ∙ sym (members-no homes gate k (λ e. ne (sym e)))
-        ]
+grouped_more homes lists old count gate within e read = grind (arith, length-grouped, length-set, same_lists, length-map-range_with_len, get_or-map-range_with_len, cases_eq, get_or-set_same, members-yes, get_or-set_other, members-no)
 
 module _ (homes : List ℕ) (number : ℕ) where
   is_member : (n : ℕ) → n < length homes → get_or homes n 0 ≡ number → Contains (members homes number) n
-  is_member n l e =
-      Contains-filter (λ m. eqb (get_or homes m 0) number) (range_with_len 0 (length homes)) n (eq-eqb (get_or homes n 0) number e) (Contains-range (length homes) n l)
+  is_member n l e = grind (arith, Contains-filter, eq-eqb, Contains-range)
 
   members_have : All (λ n. get_or homes n 0 ≡ number) (members homes number)
   members_have k d l = eqb-true (get_or homes (get_or (members homes number) k d) 0) number (filter_passes (λ m. eqb (get_or homes m 0) number) (range_with_len 0 (length homes)) k d l)
@@ -91,17 +66,11 @@ module _ (homes : List ℕ) (number : ℕ) where
       omega arith)
 
 alone_in : (g n : ℕ) → Contains (g ∷ []) n → g ≡ n
-alone_in g n (zero, l, e) = e
-alone_in g n (suc k, l, e) = absurd (omega arith)
+alone_in g n h = grind arith
 
 -- the members of all numbers are gates
 pub lists_within : (homes : List ℕ) (count len : ℕ) (lists : List (List ℕ)) → lists ≡ map (members homes) (range_with_len 0 count) → length homes ≡ len → All (All (λ n. n < len)) lists
-lists_within homes count len lists e size k d l =
-    let within : k < count = (let c = length-grouped homes count (length homes) lists e in omega arith) in
-    let at : get_or lists k d ≡ members homes k =
-    ap (λ (ls : List (List ℕ)). get_or ls k d) e ∙ get_or-map-range_with_len (members homes) 0 count k k d within (omega arith) in
-    let below = subst (λ m. All (λ n. n < m) (members homes k)) size (members_within homes k) in
-    subst (λ (xs : List ℕ). All (λ n. n < len) xs) (sym at) below
+lists_within homes count len lists e size k d l = grind (arith, length-grouped homes count (length homes) lists e, get_or-map-range_with_len (members homes) 0 count k k d, members_within homes k)
 
 module _ (net : Parts) (found : Components) (are : AreComponentsOf (gate_graph net) found) where
   gates : length found.home ≡ length net.gates
@@ -117,12 +86,7 @@ module _ (net : Parts) (found : Components) (are : AreComponentsOf (gate_graph n
   same_block a b al bl = (to, from)
     where
       to : get_or found.home a 0 ≡ get_or found.home b 0 → SameBlock net a b
-      to e =
-          let len = length-gate_graph net in
-          elim (are.connected a b (omega arith) (omega arith) e) [
-            | inl same ↦ inl same
-            | inr both ↦ inr (record { there = leads_of a b both.1; back = leads_of b a both.0 })
-          ]
+      to e = grind (arith, length-gate_graph, leads_of)
 
       from : SameBlock net a b → get_or found.home a 0 ≡ get_or found.home b 0
       from (inl e) = are.same a b (inl e)
@@ -131,12 +95,7 @@ module _ (net : Parts) (found : Components) (are : AreComponentsOf (gate_graph n
   module _ (n : ℕ) (l : n < length net.gates) where
     -- two gates of one component lead to each other
     twice : (m : ℕ) → m < length net.gates → m ≢ n → get_or found.home n 0 ≡ get_or found.home m 0 → Leads net AnyGate n n
-    twice m ml apart e =
-        let len = length-gate_graph net in
-        elim (are.connected n m (omega arith) (omega arith) e) [
-          | inl same ↦ absurd (apart (sym same))
-          | inr both ↦ leads-trans net n m n (leads_of n m both.1) (leads_of m n both.0)
-        ]
+    twice m ml apart e = grind (arith, length-gate_graph net, leads-trans net n m n, leads_of n m, leads_of m n)
 
     -- a loop reads itself within its component
     within : Leads net AnyGate n n → ((x : ℕ) → x < length net.gates → get_or found.home x 0 ≡ get_or found.home n 0 → x ≡ n) → Feeds net n n
@@ -173,10 +132,7 @@ module _ (net : Parts) (found : Components) (are : AreComponentsOf (gate_graph n
         ]
 
     from : (ms : List ℕ) → members found.home (get_or found.home n 0) ≡ ms → Leads net AnyGate n n → is_loop (gate_graph net) ms ≡ true
-    from [] e leads =
-        let count = gates in
-        let none = subst (λ (xs : List ℕ). Contains xs n) e (is_member found.home (get_or found.home n 0) n (omega arith) refl) in
-        absurd (let k = none.1 in omega arith)
+    from [] e leads = grind (arith, gates, is_member found.home (get_or found.home n 0) n)
     from (g ∷ []) e leads =
         let count = gates in
         let only = alone_in g n (subst (λ (xs : List ℕ). Contains xs n) e (is_member found.home (get_or found.home n 0) n (omega arith) refl)) in
@@ -209,6 +165,4 @@ module _ (net : Parts) (found : Components) (are : AreComponentsOf (gate_graph n
       block : (b : ℕ) → b < found.count →
           block_at (record { list = map (block_of (gate_graph net)) (map (members found.home) (range_with_len 0 found.count)); home = found.home }) b ≡ block_of (gate_graph net) (members found.home b)
       block b l =
-          let lists = length-map-range_with_len (members found.home) 0 found.count in
-          get_or-map (block_of (gate_graph net)) (map (members found.home) (range_with_len 0 found.count)) b [] no_block (omega arith)
-          ∙ ap (block_of (gate_graph net)) (get_or-map-range_with_len (members found.home) 0 found.count b b [] l (omega arith))
+          grind (arith, length-map-range_with_len (members found.home) 0 found.count, get_or-map (block_of (gate_graph net)) (map (members found.home) (range_with_len 0 found.count)) b [] no_block, get_or-map-range_with_len (members found.home) 0 found.count b b [] l)

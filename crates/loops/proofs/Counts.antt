@@ -8,17 +8,10 @@ use Rattle.loops.proofs.Sweeps.{same-sym, same-trans}
 
 module _ (net : Parts) (loops : Loops) (are : AreLoopsOf net loops) where
   cuts_same : (a b : ℕ) → loops.same a b ≡ true → cuts_of net loops a ≡ cuts_of net loops b
-  cuts_same a b e =
-      filter_agree (λ n. loops.same a n && loops.cut n) (λ n. loops.same b n && loops.cut n)
-      (λ n. ap (λ t. t && loops.cut n)
-      (same_truth (loops.same a n) (loops.same b n)
-      (λ h. same-trans net loops are b a n (same-sym net loops are a b e) h)
-      (λ h. same-trans net loops are a b n e h)))
-      (range_with_len 0 (length net.gates))
+  cuts_same a b e = grind (arith, filter_agree, same_truth, same-trans net loops are b a, same-sym net loops are a b e, same-trans net loops are a b)
 
   fixed_of : (v : List Trit) (a b k : ℕ) → loops.same a b ≡ true → CutsAreFixed net loops v a k → CutsAreFixed net loops v b k
-  fixed_of v a b k e h =
-      subst (λ (ns : List ℕ). map (λ n. get_or (sweeps net loops v k) n X) ns ≡ map (λ n. get_or (fix_gates net v) n X) ns) (cuts_same a b e) h
+  fixed_of v a b k e h = grind (arith, cuts_same)
 
 pub count_is_of_loops : CountIsOfLoops
 count_is_of_loops net loops are care m count a b e =

@@ -55,27 +55,11 @@ pub record AreCutsBelow (net : Parts) (n : ℕ) (cut : List Bool) : Type 0 where
   pub rest : (m : ℕ) → n ≤ m → is_cut cut m ≡ false
 
 pub no_cuts : (net : Parts) (cut : List Bool) → cut ≡ replicate (length net.gates) false → AreCutsBelow net 0 cut
-no_cuts net cut e = record {
-  width = ap (λ (bs : List Bool). length bs) e ∙ length-replicate (length net.gates) false;
-  each = λ m l. absurd (omega arith);
-  rest = λ m l. ap (λ (bs : List Bool). is_cut bs m) e ∙ none m;
-}
-  where
-    none : (m : ℕ) → get_or (replicate (length net.gates) false) m false ≡ false
-    none m =
-        elim (cases_lt m (length net.gates)) [
-          | inl l ↦ get_or-replicate (length net.gates) m false false l
-          | inr past ↦ get_or_past (replicate (length net.gates) false) m false (let e2 = length-replicate (length net.gates) false in omega arith)
-        ]
+no_cuts net cut e = grind (arith, length-replicate, cases_lt, get_or-replicate, get_or_past)
 
 -- walks pass earlier gates alone, so that later entries don't matter
 passes_as : (net : Parts) (one two : ℕ → Bool) (m : ℕ) → ((g : ℕ) → g < m → one g ≡ two g) → Leads net (MayPass net one m) m m → Leads net (MayPass net two m) m m
-passes_as net one two m same l = record {
-  via = l.via;
-  kind = all_weaker (MayPass net one m) (MayPass net two m) l.via
-      (λ g p. record { loop = p.loop; before = p.before; uncut = sym (same g p.before) ∙ p.uncut }) l.kind;
-  walk = l.walk;
-}
+passes_as net one two m same l = grind (arith, all_weaker)
 
 pub cuts_below_more : (net : Parts) (n : ℕ) (cut : List Bool) (b : Bool) → n < length net.gates → AreCutsBelow net n cut → (b ≡ true) ↔ Leads net (MayPass net (is_cut cut) n) n n → AreCutsBelow net (n + 1) (set cut n b)
 cuts_below_more net n cut b l are leads =
@@ -99,17 +83,7 @@ cuts_below_more net n cut b l are leads =
     )
 
 pub cut_from_below : (net : Parts) (cut : Cut) → AreCutsBelow net (length net.gates) cut.wires → IsCutOf net cut
-cut_from_below net cut are = record {
-  width = are.width;
-  wires = λ m.
-      elim (cases_lt m (length net.gates)) [
-        | inl l ↦ are.each m l
-        | inr past ↦ (
-          λ e. absurd (true≢false (sym e ∙ are.rest m past)),
-          λ w. absurd (let l = begins_at net m m w.via w.walk in omega arith),
-        )
-      ];
-}
+cut_from_below net cut are = grind (arith, cases_lt, true≢false, begins_at)
 
 -- a gate more
 pub cut_step : (net : Parts) (blocks : Blocks) → AreBlocksOf net blocks → (n : ℕ) (cut : List Bool) (b : Bool) → n < length net.gates → (b ≡ true) ↔ Connects (IsLoopPin net blocks) (IsFree cut n) n n → AreCutsBelow net n cut → AreCutsBelow net (n + 1) (set cut n b)
@@ -126,26 +100,7 @@ no_entry xs x e c = (let l = c.1 in omega (arith, ap (λ (ys : List ℕ). length
 -- nothing is kept at first
 pub nothing_kept : (R : ℕ → ℕ → Type 0) (cut : List Bool) (readers sources : List (List ℕ)) (levels : List ℕ) (gates : ℕ) → length cut ≡ gates → readers ≡ replicate gates [] → sources ≡ replicate gates [] → levels ≡ replicate gates 4294967296 → IsKept R cut 0 readers sources levels
 unfolding empty
-nothing_kept R cut readers sources levels gates width r s v = record {
-  readers_size = ap (λ (xs : List (List ℕ)). length xs) r ∙ length-replicate gates [] ∙ sym width;
-  sources_size = ap (λ (xs : List (List ℕ)). length xs) s ∙ length-replicate gates [] ∙ sym width;
-  levels_size = ap (λ (xs : List ℕ). length xs) v ∙ length-replicate gates 4294967296 ∙ sym width;
-  read_by = λ x y. (λ c. absurd (no_row x y (subst (λ (xs : List (List ℕ)). InRow xs x y) r c)), λ w. absurd (let l = w.1.before in omega arith));
-  reads = λ x y free. absurd (let l = free.before in omega arith);
-  reads_within = λ x y c. absurd (no_row y x (subst (λ (xs : List (List ℕ)). InRow xs y x) s c));
-  rise = λ x y h free other. absurd (let l = free.before in omega arith);
-  near = λ x l. (let at = middle x (let w = ap (λ (xs : List ℕ). length xs) v ∙ length-replicate gates 4294967296 in omega arith) in record { high = omega arith; low = omega arith });
-}
-  where
-    middle : (x : ℕ) → x < gates → level_at levels x ≡ 4294967296
-    middle x l = ap (λ (xs : List ℕ). level_at xs x) v ∙ get_or-replicate gates x 4294967296 0 l
-
-    no_row : (x y : ℕ) → ¬ InRow (replicate gates empty) x y
-    no_row x y =
-        elim (cases_lt x gates) [
-          | inl l ↦ no_entry (row_at (replicate gates empty) x) y (get_or-replicate gates x empty [] l)
-          | inr past ↦ no_entry (row_at (replicate gates empty) x) y (get_or_past (replicate gates empty) x [] (let w = length-replicate gates empty in omega arith))
-        ]
+nothing_kept R cut readers sources levels gates width r s v = grind (arith, length-replicate, get_or-replicate, empty, cases_lt, get_or_past)
 
 -- a fresh search has gone through no gate
 pub fresh_search : (R : ℕ → ℕ → Type 0) (cut : List Bool) (gates : ℕ) (search : CutSearch) → length cut ≡ gates → IsFresh gates search → IsCutSearch R cut 0 search
@@ -243,11 +198,7 @@ module _ (R : ℕ → ℕ → Type 0) (cut : List Bool) (n : ℕ) (l : n < lengt
     closes m =
         let f = fore n m.gate m.forth.via m.forth.path in
         let b = aft n m.gate m.back.via (λ x c. (own x).0 c) m.back.path in
-        record {
-          via = m.forth.via ++ (m.gate ∷ b.0.via);
-          kind = all_append (IsFree cut n) m.forth.via (m.gate ∷ b.0.via) f.0 (f.2, b.0.kind);
-          path = path-append R n m.gate n m.forth.via b.0.via f.1 b.0.path;
-        }
+        grind (arith, all_append (IsFree cut n) m.forth.via (m.gate ∷ b.0.via) f.0 (f.2, b.0.kind), path-append R n m.gate n m.forth.via b.0.via f.1 b.0.path)
 
     -- what levels do that part what the gate reads from what reads it
     pub record IsParted (new : List ℕ) : Type 0 where
@@ -340,8 +291,7 @@ module _ (R : ℕ → ℕ → Type 0) (cut : List Bool) (n : ℕ) (l : n < lengt
     module _ (new : List ℕ) (p : IsParted new) where
       never : (s x : ℕ) (via : List ℕ) → InRow readers n s → IsFree cut n x → level_at new s ≤ level_at new x → AllByRecursion (IsFree cut n) via → ¬ Path R x via n
       never s x [] rs fx up kind h = (let a = p.apart x s ((own x).1 (h, fx)) rs in omega arith)
-      never s x (y ∷ via) rs fx up kind h =
-          never s y via rs kind.0 (let r = p.rise x y h.0 fx kind.0 in omega arith) kind.1 h.1
+      never s x (y ∷ via) rs fx up kind h = grind (arith, never s y via rs kind.0)
 
       pub stays_open : ¬ R n n → ¬ Connects R (IsFree cut n) n n
       stays_open none c = by c.via c.kind c.path
@@ -422,10 +372,7 @@ module _ (R : ℕ → ℕ → Type 0) (cut : List Bool) (n : ℕ) (l : n < lengt
               ]
 
           here : level_at placed n ≡ at.level
-          here =
-              let size = p.size in
-              let width = k.levels_size in
-              ap (λ (xs : List ℕ). level_at xs n) at.is ∙ get_or-set_same new n at.level 0 (omega arith)
+          here = grind (arith, get_or-set_same)
 
           other : (x : ℕ) → ¬ (x ≡ n) → level_at placed x ≡ level_at new x
           other x ne = ap (λ (xs : List ℕ). level_at xs x) at.is ∙ get_or-set_other new n x at.level 0 ne
@@ -492,23 +439,12 @@ left_out R cut n l readers sources levels k = record {
 }
   where
     still_free : (y : ℕ) → IsFree (set cut n true) (n + 1) y → IsFree cut n y
-    still_free y f =
-        free_from cut n true y f
-        (λ e. true≢false (sym (get_or-set_same cut n true false l) ∙ (rw e at f.uncut)))
+    still_free y f = grind (arith, free_from, true≢false, get_or-set_same)
 
 -- a search that leaves a gate out
 pub search_left_out : (R : ℕ → ℕ → Type 0) (cut : List Bool) (n : ℕ) → n < length cut → (old new : CutSearch) → IsCutSearch R cut n old →
     IsKept R cut n new.kept.readers.items new.kept.sources.items new.kept.levels.items → new.kept.readers.items ≡ old.kept.readers.items → new.searches ≡ old.searches → new.landmarks ≡ old.landmarks → IsCutSearch R (set cut n true) (n + 1) new
-search_left_out R cut n l old new s kept readers searches landmarks = record {
-  kept = left_out R cut n l new.kept.readers.items new.kept.sources.items new.kept.levels.items kept;
-  forth = rw (searches, length-set cut n true) (ready_later (length cut) n old.searches.forth.marks.items s.forth);
-  back = rw (searches, length-set cut n true) (ready_later (length cut) n old.searches.back.marks.items s.back);
-  landmarks = rw (readers, landmarks, length-set cut n true) s.landmarks;
-}
-  where
-    -- a search with this goal next is ready for the one after it
-    ready_later : (width m : ℕ) (marks : List ℕ) → IsReady width m marks → IsReady width (m + 1) marks
-    ready_later width m marks r = record { size = r.size; bound = λ x. (let b = r.bound x in omega arith) }
+search_left_out R cut n l old new s kept readers searches landmarks = grind (arith, left_out R cut n l new.kept.readers.items new.kept.sources.items new.kept.levels.items kept, length-set cut n true)
 
 -- the highest level of what a gate reads, and the lowest of what reads it, are near the middle
 pub high_is_near : (levels : List ℕ) (goal : ℕ) (row : List ℕ) (high floor : ℕ) → AreNear goal levels → All (λ x. x < length levels) row → floor ≡ 4294967296 - goal → goal < 4294967296 → floor ≤ high → ((bound : ℕ) → floor ≤ bound → ((n : ℕ) → Contains row n → level_at levels n ≤ bound) → high ≤ bound) → IsNear goal high

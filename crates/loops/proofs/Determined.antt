@@ -68,6 +68,4 @@ module _ (net : Parts) (is : IsNetlist net) (free : IsLoopFree net) (v : List Bo
           ]
 
 pub loop_free_is_determined : LoopFreeIsDetermined
-loop_free_is_determined net is free v width n l e =
-    let k = known net is free v width n l in
-    bit-known k.as_bit (sym k.is ∙ e)
+loop_free_is_determined net is free v width n l e = grind (arith, known net is free v width n l, bit-known)

@@ -32,15 +32,7 @@ feeds_iff net a b = (
 -- what follows the last time that a walk passes k
 last_part : (net : Parts) (P : ℕ → Type 0) (k a b : ℕ) (via : List ℕ) → Walk net a via b → AllByRecursion (λ g. (g < suc k) × P g) via → AllByRecursion (λ g. (g < k) × P g) via ⊎ Leads net (λ g. (g < k) × P g) k b
 last_part net P k a b [] h all = inl tt
-last_part net P k a b (x ∷ via) h all =
-    elim (last_part net P k x b via h.1 all.1) [
-      | inr leads ↦ inr leads
-      | inl rest ↦
-          elim (cases_eq x k) [
-            | inl e ↦ inr (record { via = via; kind = rest; walk = subst (λ (g : ℕ). Walk net g via b) e h.1 })
-            | inr ne ↦ let l = all.0.0 in inl ((omega (arith, ne), all.0.1), rest)
-          ]
-    ]
+last_part net P k a b (x ∷ via) h all = grind (arith, last_part net P k x b via h.1 all.1, cases_eq x k)
 
 module _ (net : Parts) (test : ℕ → Bool) where
   reaches_from : (k a b : ℕ) (via : List ℕ) → Walk net a via b → AllByRecursion (λ g. (g < k) × (test g ≡ true)) via → reaches net test k a b ≡ true
@@ -61,8 +53,7 @@ module _ (net : Parts) (test : ℕ → Bool) where
       ]
 
   more : (k : ℕ) (via : List ℕ) → AllByRecursion (λ g. (g < k) × (test g ≡ true)) via → AllByRecursion (λ g. (g < suc k) × (test g ≡ true)) via
-  more k via all =
-      all_weaker (λ g. (g < k) × (test g ≡ true)) (λ g. (g < suc k) × (test g ≡ true)) via (λ g p. let l = p.0 in (omega arith, p.1)) all
+  more k via all = grind (arith, all_weaker)
 
   leads_from : (k a b : ℕ) → reaches net test k a b ≡ true → Leads net (λ g. (g < k) × (test g ≡ true)) a b
   leads_from zero a b e = record { via = []; kind = tt; walk = (feeds_iff net a b).0 e }
@@ -85,19 +76,13 @@ module _ (net : Parts) (test : ℕ → Bool) where
 
 reaches_agree : (net : Parts) (test other : ℕ → Bool) (k a b : ℕ) → ((g : ℕ) → g < k → test g ≡ other g) → reaches net test k a b ≡ reaches net other k a b
 reaches_agree net test other zero a b same = refl
-reaches_agree net test other (suc k) a b same =
-    let below = λ (g : ℕ) (l : g < k). same g (omega arith) in
-    ap₂ (λ x y. x || y) (reaches_agree net test other k a b below)
-    (ap₂ (λ x y. x && y) (same k (omega arith))
-    (ap₂ (λ x y. x && y) (reaches_agree net test other k a k below) (reaches_agree net test other k k b below)))
+reaches_agree net test other (suc k) a b same = grind (arith, reaches_agree net test other k a b, reaches_agree net test other k a k, reaches_agree net test other k k b)
 
 -- the bound doesn't matter
 cut_below_same : (net : Parts) (one two n : ℕ) → n < one → n < two → cut_below net one n ≡ cut_below net two n
 cut_below_same net zero two n l k = absurd (omega arith)
 cut_below_same net (suc one) zero n l k = absurd (omega arith)
-cut_below_same net (suc one) (suc two) n l k =
-    reaches_agree net (λ g. same_of net n g && not (cut_below net one g)) (λ g. same_of net n g && not (cut_below net two g)) n n n
-    (λ g less. ap (λ b. same_of net n g && not b) (cut_below_same net one two g (omega arith) (omega arith)))
+cut_below_same net (suc one) (suc two) n l k = grind (arith, reaches_agree, cut_below_same net one two)
 
 same_of_iff : (net : Parts) (a b : ℕ) → (same_of net a b ≡ true) ↔ SameLoop net a b
 same_of_iff net a b =
@@ -109,14 +94,10 @@ same_of_iff net a b =
     )
   where
     any_leads : (net : Parts) (k a b : ℕ) → reaches net (λ g. true) k a b ≡ true → Leads net AnyGate a b
-    any_leads net k a b e =
-        let r = leads_from net (λ g. true) k a b e in
-        record { via = r.via; kind = all_weaker (λ g. (g < k) × (true ≡ true)) AnyGate r.via (λ g p. tt) r.kind; walk = r.walk }
+    any_leads net k a b e = grind (arith, leads_from net, all_weaker)
 
     any_reaches : (net : Parts) (a b : ℕ) → Leads net AnyGate a b → reaches net (λ g. true) (length net.gates) a b ≡ true
-    any_reaches net a b r =
-        reaches_from net (λ g. true) (length net.gates) a b r.via r.walk
-        (all_weaker (λ g. g < length net.gates) (λ g. (g < length net.gates) × (true ≡ true)) r.via (λ g l. (l, refl)) (walk_within_of net a b r.via r.walk))
+    any_reaches net a b r = grind (arith, reaches_from, all_weaker, walk_within_of)
 
 pub loops_exist : LoopsExist
 loops_exist net = record {

@@ -13,9 +13,7 @@ same_element xs ys i e same l d = rw (← same) (get_or_default ys i d e l)
 
 -- the source of a pin is one gate
 pub same_source : (net : Parts) (blocks : Blocks) (gate : ℕ) (pin : Sig) (a b : ℕ) → IsLoopSource net blocks gate pin a → IsLoopSource net blocks gate pin b → a ≡ b
-same_source net blocks gate pin a b one two =
-    let number = ap (λ (s : Sig). s.0) (sym one.is ∙ two.is) in
-    omega arith
+same_source net blocks gate pin a b one two = grind arith
 
 pub pin_of_source : (net : Parts) (blocks : Blocks) (gate k : ℕ) (pin : Sig) (a : ℕ) → AreBlocksOf net blocks → k < length (gate_at net gate).pins → ((d : Sig) → get_or (gate_at net gate).pins k d ≡ pin) → IsLoopSource net blocks gate pin a → IsLoopPin net blocks a gate
 pin_of_source net blocks gate k pin a are kl at source =
@@ -28,27 +26,13 @@ pin_of_source net blocks gate k pin a are kl at source =
 -- a gate is added to the row at a place
 module _ (rows : List (List ℕ)) (n gate : ℕ) (row : List ℕ) (l : n < length rows) (row_is : row ≡ row_at rows n) where
   pub pushed_keeps : (x y : ℕ) → InRow rows x y → InRow (set rows n (row ++ gate ∷ [])) x y
-  pushed_keeps x y c =
-      elim (cases_eq x n) [
-        | inr ne ↦ rw (get_or-set_other rows n x (row ++ gate ∷ []) [] ne) c
-        | inl e ↦
-            let old : Contains row y = rw (e, ← row_is) at c in
-            rw (e, get_or-set_same rows n (row ++ gate ∷ []) [] l) (Contains-append_left row (gate ∷ []) y old)
-      ]
+  pushed_keeps x y c = grind (arith, cases_eq x n, get_or-set_other rows n x (row ++ gate ∷ []) [], get_or-set_same rows n (row ++ gate ∷ []) [] l, Contains-append_left row (gate ∷ []) y)
 
   pub pushed_new : InRow (set rows n (row ++ gate ∷ [])) n gate
   pushed_new = rw (get_or-set_same rows n (row ++ gate ∷ []) [] l) (Contains-push row gate)
 
   pub pushed_only : (x y : ℕ) → InRow (set rows n (row ++ gate ∷ [])) x y → InRow rows x y ⊎ ((x ≡ n) × (y ≡ gate))
-  pushed_only x y c =
-      elim (cases_eq x n) [
-        | inr ne ↦ inl (rw (get_or-set_other rows n x (row ++ gate ∷ []) [] ne) at c)
-        | inl e ↦
-            elim (Contains-push_cases row gate y (rw (e, get_or-set_same rows n (row ++ gate ∷ []) [] l) at c)) [
-              | inl old ↦ inl (rw (e, ← row_is) old)
-              | inr g ↦ inr (e, sym g)
-            ]
-      ]
+  pushed_only x y c = grind (arith, cases_eq x n, get_or-set_other rows n x (row ++ gate ∷ []) [], Contains-push_cases row gate y, get_or-set_same rows n (row ++ gate ∷ []) [] l)
 
   pub gained_more : (readers : List ℕ) (k : ℕ) (first : List (List ℕ)) → k < length readers → ((d : ℕ) → get_or readers k d ≡ n) → HaveGained readers gate k first rows → HaveGained readers gate (k + 1) first (set rows n (row ++ gate ∷ []))
   gained_more readers k first kl at g = record {
@@ -79,21 +63,11 @@ module _ (rows : List (List ℕ)) (n gate : ℕ) (row : List ℕ) (l : n < lengt
 
 module _ (net : Parts) (blocks : Blocks) (gate : ℕ) where
   pub skipped_pin : (k : ℕ) (pin : Sig) (first rows : List (List ℕ)) → ((d : Sig) → get_or (gate_at net gate).pins k d ≡ pin) → ((a : ℕ) → ¬ IsLoopSource net blocks gate pin a) → HaveGainedPins net blocks gate k first rows → HaveGainedPins net blocks gate (k + 1) first rows
-  skipped_pin k pin first rows at none g = record {
-    size = g.size;
-    keeps = g.keeps;
-    each = λ a. each_more (λ p. IsLoopSource net blocks gate p a → InRow rows a gate) (gate_at net gate).pins k pin at (λ other. absurd (none a other)) (g.each a);
-    only = g.only;
-  }
+  skipped_pin k pin first rows at none g = grind arith
 
   module _ (cut : List Bool) where
     pub no_source : (k : ℕ) (pin : Sig) (row : List ℕ) → ((d : Sig) → get_or (gate_at net gate).pins k d ≡ pin) → ((a : ℕ) → IsLoopSource net blocks gate pin a → ¬ IsFree cut gate a) → AreSourcesBelow net blocks cut gate k row → AreSourcesBelow net blocks cut gate (k + 1) row
-    no_source k pin row at none s = record {
-      each = λ a.
-          each_more (λ p. IsLoopSource net blocks gate p a → IsFree cut gate a → Contains row a) (gate_at net gate).pins k pin at
-          (λ source free. absurd (none a source free)) (s.each a);
-      only = s.only;
-    }
+    no_source k pin row at none s = grind arith
 
     pub one_more_source : (k a : ℕ) (pin : Sig) (row : List ℕ) → AreBlocksOf net blocks → k < length (gate_at net gate).pins → ((d : Sig) → get_or (gate_at net gate).pins k d ≡ pin) → IsLoopSource net blocks gate pin a → IsFree cut gate a → AreSourcesBelow net blocks cut gate k row → AreSourcesBelow net blocks cut gate (k + 1) (row ++ a ∷ [])
     one_more_source k a pin row are kl at source free s = record {
@@ -160,8 +134,7 @@ kept_links R cut n readers sources levels l k = record {
 
 -- the same rows and the same width
 pub landmarks_as : (old new : List (List ℕ)) (width wide : ℕ) (list : List Landmark) → new ≡ old → wide ≡ width → AreLandmarks old width list → AreLandmarks new wide list
-landmarks_as old new width wide list rows e are =
-    subst (λ (xs : List (List ℕ)). AreLandmarks xs wide list) (sym rows) (subst (λ (w : ℕ). AreLandmarks old w list) (sym e) are)
+landmarks_as old new width wide list rows e are = grind arith
 
 pub ready_as : (width wide stamp : ℕ) (marks : List ℕ) → wide ≡ width → IsReady width stamp marks → IsReady wide stamp marks
 ready_as width wide stamp marks e ready = subst (λ (w : ℕ). IsReady w stamp marks) (sym e) ready

@@ -1,5 +1,5 @@
 -- Ways along rows are joined, and landmarks go on from a gate that is entered.
-use Rattle.std.proofs.Common.{◌≡◌, ◌⊎◌, inl, inr, ℕ, List, [], ◌∷◌, length, sym, ◌∙◌}
+use Rattle.std.proofs.Common.{◌≡◌, ◌⊎◌, inl, inr, ℕ, List, [], ◌∷◌, length, sym, ◌∙◌, arith}
 use Rattle.loops.proofs.Common.{Landmark, Search, Meeting, ReadsBack, Connects, InRow, IsMarked, Meets, Path, row_at, AnyGate}
 use Rattle.loops.specs.Landmarks.{IsLandmark, Passes}
 use Rattle.loops.specs.Searching.{Reaches}
@@ -7,8 +7,7 @@ use Rattle.loops.proofs.SearchLemmas.{joined, one_step}
 
 module _ (rows : List (List ℕ)) (a b c : ℕ) where
   pub joined_reach : Connects (InRow rows) AnyGate a b → Reaches rows b c → Connects (InRow rows) AnyGate a c
-  joined_reach v r =
-      elim r [ inl e ↦ rw (← e) v | inr w ↦ joined rows a b c v w ]
+  joined_reach v r = grind (arith, joined rows a b c v)
 
   pub reaches_join : Reaches rows a b → Reaches rows b c → Reaches rows a c
   reaches_join r s =
@@ -21,17 +20,10 @@ module _ (rows more : List (List ℕ)) (keeps : (x y : ℕ) → InRow rows x y �
   path_kept a b (x ∷ via) p = (keeps a x p.0, path_kept x b via p.1)
 
   reaches_kept : (a b : ℕ) → Reaches rows a b → Reaches more a b
-  reaches_kept a b r =
-      elim r [ inl e ↦ inl e | inr w ↦ inr (record { via = w.via; kind = w.kind; path = path_kept a b w.via w.path }) ]
+  reaches_kept a b r = grind (arith, path_kept)
 
   pub landmark_kept : (gates : ℕ) (landmark : Landmark) → IsLandmark rows gates landmark → IsLandmark more gates landmark
-  landmark_kept gates landmark is = record {
-    fits = is.fits;
-    ahead_size = is.ahead_size;
-    behind_size = is.behind_size;
-    ahead = λ x m. reaches_kept landmark.gate x (is.ahead x m);
-    behind = λ x m. reaches_kept x landmark.gate (is.behind x m);
-  }
+  landmark_kept gates landmark is = grind (arith, reaches_kept)
 
 -- what is marked once a search went on from a gate
 abbrev Extends : List (List ℕ) → List (List ℕ) → ℕ → ℕ → List ℕ → List ℕ → Type 0
@@ -64,8 +56,5 @@ gone_on readers sources gate gates h ahead behind more_ahead more_behind back is
 
 -- both rows of a gate meet where a landmark is passed
 pub passed_meet : (readers sources : List (List ℕ)) (n : ℕ) → Passes readers (row_at readers n) (row_at sources n) → Meeting readers sources n
-passed_meet readers sources n p = record {
-  gate = p.last;
-  forth = joined_reach readers n p.first p.last (one_step readers n p.first p.begins) (reaches_join readers p.first p.landmark p.last p.before p.after);
-  back = one_step sources n p.last p.ends;
-}
+passed_meet readers sources n p =
+    grind (arith, joined_reach readers n p.first p.last (one_step readers n p.first p.begins) (reaches_join readers p.first p.landmark p.last p.before p.after), one_step readers n p.first p.begins, reaches_join readers p.first p.landmark p.last p.before p.after, one_step sources n p.last p.ends)

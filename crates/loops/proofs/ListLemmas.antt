@@ -17,8 +17,7 @@ use Rattle.loops.proofs.ListedLemmas.{range_inside}
 -- one gate of those that are left
 gates_more : (net : Parts) (n : ℕ) → n < length net.gates
     → first_gates_from net n ≡ cond (begins_with (loop_of net n) n) (n ∷ first_gates_from net (n + 1)) (first_gates_from net (n + 1))
-gates_more net n inside =
-    ap (λ k. filter (λ g. begins_with (loop_of net g) g) (range_with_len n k)) (let e : length net.gates - n ≡ suc (length net.gates - (n + 1)) = omega (arith, inside) in e)
+gates_more net n inside = grind arith
 
 pub gate_begins : (net : Parts) (n : ℕ) → n < length net.gates → begins_with (loop_of net n) n ≡ true → first_gates_from net n ≡ n ∷ first_gates_from net (n + 1)
 gate_begins net n inside begun = gates_more net n inside ∙ ap (λ (t : Bool). cond t (n ∷ first_gates_from net (n + 1)) (first_gates_from net (n + 1))) begun
@@ -35,9 +34,7 @@ none_left net k n none = ap (numbered net k) none
 
 pub next_left : (net : Parts) (k n first : ℕ) (gates : List ℕ) → IsNextLoop net n first gates
     → numbered net k (first_gates_from net n) ≡ record { number = k; first = first; gates = gates } ∷ numbered net (k + 1) (first_gates_from net (first + 1))
-next_left net k n first gates is =
-    ap (numbered net k) is.next
-    ∙ ap (λ (gs : List ℕ). let l : Listed = record { number = k; first = first; gates = gs } in l ∷ numbered net (k + 1) (first_gates_from net (first + 1))) (sym is.are)
+next_left net k n first gates is = grind arith
 
 -- ---- what a list yields
 

@@ -11,13 +11,11 @@ use Rattle.loops.proofs.Told.{told_from, told_to}
 pub kept_below : (p q : ℕ → Bool) (a n bound : ℕ) → a + n ≡ bound → ((k : ℕ) → k < bound → p k ≡ q k)
     → filter p (range_with_len a n) ≡ filter q (range_with_len a n)
 kept_below p q a zero bound is agree = refl
-kept_below p q a (suc n) bound is agree =
-    ap₂ (λ t ns. cond t (a ∷ ns) ns) (agree a (omega (arith, is))) (kept_below p q (a + 1) n bound (omega (arith, is)) agree)
+kept_below p q a (suc n) bound is agree = grind (arith, kept_below p q (a + 1) n bound)
 
 none_kept : (p : ℕ → Bool) (a n bound : ℕ) → a + n ≡ bound → ((k : ℕ) → k < bound → p k ≡ false) → filter p (range_with_len a n) ≡ []
 none_kept p a zero bound is none = refl
-none_kept p a (suc n) bound is none =
-    ap₂ (λ t ns. cond t (a ∷ ns) ns) (none a (omega (arith, is))) (none_kept p (a + 1) n bound (omega (arith, is)) none)
+none_kept p a (suc n) bound is none = grind (arith, none_kept p (a + 1) n bound)
 
 module _ (net : Parts) (blocks : Blocks) (are : AreBlocksOf net blocks) where
   -- blocks tell which gates are in one loop
@@ -49,35 +47,19 @@ module _ (net : Parts) (blocks : Blocks) (are : AreBlocksOf net blocks) where
 
   -- a gate whose block is no loop is in none
   pub no_loop : (a : ℕ) → (block_at blocks (home_of blocks a)).looped ≡ false → loop_of net a ≡ []
-  no_loop a not = none_kept ((loops_of net).same a) 0 (length net.gates) (length net.gates) (omega arith) (λ k below. same_told a k ∙ out k)
-    where
-      nothing : (s t : Bool) → (s && (t && false)) ≡ false
-      nothing true true = refl
-      nothing true false = refl
-      nothing false t = refl
-
-      out : (k : ℕ) → in_one_loop blocks a k ≡ false
-      out k =
-          ap (λ t. ltb a (length blocks.home) && (ltb k (length blocks.home) && (t && home_of blocks a == home_of blocks k))) not
-          ∙ nothing (ltb a (length blocks.home)) (ltb k (length blocks.home))
+  no_loop a not = grind (arith, none_kept, same_told)
 
   -- whether a loop begins at a gate
   pub begins_in_loop : (a : ℕ) (block : Block) → a < length net.gates → block ≡ block_at blocks (home_of blocks a) → block.looped ≡ true
       → begins_with block.gates a ≡ begins_with (loop_of net a) a
-  begins_in_loop a block inside is looped =
-      ap (λ (b : Block). begins_with b.gates a) is
-      ∙ ap (λ gates. begins_with gates a) (sym (loop_is_block a inside (sym (ap (λ (b : Block). b.looped) is) ∙ looped)))
+  begins_in_loop a block inside is looped = grind (arith, loop_is_block)
 
   pub begins_no_loop : (a : ℕ) (block : Block) → block ≡ block_at blocks (home_of blocks a) → block.looped ≡ false → begins_with (loop_of net a) a ≡ false
   begins_no_loop a block is not = ap (λ gates. begins_with gates a) (no_loop a (sym (ap (λ (b : Block). b.looped) is) ∙ not))
 
   -- the loop that begins there
   pub loop_begun : (a : ℕ) → a < length net.gates → begins_with (loop_of net a) a ≡ true → (block_at blocks (home_of blocks a)).gates ≡ loop_of net a
-  loop_begun a inside begun = by_test ((block_at blocks (home_of blocks a)).looped) refl
-    where
-      by_test : (t : Bool) → (block_at blocks (home_of blocks a)).looped ≡ t → (block_at blocks (home_of blocks a)).gates ≡ loop_of net a
-      by_test true looped = sym (loop_is_block a inside looped)
-      by_test false not = absurd (true≢false (sym begun ∙ ap (λ gates. begins_with gates a) (no_loop a not)))
+  loop_begun a inside begun = grind (arith, loop_is_block, true≢false, no_loop)
 
 -- numbers of a range are below its end
 pub range_inside : (from n bound : ℕ) → from + n ≡ bound → AllByRecursion (λ k. k < bound) (range_with_len from n)
@@ -92,8 +74,4 @@ loop_gates_inside net a =
 
 -- what is kept goes on by one gate
 pub kept_more : (p : ℕ → Bool) (n : ℕ) → filter p (range_with_len 0 (n + 1)) ≡ filter p (range_with_len 0 n) ++ cond (p n) (n ∷ []) []
-kept_more p n =
-    ap (λ k. filter p (range_with_len 0 k)) (add-one n)
-    ∙ ap (filter p) (range-suc 0 n)
-    ∙ ap (λ k. filter p (range_with_len 0 n ++ k ∷ [])) (let e : 0 + n ≡ n = omega arith in e)
-    ∙ filter-append p (range_with_len 0 n) (n ∷ [])
+kept_more p n = grind (arith, add-one n, range-suc 0 n, filter-append p (range_with_len 0 n) (n ∷ []))

@@ -1,5 +1,5 @@
 -- Each loop has a cut wire.
-use Rattle.std.proofs.Common.{◌≡◌, inl, inr, ◌⊎◌, ℕ, true, false, List, [], ◌∷◌}
+use Rattle.std.proofs.Common.{◌≡◌, inl, inr, ◌⊎◌, ℕ, true, false, List, [], ◌∷◌, arith}
 use Rattle.loops.proofs.Common.{all_weaker, cases_Bool, AllByRecursion, Parts, Loops, AreLoopsOf, AnyGate, Leads, SameLoop}
 use Rattle.loops.proofs.Walks.{cuts_leave_no_loop, on_closed_walk}
 
@@ -12,10 +12,7 @@ pub record HasCut (loops : Loops) (a : ℕ) : Type 0 where
 -- one of these gates is a cut wire, or none is
 find-cut : (loops : Loops) (a : ℕ) (xs : List ℕ) → AllByRecursion (λ n. loops.same a n ≡ true) xs → HasCut loops a ⊎ AllByRecursion (λ n. loops.cut n ≡ false) xs
 find-cut loops a [] h = inr tt
-find-cut loops a (x ∷ xs) h = elim (cases_Bool (loops.cut x)) [
-  | inl is ↦ inl (record { wire = x; same = h.0; cut = is })
-  | inr isnt ↦ elim (find-cut loops a xs h.1) [ inl found ↦ inl found | inr none ↦ inr (isnt, none) ]
-]
+find-cut loops a (x ∷ xs) h = grind (arith, cases_Bool (loops.cut x), find-cut loops a xs h.1)
 
 pub has-cut : (net : Parts) (loops : Loops) → AreLoopsOf net loops → (a : ℕ) → Leads net AnyGate a a → HasCut loops a
 has-cut net loops are a leads = elim (cases_Bool (loops.cut a)) [

@@ -17,20 +17,11 @@ use Rattle.loops.proofs.Walks.{cuts_leave_no_loop, walk-append}
 
 -- gates that rise differ
 same_place : (gates : List ℕ) → Rise gates → (i j : ℕ) → i < length gates → j < length gates → get_or gates i 0 ≡ get_or gates j 0 → i ≡ j
-same_place gates rise i j il jl e =
-    elim (cases_lt i j) [
-      | inl l ↦ absurd (let r = rise i j l jl in omega arith)
-      | inr g ↦ elim (cases_lt j i) [ inl l ↦ absurd (let r = rise j i l il in omega arith) | inr h ↦ omega arith ]
-    ]
+same_place gates rise i j il jl e = grind arith
 
 module _ (net : Parts) (blocks : Blocks) (cut : Cut) (gates : List ℕ) where
   pub places_skip : (gate i : ℕ) (pin : Sig) (places : List ℕ) → ArePlacesRead net blocks cut gates gate i places → ((d : Sig) → get_or (gate_at net gate).pins i d ≡ pin) → ((place : ℕ) → ¬ IsPlaceRead net blocks cut gates gate pin place) → ArePlacesRead net blocks cut gates gate (i + 1) places
-  places_skip gate i pin places are is none = record {
-    each = λ p.
-        each_more (λ s. IsPlaceRead net blocks cut gates gate s p → Contains places p) (gate_at net gate).pins i pin is (λ read. absurd (none p read))
-        (λ j d l read. are.each p j d l read);
-    only = are.only;
-  }
+  places_skip gate i pin places are is none = grind arith
 
   pub places_push : (gate i place : ℕ) (pin : Sig) (places : List ℕ) → AreBlocksOf net blocks → Rise gates → i < length (gate_at net gate).pins → ArePlacesRead net blocks cut gates gate i places → ((d : Sig) → get_or (gate_at net gate).pins i d ≡ pin) → IsPlaceRead net blocks cut gates gate pin place → ArePlacesRead net blocks cut gates gate (i + 1) (places ++ place ∷ [])
   places_push gate i place pin places blocks_are rise il are is read = record {
@@ -102,9 +93,7 @@ range_ascends a (suc n) = (range_above a (a + 1) n (omega arith), range_ascends 
 
 filter_ascends : (p : ℕ → Bool) (xs : List ℕ) → Ascend xs → Ascend (filter p xs)
 filter_ascends p [] h = tt
-filter_ascends p (x ∷ xs) h =
-    let rest = filter_ascends p xs h.1 in
-    elim (cases_Bool (p x)) [ inl e ↦ rw e (all_filter (λ y. x < y) p xs h.0, rest) | inr e ↦ rw e rest ]
+filter_ascends p (x ∷ xs) h = grind (arith, filter_ascends p xs h.1, cases_Bool, all_filter)
 
 rise_from : (xs : List ℕ) → Ascend xs → Rise xs
 rise_from [] h i j l k = absurd (omega arith)
@@ -115,23 +104,14 @@ rise_from (x ∷ xs) h (suc i) (suc j) l k = rise_from xs h.1 i j (omega arith) 
 -- so each is at least its place
 pub at_least_place : (gates : List ℕ) → Rise gates → (k : ℕ) → k < length gates → k ≤ get_or gates k 0
 at_least_place gates rise zero l = omega arith
-at_least_place gates rise (suc k) l =
-    let before = at_least_place gates rise k (omega arith) in
-    let step = rise k (suc k) (omega arith) l in
-    omega arith
+at_least_place gates rise (suc k) l = grind (arith, at_least_place gates rise k)
 
 pub places_below : (gates : List ℕ) → Rise gates → (i j : ℕ) → i ≤ j → j < length gates → get_or gates i 0 ≤ get_or gates j 0
-places_below gates rise i j l k =
-    elim (cases_eq i j) [
-      | inl e ↦ let same = ap (λ (n : ℕ). get_or gates n 0) e in omega arith
-      | inr ne ↦ let less = rise i j (omega (arith, ne)) k in omega arith
-    ]
+places_below gates rise i j l k = grind arith
 
 module _ (net : Parts) (blocks : Blocks) (are : AreBlocksOf net blocks) (b : ℕ) (bl : b < length blocks.list) where
   pub block_rises : Rise (block_at blocks b).gates
-  block_rises =
-      subst Rise (sym (are.gates b bl))
-      (rise_from (gates_at blocks b) (filter_ascends (λ n. home_of blocks n == b) (range_with_len 0 (length blocks.home)) (range_ascends 0 (length blocks.home))))
+  block_rises = grind (arith, rise_from, filter_ascends, range_ascends)
 
   pub block_within : (k : ℕ) → k < length (block_at blocks b).gates → get_or (block_at blocks b).gates k 0 < length net.gates
   block_within k l = (gate_home net blocks are b (get_or (block_at blocks b).gates k 0) bl (Contains-get_or (block_at blocks b).gates k 0 l)).0
@@ -166,9 +146,7 @@ module _ (net : Parts) (blocks : Blocks) (are : AreBlocksOf net blocks) (b : ℕ
         )
 
     no_walk_back : (x : ℕ) (via : List ℕ) → ¬ GraphWalk graph x via x
-    no_walk_back x via w =
-        let back = walks_back x x via w in
-        cuts_leave_no_loop net (loops_by blocks cut) (blocks_tell_loops net blocks cut are cut_is) (gate x) back.0.via back.0.walk back.1 back.0.kind
+    no_walk_back x via w = grind (arith, walks_back x x via w, cuts_leave_no_loop net (loops_by blocks cut) (blocks_tell_loops net blocks cut are cut_is) (gate x), blocks_tell_loops net blocks cut are cut_is)
 
     graph-append : (x y z : ℕ) (via rest : List ℕ) → GraphWalk graph x via y → GraphWalk graph y rest z → GraphWalk graph x (via ++ (y ∷ rest)) z
     graph-append x y z [] rest h k = (h, k)
@@ -187,9 +165,7 @@ module _ (net : Parts) (blocks : Blocks) (are : AreBlocksOf net blocks) (b : ℕ
       homes_size = components.nodes ∙ reads.nodes
 
       pub homes_differ : (x y : ℕ) → x < y → y < length gates → ¬ (get_or found.home x 0 ≡ get_or found.home y 0)
-      homes_differ x y l yl e =
-          let n = reads.nodes in
-          not_connected x y l (components.connected x y (omega arith) (omega arith) e)
+      homes_differ x y l yl e = grind (arith, not_connected x y l)
 
       module _ (order : List ℕ) (placed : ArePlaced gates found.home found.count order) where
         -- what stands at a place of the order
@@ -206,12 +182,7 @@ module _ (net : Parts) (blocks : Blocks) (are : AreBlocksOf net blocks) (b : ℕ
             let w = h.within in
             let n = homes_size in
             let inside : h.node < length gates = omega arith in
-            record {
-              node = h.node;
-              within = inside;
-              home = h.is;
-              is = subst (λ (k : ℕ). get_or order k 0 ≡ gate h.node) h.is (placed.each h.node inside);
-            }
+            grind arith
 
         apart : (c d : ℕ) → c < d → d < length order → (¬ (get_or order d 0 ≡ get_or order c 0)) × (¬ ReadsUncut net (is_cut cut.wires) (get_or order c 0) (get_or order d 0))
         apart c d l dl =
@@ -263,20 +234,10 @@ module _ (net : Parts) (blocks : Blocks) (are : AreBlocksOf net blocks) (b : ℕ
         order_is = rw (← same) (record { only = only; each = each; follows = in_order order apart })
           where
             only : (n : ℕ) → Contains order n → Contains gates n
-            only n c =
-                let s = stands c.0 c.1 in
-                let e : gate s.node ≡ n = sym s.is ∙ get_or_default order c.0 0 n c.1 ∙ c.2 in
-                (s.node, s.within, get_or_default gates s.node n 0 s.within ∙ e)
+            only n c = grind (arith, stands c.0 c.1, get_or_default order c.0 0 n c.1, get_or_default gates)
 
             each : (n : ℕ) → Contains gates n → Contains order n
-            each n c =
-                let size = placed.size in
-                let l = homes_within c.0 c.1 in
-                let inside : get_or found.home c.0 0 < length order = omega arith in (
-                  get_or found.home c.0 0,
-                  inside,
-                  get_or_default order (get_or found.home c.0 0) n 0 inside ∙ placed.each c.0 c.1 ∙ get_or_default gates c.0 0 n c.1 ∙ c.2,
-                )
+            each n c = grind (arith, homes_within c.0 c.1, get_or_default order (get_or found.home c.0 0) n 0, get_or_default gates c.0 0 n c.1)
 
             all_from : (P : ℕ → Type 0) (xs : List ℕ) → ((k : ℕ) → k < length xs → P (get_or xs k 0)) → AllByRecursion P xs
             all_from P [] h = tt
@@ -290,14 +251,7 @@ module _ (net : Parts) (blocks : Blocks) (are : AreBlocksOf net blocks) (b : ℕ
             )
 
 pub block_gates : (blocks : Blocks) (items : List Block) (gates : List ℕ) (b : ℕ) (block : Block) → b < length blocks.list → items ≡ blocks.list → gates ≡ (get_or items b block).gates → gates ≡ (block_at blocks b).gates
-block_gates blocks items gates b block l e d =
-    d ∙ ap (λ (xs : List Block). (get_or xs b block).gates) e
-    ∙ ap (λ (x : Block). x.gates) (get_or_default blocks.list b block no_block l)
+block_gates blocks items gates b block l e d = grind (arith, get_or_default)
 
 pub not_there : (gates : List ℕ) (gate place : ℕ) → ((k : ℕ) → k < place → get_or gates k 0 < gate) → ((k : ℕ) → place ≤ k → k < length gates → gate < get_or gates k 0) → ¬ Contains gates gate
-not_there gates gate place low high c =
-    let is = get_or_default gates c.0 0 gate c.1 ∙ c.2 in
-    elim (cases_lt c.0 place) [
-      | inl l ↦ (let r = low c.0 l in omega arith)
-      | inr g ↦ (let r = high c.0 g c.1 in omega arith)
-    ]
+not_there gates gate place low high c = grind (arith, get_or_default, cases_lt)

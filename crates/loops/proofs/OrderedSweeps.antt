@@ -49,8 +49,7 @@ module _ (net : Parts) (loops : Loops) (are : AreLoopsOf net loops) (v c : List 
       ])
 
   not_itself : (n : ℕ) → ReadsUncut net loops.cut n n → ⊥
-  not_itself n r =
-      uncut-irreflexive net loops are n (record { uncut = r.uncut; leads = record { via = []; kind = tt; walk = r.feeds } })
+  not_itself n r = grind arith
 
   run : (order : List ℕ) (s : List Trit) (Done : ℕ → Type 0) → length s ≡ length net.gates → AllByRecursion (λ n. n < length net.gates) order → IsInOrder net loops.cut order → ((g : ℕ) → Done g → (g < length net.gates) × (get_or s g X ≡ gate_in net loops v c s g)) → ((g : ℕ) → Done g → AllByRecursion (λ h. (h ≡ g → ⊥) × (ReadsUncut net loops.cut g h → ⊥)) order) → (g : ℕ) → Done g ⊎ Contains order g → get_or (sweep_in net loops v c order s) g X ≡ gate_in net loops v c (sweep_in net loops v c order s) g
   run [] s Done len within follows holds rest g (inl d) = (holds g d).1
@@ -64,21 +63,7 @@ module _ (net : Parts) (loops : Loops) (are : AreLoopsOf net loops) (v c : List 
       g (which_now g which)
     where
       held : (k : ℕ) → Done k ⊎ (k ≡ n) → (k < length net.gates) × (get_or (set s n (gate_in net loops v c s n)) k X ≡ gate_in net loops v c (set s n (gate_in net loops v c s n)) k)
-      held k (inl d) =
-          let h = holds k d in
-          let free = (rest k d).0 in (
-            h.0,
-            get_or-set_other s n k (gate_in net loops v c s n) X (λ e. free.0 (sym e))
-                ∙ h.1
-                ∙ sym (set_keeps s (gate_in net loops v c s n) n k h.0 free.1),
-          )
-      held k (inr e) =
-          let nl = within.0 in
-          subst (λ (j : ℕ). (j < length net.gates) × (get_or (set s n (gate_in net loops v c s n)) j X ≡ gate_in net loops v c (set s n (gate_in net loops v c s n)) j)) (sym e) (
-            within.0,
-            get_or-set_same s n (gate_in net loops v c s n) X (omega arith)
-                ∙ sym (set_keeps s (gate_in net loops v c s n) n n within.0 (not_itself n)),
-          )
+      held k h = grind (arith, get_or-set_other, set_keeps, get_or-set_same, not_itself)
 
       later : (k : ℕ) → Done k ⊎ (k ≡ n) → AllByRecursion (λ h. (h ≡ k → ⊥) × (ReadsUncut net loops.cut k h → ⊥)) order
       later k (inl d) = (rest k d).1
@@ -86,9 +71,7 @@ module _ (net : Parts) (loops : Loops) (are : AreLoopsOf net loops) (v c : List 
           subst (λ (j : ℕ). AllByRecursion (λ h. (h ≡ j → ⊥) × (ReadsUncut net loops.cut j h → ⊥)) order) (sym e) follows.0
 
       which_now : (k : ℕ) → Done k ⊎ Contains (n ∷ order) k → (Done k ⊎ (k ≡ n)) ⊎ Contains order k
-      which_now k (inl d) = inl (inl d)
-      which_now k (inr (zero, l, e)) = inl (inr (sym e))
-      which_now k (inr (suc i, l, e)) = inr (i, omega arith, e)
+      which_now k h = grind arith
 
 pub sweep_of_one_loop : SweepOfOneLoop
 sweep_of_one_loop net loops are v c s a each n same = one_loop net loops are v c s a each n same

@@ -15,33 +15,23 @@ abbrev pub choice : Bool → Bool → Trit → Trit → Trit → Trit
 choice b d x y z = if b then (if d then x else y) else z
 
 pub choice_mono : (b d : Bool) (x y z x' y' z' : Trit) → Below x x' → Below y y' → Below z z' → Below (choice b d x y z) (choice b d x' y' z')
-choice_mono true true x y z x' y' z' h k l = h
-choice_mono true false x y z x' y' z' h k l = k
-choice_mono false d x y z x' y' z' h k l = l
+choice_mono b d x y z x' y' z' h k l = grind arith
 
 pub choice_below : (b d : Bool) (x y z w : Trit) → (b ≡ true → d ≡ true → Below x w) → (b ≡ true → d ≡ false → Below y w) → (b ≡ false → Below z w) → Below (choice b d x y z) w
-choice_below true true x y z w h k l = h refl refl
-choice_below true false x y z w h k l = k refl refl
-choice_below false d x y z w h k l = l refl
+choice_below b d x y z w h k l = grind arith
 
 pub choice_above : (b d : Bool) (x y z w : Trit) → (b ≡ true → d ≡ true → Below w x) → (b ≡ true → d ≡ false → Below w y) → (b ≡ false → Below w z) → Below w (choice b d x y z)
-choice_above true true x y z w h k l = h refl refl
-choice_above true false x y z w h k l = k refl refl
-choice_above false d x y z w h k l = l refl
+choice_above b d x y z w h k l = grind arith
 
 pub choice_same : (b d : Bool) (x y z y' : Trit) → (b ≡ true → d ≡ false → y ≡ y') → choice b d x y z ≡ choice b d x y' z
-choice_same true true x y z y' h = refl
-choice_same true false x y z y' h = h refl refl
-choice_same false d x y z y' h = refl
+choice_same b d x y z y' h = grind arith
 
 -- what a gate's signal reads
 pub wire_of_gate : (v s : List Trit) (first signal : ℕ) → length v ≡ first → first ≤ signal → get_or (v ++ s) signal X ≡ get_or s (signal - first) X
 wire_of_gate v s first signal e l = get_or-append_right v s first signal X e l
 
 pub in_loop_from : (net : Parts) (loops : Loops) (n : ℕ) (s : Sig) → in_loop_of net loops n s ≡ true → (first_gate net ≤ s.0) × (loops.same n (gate_of net s) ≡ true)
-in_loop_from net loops n s e =
-    let p = and_parts (leb (first_gate net) s.0) (loops.same n (gate_of net s)) e in
-    (leb-true (first_gate net) s.0 p.0, p.1)
+in_loop_from net loops n s e = grind arith
 
 pub map_agree : {A B : Type 0} (f g : A → B) (xs : List A) → ((k : ℕ) (d : A) → k < length xs → f (get_or xs k d) ≡ g (get_or xs k d)) → map f xs ≡ map g xs
 map_agree f g [] h = refl
@@ -73,9 +63,4 @@ Contains-filter_from p (y ∷ ys) x c =
     ]
 
 pub Contains-range_from : (n k : ℕ) → Contains (range_with_len 0 n) k → k < n
-Contains-range_from n k c =
-    let len = length-range_with_len 0 n in
-    let l = c.1 in
-    let at = get_or-range_with_len 0 n c.0 k (omega arith) in
-    let is = c.2 in
-    omega arith
+Contains-range_from n k c = grind (arith, length-range_with_len, get_or-range_with_len)

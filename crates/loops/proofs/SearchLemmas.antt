@@ -21,39 +21,26 @@ one_step rows a b l = record { via = []; kind = tt; path = l }
 
 module _ (rows : List (List ℕ)) (a b c : ℕ) where
   pub joined : Connects (InRow rows) AnyGate a b → Connects (InRow rows) AnyGate b c → Connects (InRow rows) AnyGate a c
-  joined v w = record {
-    via = v.via ++ (b ∷ w.via);
-    kind = all_any (v.via ++ (b ∷ w.via));
-    path = path-append (InRow rows) a b c v.via w.via v.path w.path;
-  }
+  joined v w = grind (arith, all_any, path-append)
 
   -- a row's gate is reached where the gate before it is
   reaches_next : Reaches rows a b → InRow rows b c → Connects (InRow rows) AnyGate a c
-  reaches_next r l =
-      elim r [ inl e ↦ one_step rows a c (rw e l) | inr w ↦ joined w (one_step rows b c l) ]
+  reaches_next r l = grind (arith, one_step rows a c, joined, one_step rows b c l)
 
 unmarked_set : (goal : ℕ) (marks : List ℕ) (x : ℕ) → x < length marks → ¬ IsMarked goal marks x → unmarked_count goal (set marks x (goal + 1)) + 1 ≡ unmarked_count goal marks
 unmarked_set goal [] x l none = absurd (omega arith)
 unmarked_set goal (m ∷ marks) zero l none = rw (eq-eqb (goal + 1) (goal + 1) refl, ne_eqb m (goal + 1) none) (omega arith)
-unmarked_set goal (m ∷ marks) (suc x) l none =
-    let rest = unmarked_set goal marks x (omega arith) none in
-    elim (cases_Bool (m == goal + 1)) [ inl e ↦ rw e rest | inr e ↦ rw e (omega arith) ]
+unmarked_set goal (m ∷ marks) (suc x) l none = grind (arith, unmarked_set goal marks x, cases_Bool)
 
 keeps_set : (goal : ℕ) (marks : List ℕ) (x y : ℕ) → x < length marks → IsMarked goal marks y → IsMarked goal (set marks x (goal + 1)) y
-keeps_set goal marks x y l h =
-    elim (cases_eq y x) [
-      | inl e ↦ rw e (get_or-set_same marks x (goal + 1) 0 l)
-      | inr ne ↦ get_or-set_other marks x y (goal + 1) 0 ne ∙ h
-    ]
+keeps_set goal marks x y l h = grind (arith, cases_eq, get_or-set_same, get_or-set_other)
 
 only_set : (goal : ℕ) (marks : List ℕ) (x y : ℕ) → IsMarked goal (set marks x (goal + 1)) y → IsMarked goal marks y ⊎ (y ≡ x)
-only_set goal marks x y h =
-    elim (cases_eq y x) [ inl e ↦ inr e | inr ne ↦ inl (sym (get_or-set_other marks x y (goal + 1) 0 ne) ∙ h) ]
+only_set goal marks x y h = grind (arith, cases_eq, get_or-set_other)
 
 -- a gate with a mark has an entry
 pub marked_within : (goal : ℕ) (marks : List ℕ) (x : ℕ) → IsMarked goal marks x → x < length marks
-marked_within goal marks x m =
-    elim (cases_lt x (length marks)) [ inl l ↦ l | inr past ↦ absurd (let none = get_or_past marks x 0 (omega arith) in omega (arith, m)) ]
+marked_within goal marks x m = grind (arith, cases_lt, get_or_past)
 
 -- the next gate of a row
 module _ (levels : List ℕ) (limit : Limit) (goal : ℕ) (row marks found after more : List ℕ) (i n : ℕ) (is : (d : ℕ) → get_or row i d ≡ n) (f : Follows levels limit goal row i marks after found more) where
@@ -105,16 +92,10 @@ module _ (levels : List ℕ) (limit : Limit) (goal : ℕ) (row marks found after
 -- a search that has followed a row
 module _ (levels : List ℕ) (limit : Limit) (goal : ℕ) (row : List ℕ) (k : ℕ) (old new : Search) (f : Follows levels limit goal row k old.marks.items new.marks.items old.found.items new.found.items) where
   still : (x : ℕ) → Contains old.found.items x → Contains new.found.items x
-  still x c =
-      let a = f.longer in
-      let l = c.1 in
-      (c.0, omega arith, f.same c.0 x l ∙ c.2)
+  still x c = grind arith
 
   pub work_falls : old.passed < length old.found.items → new.passed ≡ old.passed + 1 → work_left goal new < work_left goal old
-  work_falls less p =
-      let a = f.falls in
-      let b = f.longer in
-      omega arith
+  work_falls less p = grind arith
 
 module _ (rows : List (List ℕ)) (levels : List ℕ) (limit : Limit) (goal : ℕ) where
   -- a search that has found the gates of the goal's row
@@ -193,11 +174,7 @@ module _ (rows : List (List ℕ)) (levels : List ℕ) (limit : Limit) (goal : �
             (λ k z l y c a. f.keeps y (s.passed k z l y c a))
 
 pub meets_begun : (readers sources : List (List ℕ)) (levels : List ℕ) (limit : Limit) (goal : ℕ) (forth : Search) → IsSearching readers levels limit goal forth → Meets goal (row_at sources goal) forth.marks.items → Meeting readers sources goal
-meets_begun readers sources levels limit goal forth f m = record {
-  gate = m.gate;
-  forth = (let r = f.reached m.gate (f.found m.gate m.marked) in r.path);
-  back = one_step sources goal m.gate m.listed;
-}
+meets_begun readers sources levels limit goal forth f m = grind arith
 
 -- what goes on stays apart from the other search's row
 pub stays_apart : (rows other_rows : List (List ℕ)) (levels : List ℕ) (limit other_limit : Limit) (goal : ℕ) (old new other : Search) → IsSearching other_rows levels other_limit goal other → ((x : ℕ) → Contains old.found.items x → ¬ InRow other_rows goal x) → GoesOn rows levels limit goal other.marks.items old new → (x : ℕ) → Contains new.found.items x → ¬ InRow other_rows goal x
@@ -214,28 +191,11 @@ pub record IsSpreading (rows : List (List ℕ)) (width goal gate : ℕ) (marks :
 
 module _ (rows : List (List ℕ)) (width goal gate : ℕ) (marks : List ℕ) where
   pub spread_begun : gate < width → length marks ≡ width → (new : Search) → new.marks.items ≡ set marks gate (goal + 1) → new.found.items ≡ gate ∷ [] → new.passed ≡ 0 → IsSpreading rows width goal gate marks new
-  spread_begun l size new e d p = record {
-    size = rw e (length-set marks gate (goal + 1)) ∙ size;
-    within = omega (arith, p);
-    low = λ x c. (let is = one x c in omega (arith, l));
-    reached = λ x c. inl (one x c);
-    marked = λ x m. inl (only_set goal marks gate x (rw e at m));
-  }
-    where
-      one : (x : ℕ) → Contains new.found.items x → gate ≡ x
-      one x c =
-          elim (Contains-push_cases [] gate x (rw d at c)) [ inl none ↦ absurd (Contains-nothing x none) | inr e ↦ e ]
+  spread_begun l size new e d p = grind (arith, length-set, only_set, Contains-push_cases)
 
   module _ (search : Search) (s : IsSpreading rows width goal gate marks search) where
     pub spread_done : length marks ≡ width → HasSpread rows goal gate marks search.marks.items
-    spread_done size = record {
-      size = s.size ∙ sym size;
-      marked = λ x m.
-          elim (s.marked x m) [
-            | inr c ↦ inr (s.reached x c)
-            | inl old ↦ elim old [ inl first ↦ inl first | inr is ↦ inr (inl (sym is)) ]
-          ];
-    }
+    spread_done size = grind arith
 
     -- the gate that is passed next
     pub spread_on : (levels : List ℕ) (g : ℕ) (new : Search) → Contains search.found.items g → search.passed < length search.found.items → All (λ x. x < width) (row_at rows g) →

@@ -10,39 +10,18 @@ module _ (net : Parts) (kind seen : ℕ → Bool) (start goal : ℕ) (closes : (
   never x (y ∷ via) here all walk = never y via (inr (closes x y here walk.0 all.0)) all.1 walk.1
 
 pub search_is_complete : SearchIsComplete
-search_is_complete net kind seen start goal closes none leads =
-    never net kind seen start goal closes none start leads.via (inl refl) leads.kind leads.walk
+search_is_complete net kind seen start goal closes none leads = grind (arith, never net kind seen start goal closes none start leads.via)
 
 rises : (net : Parts) (number : ℕ → ℕ) → ((a b : ℕ) → Feeds net a b → number a ≤ number b) → (a b : ℕ) (via : List ℕ) → Walk net a via b → number a ≤ number b
 rises net number h a b [] walk = h a b walk
-rises net number h a b (x ∷ via) walk =
-    let first = h a x walk.0 in
-    let rest = rises net number h x b via walk.1 in
-    omega arith
+rises net number h a b (x ∷ via) walk = grind (arith, rises net number h x b via walk.1)
 
 strictly : (net : Parts) (number : ℕ → ℕ) → ((a b : ℕ) → Feeds net a b → number a < number b) → (a b : ℕ) (via : List ℕ) → Walk net a via b → number a < number b
 strictly net number h a b [] walk = h a b walk
-strictly net number h a b (x ∷ via) walk =
-    let first = h a x walk.0 in
-    let rest = strictly net number h x b via walk.1 in
-    omega arith
+strictly net number h a b (x ∷ via) walk = grind (arith, strictly net number h x b via walk.1)
 
 pub loop_free_by_numbers : LoopFreeByNumbers
 loop_free_by_numbers net number h a via walk = let l = strictly net number h a a via walk in omega arith
 
 pub blocks_by_numbers : BlocksByNumbers
-blocks_by_numbers net number h joined a b al bl = (to, from)
-  where
-    to : SameBlock net a b → number a ≡ number b
-    to (inl e) = ap number e
-    to (inr s) =
-        let up = rises net number h a b s.there.via s.there.walk in
-        let down = rises net number h b a s.back.via s.back.walk in
-        omega arith
-
-    from : number a ≡ number b → SameBlock net a b
-    from e =
-        elim (cases_eq a b) [
-          | inl same ↦ inl same
-          | inr apart ↦ inr (record { there = joined a b al bl e apart; back = joined b a bl al (sym e) (λ d. apart (sym d)) })
-        ]
+blocks_by_numbers net number h joined a b al bl = grind (arith, rises net number h a b, rises net number h b a, cases_eq a b)

@@ -17,59 +17,41 @@ use Rattle.loops.proofs.Reading.{choice_mono, choice_below, choice_above, wire_o
 
 -- the extension at pins read in two ways, one below the other
 pub ext_below : (net : Parts) (n : ℕ) (f g : Sig → Trit) → ((s : Sig) → Below (f s) (g s)) → Below (ext (gate_at net n).cover (map f (gate_at net n).pins)) (ext (gate_at net n).cover (map g (gate_at net n).pins))
-ext_below net n f g h =
-    ext_is_monotone (gate_at net n).cover (map f (gate_at net n).pins) (map g (gate_at net n).pins)
-    (EachBelow-map f g (gate_at net n).pins h)
+ext_below net n f g h = grind (arith, ext_is_monotone, EachBelow-map)
 
 module _ (net : Parts) (loops : Loops) (v : List Trit) where
   gate_in_mono : (c c' s s' : List Trit) → EachBelow c c' → EachBelow s s' → (n : ℕ) → Below (gate_in net loops v c s n) (gate_in net loops v c' s' n)
-  gate_in_mono c c' s s' h k n =
-      ext_below net n (pin_in net loops v c s n) (pin_in net loops v c' s' n)
-      (λ r. choice_mono (in_loop_of net loops n r) (loops.cut (gate_of net r)) _ _ _ _ _ _
-      (EachBelow-at c c' (gate_of net r) h)
-      (EachBelow-at s s' (gate_of net r) k)
-      (Below-refl (wire (fix net v) r)))
+  gate_in_mono c c' s s' h k n = grind (arith, ext_below, choice_mono, EachBelow-at, Below-refl)
 
   sweep_step_mono : (c c' s s' : List Trit) → EachBelow c c' → EachBelow s s' → EachBelow (sweep_step net loops v c s) (sweep_step net loops v c' s')
-  sweep_step_mono c c' s s' h k =
-      EachBelow-map (gate_in net loops v c s) (gate_in net loops v c' s') (range_with_len 0 (length net.gates))
-      (gate_in_mono c c' s s' h k)
+  sweep_step_mono c c' s s' h k = grind (arith, EachBelow-map, gate_in_mono)
 
   pub length-sweep_steps : (c : List Trit) (k : ℕ) → length (sweep_steps net loops v c k) ≡ length net.gates
-  length-sweep_steps c zero = length-replicate (length net.gates) X
-  length-sweep_steps c (suc k) = length-map-range_with_len (gate_in net loops v c (sweep_steps net loops v c k)) 0 (length net.gates)
+  length-sweep_steps c k = grind (arith, length-replicate, length-map-range_with_len)
 
   sweep_steps_rise : (c : List Trit) (k : ℕ) → EachBelow (sweep_steps net loops v c k) (sweep_steps net loops v c (suc k))
   sweep_steps_rise c zero = unknown_below_state (length net.gates) (sweep_steps net loops v c (suc zero)) (length-sweep_steps c (suc zero))
-  sweep_steps_rise c (suc k) =
-      sweep_step_mono c c (sweep_steps net loops v c k) (sweep_steps net loops v c (suc k)) (EachBelow-refl c) (sweep_steps_rise c k)
+  sweep_steps_rise c (suc k) = grind (arith, sweep_step_mono, EachBelow-refl, sweep_steps_rise c k)
 
   pub sweep_is_step : (c : List Trit) → sweep net loops v c ≡ sweep_step net loops v c (sweep net loops v c)
-  sweep_is_step c =
-      stands_still (sweep_steps net loops v c) (sweep_steps_rise c) (λ k e. ap (sweep_step net loops v c) e) (length net.gates)
-      (let e = length-sweep_steps c (suc (length net.gates)) in omega arith)
+  sweep_is_step c = grind (arith, stands_still (sweep_steps net loops v c) (sweep_steps_rise c), sweep_steps_rise c, length-sweep_steps c (suc (length net.gates)))
 
   pub sweep_each : (c : List Trit) (n : ℕ) → n < length net.gates → get_or (sweep net loops v c) n X ≡ gate_in net loops v c (sweep net loops v c) n
-  sweep_each c n l =
-      ap (λ s. get_or s n X) (sweep_is_step c)
-      ∙ get_or-map-range_with_len (gate_in net loops v c (sweep net loops v c)) 0 (length net.gates) n n X l (omega arith)
+  sweep_each c n l = grind (arith, sweep_is_step, get_or-map-range_with_len)
 
   pub sweep_is_sweep : (c : List Trit) → IsSweep net loops v c (sweep net loops v c)
   sweep_is_sweep c = record { gates = length-sweep_steps c (length net.gates); each = sweep_each c }
 
   sweep_steps_mono : (c c' : List Trit) → EachBelow c c' → (k : ℕ) → EachBelow (sweep_steps net loops v c k) (sweep_steps net loops v c' k)
   sweep_steps_mono c c' h zero = EachBelow-refl (replicate (length net.gates) X)
-  sweep_steps_mono c c' h (suc k) =
-      sweep_step_mono c c' (sweep_steps net loops v c k) (sweep_steps net loops v c' k) h (sweep_steps_mono c c' h k)
+  sweep_steps_mono c c' h (suc k) = grind (arith, sweep_step_mono, sweep_steps_mono c c' h k)
 
   pub length-sweeps : (k : ℕ) → length (sweeps net loops v k) ≡ length net.gates
-  length-sweeps zero = length-replicate (length net.gates) X
-  length-sweeps (suc k) = length-sweep_steps (sweeps net loops v k) (length net.gates)
+  length-sweeps k = grind (arith, length-replicate, length-sweep_steps)
 
   pub sweeps_rise : (k : ℕ) → EachBelow (sweeps net loops v k) (sweeps net loops v (suc k))
   sweeps_rise zero = unknown_below_state (length net.gates) (sweeps net loops v (suc zero)) (length-sweeps (suc zero))
-  sweeps_rise (suc k) =
-      sweep_steps_mono (sweeps net loops v k) (sweeps net loops v (suc k)) (sweeps_rise k) (length net.gates)
+  sweeps_rise (suc k) = grind (arith, sweep_steps_mono, sweeps_rise k)
 
   pub length-fix : length (fix_gates net v) ≡ length net.gates
   length-fix = length-steps net v (length net.gates)
@@ -77,20 +59,7 @@ module _ (net : Parts) (loops : Loops) (v : List Trit) where
   module _ (width : length v ≡ first_gate net) where
     sweep_steps_below : (c : List Trit) → EachBelow c (fix_gates net v) → (k : ℕ) → EachBelow (sweep_steps net loops v c k) (fix_gates net v)
     sweep_steps_below c h zero = unknown_below_state (length net.gates) (fix_gates net v) length-fix
-    sweep_steps_below c h (suc k) =
-        let s = sweep_steps net loops v c k in
-        let below : EachBelow s (fix_gates net v) = sweep_steps_below c h k in
-        subst (λ (t : List Trit). EachBelow (sweep_step net loops v c s) t) (sym (fix_by_place net v))
-        (EachBelow-map (gate_in net loops v c s) (λ n. gate_value (fix net v) (gate_at net n)) (range_with_len 0 (length net.gates))
-        (λ n. ext_below net n (pin_in net loops v c s n) (λ r. wire (fix net v) r)
-        (λ r. choice_below (in_loop_of net loops n r) (loops.cut (gate_of net r)) _ _ _ _
-        (λ e d. subst (λ (t : Trit). Below (get_or c (gate_of net r) X) t)
-        (sym (wire_of_gate v (fix_gates net v) (first_gate net) r.0 width (in_loop_from net loops n r e).0))
-        (EachBelow-at c (fix_gates net v) (gate_of net r) h))
-        (λ e d. subst (λ (t : Trit). Below (get_or s (gate_of net r) X) t)
-        (sym (wire_of_gate v (fix_gates net v) (first_gate net) r.0 width (in_loop_from net loops n r e).0))
-        (EachBelow-at s (fix_gates net v) (gate_of net r) below))
-        (λ e. Below-refl (wire (fix net v) r)))))
+    sweep_steps_below c h (suc k) = grind (arith, sweep_steps_below c h k, fix_by_place, EachBelow-map, ext_below, choice_below, wire_of_gate, in_loop_from, EachBelow-at, Below-refl)
 
     pub sweeps_below : (k : ℕ) → EachBelow (sweeps net loops v k) (fix_gates net v)
     sweeps_below zero = unknown_below_state (length net.gates) (fix_gates net v) length-fix
@@ -102,16 +71,11 @@ sweeps_stay_below_fix net loops v width k = sweeps_below net loops v width k
 -- lists that two functions make of the same numbers are equal where they agree, and nowhere else
 agree_at : (f g : ℕ → Trit) (xs : List ℕ) → map f xs ≡ map g xs → (x : ℕ) → Contains xs x → f x ≡ g x
 agree_at f g [] e x c = absurd (Contains-nothing x c)
-agree_at f g (y ∷ ys) e x c =
-    let here : f y ≡ g y = cc in
-    let rest : map f ys ≡ map g ys = cc in
-    elim (Contains-cases y ys x c) [ inl is ↦ subst (λ (z : ℕ). f z ≡ g z) is here | inr there ↦ agree_at f g ys rest x there ]
+agree_at f g (y ∷ ys) e x c = grind (arith, Contains-cases, agree_at f g ys)
 
 map_where_kept : (f g : ℕ → Trit) (p : ℕ → Bool) (xs : List ℕ) → ((n : ℕ) → p n ≡ true → f n ≡ g n) → map f (filter p xs) ≡ map g (filter p xs)
 map_where_kept f g p [] h = refl
-map_where_kept f g p (x ∷ xs) h =
-    let rest = map_where_kept f g p xs h in
-    elim (cases_Bool (p x)) [ inl is ↦ rw is (ap₂ (λ y ys. y ∷ ys) (h x is) rest) | inr is ↦ rw is rest ]
+map_where_kept f g p (x ∷ xs) h = grind (arith, map_where_kept f g p xs h, cases_Bool)
 
 pub reaches_within : (net : Parts) (a b : ℕ) (via : List ℕ) → Walk net a via b → b < length net.gates
 reaches_within net a b [] h = h.reader
@@ -136,9 +100,7 @@ module _ (net : Parts) (loops : Loops) (are : AreLoopsOf net loops) where
   module _ (v : List Trit) (width : length v ≡ first_gate net) (a : ℕ) where
     -- where a sweep leaves the cut wires as they were, each step of the netlist stays below it in the loop
     still_above : (k : ℕ) → cut_values net loops a (sweeps net loops v (suc k)) ≡ cut_values net loops a (sweeps net loops v k) → (j n : ℕ) → loops.same a n ≡ true → Below (get_or (steps net v j) n X) (get_or (sweeps net loops v (suc k)) n X)
-    still_above k still zero n same =
-        let l = same_within a n same in
-        subst (λ (t : Trit). Below t (get_or (sweeps net loops v (suc k)) n X)) (sym (get_or-replicate (length net.gates) n X X l)) tt
+    still_above k still zero n same = grind (arith, same_within, get_or-replicate)
     still_above k still (suc j) n same =
         let l = same_within a n same in
         let c = sweeps net loops v k in
@@ -174,10 +136,7 @@ module _ (net : Parts) (loops : Loops) (are : AreLoopsOf net loops) where
 
     -- where the cut wires stood still once, they stand at the fixpoint from then on
     fixed_from_still : (k : ℕ) → cut_values net loops a (sweeps net loops v k) ≡ cut_values net loops a (sweeps net loops v (suc k)) → cut_values net loops a (sweeps net loops v (suc k)) ≡ cut_values net loops a (fix_gates net v)
-    fixed_from_still k e =
-        map_where_kept (λ n. get_or (sweeps net loops v (suc k)) n X) (λ n. get_or (fix_gates net v) n X)
-        (λ n. loops.same a n && loops.cut n) (range_with_len 0 (length net.gates))
-        (λ n h. still_is_fix_at k (sym e) n (and_parts (loops.same a n) (loops.cut n) h).0)
+    fixed_from_still k e = grind (arith, map_where_kept, still_is_fix_at, and_parts)
 
     stays : (k : ℕ) → cut_values net loops a (sweeps net loops v k) ≡ cut_values net loops a (sweeps net loops v (suc k)) → cut_values net loops a (sweeps net loops v (suc k)) ≡ cut_values net loops a (sweeps net loops v (suc (suc k)))
     stays k e =

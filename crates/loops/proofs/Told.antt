@@ -10,12 +10,7 @@ use Rattle.loops.proofs.Walks.{begins_at, leads-any, leads-trans}
 
 module _ (net : Parts) (blocks : Blocks) (are : AreBlocksOf net blocks) where
   tell : (a b : ℕ) → a < length net.gates → b < length net.gates → (block_at blocks (home_of blocks a)).looped ≡ true → home_of blocks a ≡ home_of blocks b → in_one_loop blocks a b ≡ true
-  tell a b al bl looped same =
-      let homes = are.homes in
-      and_from (ltb a (length blocks.home)) _ (lt-ltb a (length blocks.home) (omega arith))
-      (and_from (ltb b (length blocks.home)) _ (lt-ltb b (length blocks.home) (omega arith))
-      (and_from (block_at blocks (home_of blocks a)).looped (home_of blocks a == home_of blocks b) looped
-      (eq-eqb (home_of blocks a) (home_of blocks b) same)))
+  tell a b al bl looped same = grind arith
 
   -- two gates that lead to each other are in one loop, and a walk leads from each back to it
   pub told_from : (a b : ℕ) → SameLoop net a b → in_one_loop blocks a b ≡ true
@@ -32,29 +27,10 @@ module _ (net : Parts) (blocks : Blocks) (are : AreBlocksOf net blocks) where
     pub homes : home_of blocks a ≡ home_of blocks b
 
   pub told_parts : (a b : ℕ) → in_one_loop blocks a b ≡ true → Told a b
-  told_parts a b e =
-      let p = and_parts (ltb a (length blocks.home)) _ e in
-      let q = and_parts (ltb b (length blocks.home)) _ p.1 in
-      let r = and_parts (block_at blocks (home_of blocks a)).looped (home_of blocks a == home_of blocks b) q.1 in
-      let homes = are.homes in
-      let first = ltb-true a (length blocks.home) p.0 in
-      let second = ltb-true b (length blocks.home) q.0 in
-      record {
-        first = omega arith;
-        second = omega arith;
-        looped = r.0;
-        homes = eqb-true (home_of blocks a) (home_of blocks b) r.1;
-      }
+  told_parts a b e = grind (arith, and_parts, ltb-true, eqb-true)
 
   pub told_to : (a b : ℕ) → in_one_loop blocks a b ≡ true → SameLoop net a b
-  told_to a b e =
-      let t = told_parts a b e in
-      elim ((are.same a b t.first t.second).0 t.homes) [
-        | inr s ↦ s
-        | inl same ↦
-            let back = (are.looped a t.first).0 t.looped in
-            subst (λ (n : ℕ). SameLoop net a n) same (record { there = back; back = back })
-      ]
+  told_to a b e = grind (arith, told_parts)
 
   -- the gates of the block at a place are those with this home
   pub gate_home : (b n : ℕ) → b < length blocks.list → Contains (block_at blocks b).gates n → (n < length net.gates) × (home_of blocks n ≡ b)
@@ -73,9 +49,7 @@ module _ (net : Parts) (blocks : Blocks) (are : AreBlocksOf net blocks) where
       (eq-eqb (home_of blocks n) (home_of blocks n) refl) (Contains-range (length blocks.home) n (omega arith)))
 
   loop_gate : (a : ℕ) → a < length net.gates → (block_at blocks (home_of blocks a)).looped ≡ true → (n : ℕ) → Contains (block_at blocks (home_of blocks a)).gates n → in_one_loop blocks a n ≡ true
-  loop_gate a l looped n c =
-      let h = gate_home (home_of blocks a) n (are.home a l) c in
-      tell a n l h.0 looped (sym h.1)
+  loop_gate a l looped n c = grind (arith, gate_home (home_of blocks a) n (are.home a l) c, tell a n l)
 
 pub blocks_tell_loops : BlocksTellLoops
 blocks_tell_loops net blocks cut are is = record { same = λ a b. (told_to net blocks are a b, told_from net blocks are a b); cut = is.wires }
@@ -89,20 +63,7 @@ blocks_have_loops net blocks cut are a l looped = (
 )
 
 pub loop_free_by_blocks : LoopFreeByBlocks
-loop_free_by_blocks net blocks are = (
-  λ free n l.
-      elim (cases_Bool (block_at blocks (home_of blocks n)).looped) [
-        | inr isnt ↦ isnt
-        | inl is ↦ let w = (are.looped n l).0 is in absurd (free n w.via w.walk)
-      ],
-  λ none a via walk.
-      let l = begins_at net a a via walk in
-      true≢false (sym ((are.looped a l).1 (leads-any net a a via walk)) ∙ none a l),
-)
+loop_free_by_blocks net blocks are = grind (arith, cases_Bool, begins_at, true≢false, leads-any)
 
 pub other_blocks_are_single : OtherBlocksAreSingle
-other_blocks_are_single net blocks are a b al bl homes isnt =
-    elim ((are.same a b al bl).0 homes) [
-      | inl e ↦ e
-      | inr s ↦ absurd (true≢false (sym ((are.looped a al).1 (leads-trans net a b a s.there s.back)) ∙ isnt))
-    ]
+other_blocks_are_single net blocks are a b al bl homes isnt = grind (arith, true≢false, leads-trans net a b a)

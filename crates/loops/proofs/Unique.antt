@@ -18,26 +18,14 @@ pub record Uncut (net : Parts) (loops : Loops) (x n : ℕ) : Type 0 where
 pub feeds_at : (net : Parts) (n k : ℕ) (d : Sig) → n < length net.gates → k < length (gate_at net n).pins → first_gate net ≤ (get_or (gate_at net n).pins k d).0 → gate_of net (get_or (gate_at net n).pins k d) < length net.gates → Feeds net (gate_of net (get_or (gate_at net n).pins k d)) n
 feeds_at net n k d less here low high =
     let r = get_or (gate_at net n).pins k d in
-    let is : r.0 ≡ first_gate net + gate_of net r = omega arith in
-    record {
-      source = high;
-      reader = less;
-      pin = (k, here, get_or_default (gate_at net n).pins k (gate_sig net (gate_of net r)) d here ∙ ap (λ (m : ℕ). let s : Sig = record { 0 = m } in s) is);
-    }
+    grind (arith, get_or_default (gate_at net n).pins k (gate_sig net (gate_of net r)) d here)
 
 module _ (net : Parts) (loops : Loops) (are : AreLoopsOf net loops) where
   pub uncut_within : (x n : ℕ) → Uncut net loops x n → x < length net.gates
   uncut_within x n r = begins_within net loops are x n r.leads.via r.leads.walk
 
   pub uncut-trans : (x y z : ℕ) → Uncut net loops x y → Uncut net loops y z → Uncut net loops x z
-  uncut-trans x y z r q = record {
-    uncut = r.uncut;
-    leads = record {
-      via = r.leads.via ++ (y ∷ q.leads.via);
-      kind = all_append (λ g. loops.cut g ≡ false) r.leads.via (y ∷ q.leads.via) r.leads.kind (q.uncut, q.leads.kind);
-      walk = walk-append net x y z r.leads.via q.leads.via r.leads.walk q.leads.walk;
-    };
-  }
+  uncut-trans x y z r q = grind (arith, all_append, walk-append net x y z r.leads.via q.leads.via r.leads.walk q.leads.walk)
 
   pub uncut-irreflexive : (x : ℕ) → Uncut net loops x x → ⊥
   uncut-irreflexive x r = cuts_leave_no_loop net loops are x r.leads.via r.leads.walk r.uncut r.leads.kind
@@ -72,7 +60,4 @@ module _ (net : Parts) (loops : Loops) (are : AreLoopsOf net loops) where
         (λ n l. by_ancestors (length net.gates) (Uncut net loops) uncut_within uncut-trans uncut-irreflexive (λ g. get_or s g X ≡ get_or t g X) same_step n)
 
 pub sweep_is_the_one : SweepIsTheOne
-sweep_is_the_one net loops are v c s = (
-  λ one. same_assignment net loops are v c s (sweep net loops v c) one (sweep_is_sweep net loops v c),
-  λ e. subst (λ (t : List Trit). IsSweep net loops v c t) (sym e) (sweep_is_sweep net loops v c),
-)
+sweep_is_the_one net loops are v c s = grind (arith, same_assignment net loops are v c s (sweep net loops v c), sweep_is_sweep net loops v c)

@@ -16,11 +16,7 @@ walk-append net a b c [] rest h k = (h, k)
 walk-append net a b c (x ∷ via) rest h k = (h.0, walk-append net x b c via rest h.1 k)
 
 pub leads-trans : (net : Parts) (a b c : ℕ) → Leads net AnyGate a b → Leads net AnyGate b c → Leads net AnyGate a c
-leads-trans net a b c h k = record {
-  via = h.via ++ (b ∷ k.via);
-  kind = all_any (h.via ++ (b ∷ k.via));
-  walk = walk-append net a b c h.via k.via h.walk k.walk;
-}
+leads-trans net a b c h k = grind (arith, all_any, walk-append)
 
 pub leads-step : (net : Parts) (a b : ℕ) → Feeds net a b → Leads net AnyGate a b
 leads-step net a b h = record { via = []; kind = tt; walk = h }
@@ -31,28 +27,16 @@ leads-any net a b via h = record { via = via; kind = all_any via; walk = h }
 -- each gate of a walk follows its first and leads to its last
 pub on_walk : (net : Parts) (a b : ℕ) (via : List ℕ) → Walk net a via b → AllByRecursion (λ n. Leads net AnyGate a n × Leads net AnyGate n b) via
 on_walk net a b [] h = tt
-on_walk net a b (x ∷ via) h =
-    let here = leads-step net a x h.0 in (
-      (here, leads-any net x b via h.1),
-      all_weaker (λ n. Leads net AnyGate x n × Leads net AnyGate n b) (λ n. Leads net AnyGate a n × Leads net AnyGate n b) via
-          (λ n p. (leads-trans net a x n here p.0, p.1))
-          (on_walk net x b via h.1),
-    )
+on_walk net a b (x ∷ via) h = grind (arith, leads-step net a x h.0, leads-any net x b via h.1, all_weaker, leads-trans net a x, on_walk net x b via h.1)
 
 pub on_closed_walk : (net : Parts) (a : ℕ) (via : List ℕ) → Walk net a via a → AllByRecursion (SameLoop net a) via
-on_closed_walk net a via h =
-    all_weaker (λ n. Leads net AnyGate a n × Leads net AnyGate n a) (SameLoop net a) via
-    (λ n p. record { there = p.0; back = p.1 })
-    (on_walk net a a via h)
+on_closed_walk net a via h = grind (arith, all_weaker, on_walk)
 
 pub same_loop-sym : (net : Parts) (a b : ℕ) → SameLoop net a b → SameLoop net b a
 same_loop-sym net a b h = record { there = h.back; back = h.there }
 
 pub same_loop-trans : (net : Parts) (a b c : ℕ) → SameLoop net a b → SameLoop net b c → SameLoop net a c
-same_loop-trans net a b c h k = record {
-  there = leads-trans net a b c h.there k.there;
-  back = leads-trans net c b a k.back h.back;
-}
+same_loop-trans net a b c h k = grind (arith, leads-trans net a b c h.there k.there, leads-trans net c b a k.back h.back)
 
 pub begins_at : (net : Parts) (a b : ℕ) (via : List ℕ) → Walk net a via b → a < length net.gates
 begins_at net a b [] h = h.source
@@ -105,15 +89,7 @@ split net P n a b (x ∷ via) h k =
 module _ (net : Parts) (loops : Loops) (are : AreLoopsOf net loops) where
   -- a walk from n back to n through uncut gates before it makes n a cut wire
   closed_before : (n : ℕ) (via : List ℕ) → Walk net n via n → AllByRecursion (λ g. (g < n) × (loops.cut g ≡ false)) via → loops.cut n ≡ false → ⊥
-  closed_before n via walk kind not_cut =
-      let leads : Leads net (MayPass net loops.cut n) n n = record {
-        via = via;
-        kind = all_weaker (λ g. SameLoop net n g × ((g < n) × (loops.cut g ≡ false))) (MayPass net loops.cut n) via
-            (λ g p. record { loop = p.0; before = p.1.0; uncut = p.1.1 })
-            (all_both (SameLoop net n) (λ g. (g < n) × (loops.cut g ≡ false)) via (on_closed_walk net n via walk) kind);
-        walk = walk;
-      } in
-      true≢false (sym ((are.cut n).1 leads) ∙ not_cut)
+  closed_before n via walk kind not_cut = grind (arith, all_weaker, all_both, on_closed_walk, true≢false)
 
   -- so also through gates up to n, since the walk can end at its first return
   closed_upto : (n : ℕ) (via : List ℕ) → Walk net n via n → AllByRecursion (λ g. (g < suc n) × (loops.cut g ≡ false)) via → loops.cut n ≡ false → ⊥
@@ -153,42 +129,19 @@ module _ (net : Parts) (loops : Loops) (are : AreLoopsOf net loops) where
   begins_within a b via h = begins_at net a b via h
 
   pub cuts_leave_no_loop : (a : ℕ) (via : List ℕ) → Walk net a via a → loops.cut a ≡ false → AllByRecursion (λ n. loops.cut n ≡ false) via → ⊥
-  cuts_leave_no_loop a via walk not_cut kind =
-      none_below (length net.gates) a via walk (begins_within a a via walk) not_cut
-      (all_both (λ g. g < length net.gates) (λ g. loops.cut g ≡ false) via (walk_within a a via walk) kind)
+  cuts_leave_no_loop a via walk not_cut kind = grind (arith, none_below (length net.gates) a via walk (begins_within a a via walk) not_cut, begins_within a a via walk, all_both, walk_within a a via walk)
 
 pub each_cut_is_needed : EachCutIsNeeded
-each_cut_is_needed net loops are n cut =
-    let leads = (are.cut n).0 cut in
-    record {
-      via = leads.via;
-      kind = all_weaker (MayPass net loops.cut n) (λ g. SameLoop net n g × (loops.cut g ≡ false)) leads.via (λ g p. (p.loop, p.uncut)) leads.kind;
-      walk = leads.walk;
-    }
+each_cut_is_needed net loops are n cut = grind (arith, all_weaker)
 
 module _ (net : Parts) (one two : Loops) (first : AreLoopsOf net one) (second : AreLoopsOf net two) where
   pass_either : (n : ℕ) → ((g : ℕ) → g < n → one.cut g ≡ two.cut g) → one.cut n ≡ true → two.cut n ≡ true
-  pass_either n below cut =
-      let leads = (first.cut n).0 cut in
-      (second.cut n).1 (record {
-        via = leads.via;
-        kind = all_weaker (MayPass net one.cut n) (MayPass net two.cut n) leads.via
-            (λ g p. record { loop = p.loop; before = p.before; uncut = sym (below g p.before) ∙ p.uncut }) leads.kind;
-        walk = leads.walk;
-      })
+  pass_either n below cut = grind (arith, all_weaker)
 
 module _ (net : Parts) (one two : Loops) (first : AreLoopsOf net one) (second : AreLoopsOf net two) where
   cuts_same_below : (bound n : ℕ) → n < bound → one.cut n ≡ two.cut n
   cuts_same_below zero n less = absurd (omega arith)
-  cuts_same_below (suc bound) n less =
-      same_truth (one.cut n) (two.cut n)
-      (pass_either net one two first second n (λ g l. cuts_same_below bound g (omega arith)))
-      (pass_either net two one second first n (λ g l. sym (cuts_same_below bound g (omega arith))))
+  cuts_same_below (suc bound) n less = grind (arith, same_truth (one.cut n) (two.cut n), pass_either net one two first second n, cuts_same_below bound, pass_either net two one second first n)
 
 pub loops_are_unique : LoopsAreUnique
-loops_are_unique net one two first second = (
-  λ a b. same_truth (one.same a b) (two.same a b)
-      (λ e. (second.same a b).1 ((first.same a b).0 e))
-      (λ e. (first.same a b).1 ((second.same a b).0 e)),
-  λ n. cuts_same_below net one two first second (suc n) n (omega arith),
-)
+loops_are_unique net one two first second = grind (arith, same_truth, cuts_same_below net one two first second)

@@ -5,11 +5,7 @@ use Rattle.loops.proofs.OrderLemmas.{at_least_place, not_there, places_below}
 use Rattle.loops.proofs.orders.place_of.Goals as goal
 
 pub overflow_cast-result : goal.overflow_cast-result
-overflow_cast-result c =
-    let gates = c.args.gates.now in
-    let low = at_least_place gates c.requires.rise c.in-Ok.place c.in-Ok.ensures.bound in
-    let fits = c.type_inv.gates c.in-Ok.place in
-    omega arith
+overflow_cast-result c = grind (arith, at_least_place)
 
 pub returns-in-Err-clause-none : goal.returns-in-Err-clause-none
 returns-in-Err-clause-none c k =

@@ -3,12 +3,7 @@ use Rattle.loops.proofs.OrderLemmas.{at_least_place, reads_more}
 use Rattle.loops.proofs.orders.uncut_reads.Goals as goal
 
 pub add_node-requires : goal.add_node-requires
-add_node-requires c =
-    let low = at_least_place c.args.gates.now c.requires.rise c.loop-gate.gate-index c.loop-gate-test.true in
-    let within = c.requires.gates c.loop-gate.gate-index c.loop-gate-test.true in
-    let fits = c.places_read.ensures.valid.fits in
-    let nodes = c.loop-gate.invariant.nodes in
-    omega arith
+add_node-requires c = grind (arith, at_least_place)
 
 pub loop-gate-preserved : goal.loop-gate-preserved
 loop-gate-preserved c =

@@ -40,14 +40,11 @@ is_entered c =
     (gained_rows c.args.grouped.now.net c.args.grouped.now.blocks n c.args.self.now.kept.readers.items c.insert.new.self.readers.items pins) gained
 
 pub returns-then-reads_itself-clause-search : goal.returns-then-reads_itself-clause-search
-returns-then-reads_itself-clause-search c =
-    search_left_out (IsLoopPin c.args.grouped.now.net c.args.grouped.now.blocks) c.args.cut.now c.args.gate (omega (arith, c.requires.gate, c.requires.cut)) c.args.self.now _ c.requires.search
-    c.requires.search.kept refl refl refl
+returns-then-reads_itself-clause-search c = grind (arith, search_left_out (IsLoopPin c.args.grouped.now.net c.args.grouped.now.blocks) c.args.cut.now c.args.gate)
 
 pub links-requires : goal.links-requires
 links-requires c =
-    let laid = is_laid (goal.at.links-requires c).In_ok-row in
-    kept_links (IsLoopPin c.args.grouped.now.net c.args.grouped.now.blocks) c.args.cut.now c.args.gate c.args.self.now.kept.readers.items (set c.args.self.now.kept.sources.items c.args.gate c.in_ok-row.row) c.args.self.now.kept.levels.items (omega (arith, c.requires.gate, c.requires.cut)) laid.0
+    grind (arith, is_laid (goal.at.links-requires c).In_ok-row, kept_links (IsLoopPin c.args.grouped.now.net c.args.grouped.now.blocks) c.args.cut.now c.args.gate c.args.self.now.kept.readers.items (set c.args.self.now.kept.sources.items c.args.gate c.in_ok-row.row) c.args.self.now.kept.levels.items)
 
 pub returns-then-is_closed-clause-leads : goal.returns-then-is_closed-clause-leads
 returns-then-is_closed-clause-leads c =
@@ -121,8 +118,7 @@ insert-requires-clause-apart c =
     let sources : List (List ℕ) = set c.args.self.now.kept.sources.items n c.in_ok-row.row in
     let levels = c.part.new.kept.levels.items in
     let apart = parted (IsLoopPin c.args.grouped.now.net c.args.grouped.now.blocks) c.args.cut.now n l c.args.self.now.kept.readers.items sources c.args.self.now.kept.levels.items laid.0 laid.1 levels (rw c.if-branch.false at c.in_ok-part.ensures.parted) in
-    λ p s one two.
-    (let less = apart.apart p s (rw c.in_ok-part.ensures.sources at one) (rw c.in_ok-part.ensures.readers at two) in omega arith)
+    grind arith
 
 pub links-requires-2 : goal.links-requires-2
 links-requires-2 c =
@@ -133,11 +129,7 @@ links-requires-2 c =
 pub extend-requires-clause-back : goal.extend-requires-clause-back
 extend-requires-clause-back c =
     let n = c.args.gate in
-    let l : n < length c.args.cut.now = omega (arith, c.requires.gate, c.requires.cut) in
-    let kept = is_entered (goal.at.extend-requires-clause-back c).In_ok-insert in
-    let free : IsFree (set c.args.cut.now n false) (n + 1) n = record { before = omega arith; uncut = get_or-set_same c.args.cut.now n false false l } in
-    rw (c.links-2.ensures.readers, c.links-2.ensures.sources)
-    (reads_back (IsLoopPin c.args.grouped.now.net c.args.grouped.now.blocks) (set c.args.cut.now n false) (n + 1) c.insert.new.self.readers.items c.insert.new.self.sources.items c.insert.new.self.levels.items kept n free)
+    grind (arith, is_entered (goal.at.extend-requires-clause-back c).In_ok-insert, get_or-set_same c.args.cut.now n false false, reads_back (IsLoopPin c.args.grouped.now.net c.args.grouped.now.blocks) (set c.args.cut.now n false) (n + 1) c.insert.new.self.readers.items c.insert.new.self.sources.items c.insert.new.self.levels.items)
 
 pub extend-requires-clause-landmarks : goal.extend-requires-clause-landmarks
 extend-requires-clause-landmarks c =

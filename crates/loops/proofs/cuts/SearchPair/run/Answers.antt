@@ -7,9 +7,7 @@ use Rattle.loops.proofs.cuts.SearchPair.run.Goals as goal
 
 pub returns-then-meets-clause-outcome : goal.returns-then-meets-clause-outcome
 returns-then-meets-clause-outcome c =
-    let row : c.gates.result.now ≡ row_at c.args.links.sources.now c.args.goal = row_read c.args.links.sources.now c.args.goal c.gates.result.now c.index-sources-goal.result (omega (arith, c.requires.goal, c.args.links.sources_size)) c.index-sources-goal.is c.gates.ensures in
-    meets_begun c.args.links.readers.now c.args.links.sources.now c.args.links.levels.now (AtMost c.args.high) c.args.goal c.start.new.self c.in_ok-start.ensures.searching
-    (rw (row, c.deref.ensures.value) at (c.meets.ensures.some c.if-meets.true))
+    grind (arith, row_read c.args.links.sources.now c.args.goal c.gates.result.now c.index-sources-goal.result, meets_begun c.args.links.readers.now c.args.links.sources.now c.args.links.levels.now (AtMost c.args.high) c.args.goal c.start.new.self c.in_ok-start.ensures.searching)
 
 pub loop-met-init : goal.loop-met-init
 loop-met-init c =
@@ -24,14 +22,10 @@ loop-met-init c =
     }
 
 pub returns-else-met-clause-outcome : goal.returns-else-met-clause-outcome
-returns-else-met-clause-outcome c =
-    let done = rw (c.in-Some.is, c.if-met.false) at c.in_ok-met.ensures in
-    rw done.1 (ended c.args.links.readers.now c.args.links.levels.now (AtMost c.args.high) c.args.goal c.loop-met.self.forth c.loop-met.invariant.forth (row_at c.args.links.sources.now c.args.goal) done.0 c.loop-met.invariant.ahead)
+returns-else-met-clause-outcome c = grind (arith, ended c.args.links.readers.now c.args.links.levels.now (AtMost c.args.high) c.args.goal c.loop-met.self.forth c.loop-met.invariant.forth (row_at c.args.links.sources.now c.args.goal))
 
 pub returns-else-met-2-clause-outcome : goal.returns-else-met-2-clause-outcome
-returns-else-met-2-clause-outcome c =
-    let done = rw (c.in-Some-2.is, c.if-met-2.false) at c.in_ok-met-2.ensures in
-    rw done.1 (ended c.args.links.sources.now c.args.links.levels.now (AtLeast c.args.low) c.args.goal c.loop-met.self.back c.loop-met.invariant.back (row_at c.args.links.readers.now c.args.goal) done.0 c.loop-met.invariant.behind)
+returns-else-met-2-clause-outcome c = grind (arith, ended c.args.links.sources.now c.args.links.levels.now (AtLeast c.args.low) c.args.goal c.loop-met.self.back c.loop-met.invariant.back (row_at c.args.links.readers.now c.args.goal))
 
 pub loop-met-preserved : goal.loop-met-preserved
 loop-met-preserved c =

@@ -5,9 +5,7 @@ use Rattle.loops.proofs.landmarks.Landmarks.learn.Goals as goal
 use Rattle.loops.proofs.landmarks.Landmarks.learn.Goals.{After-index}
 
 is_found : (c : After-index) → Contains c.args.back.now.found.items c.index.result.now
-is_found c =
-    let less : c.args.back.now.passed < length c.args.back.now.found.items = omega (arith, c.args.back.now.found.ok.0) in
-    (c.args.back.now.passed, less, sym (get_or_read c.args.back.now.found.items c.args.back.now.passed c.index.result.now less c.index.ensures c.index.result.now))
+is_found c = grind arith
 
 pub landmark_at-requires-clause-gate : goal.landmark_at-requires-clause-gate
 landmark_at-requires-clause-gate c = c.requires.within c.index.result.now (is_found (goal.at.landmark_at-requires-clause-gate c).After-index)

@@ -1,22 +1,18 @@
-use Rattle.std.proofs.Common.{◌≡◌, ap, ◌∙◌}
+use Rattle.std.proofs.Common.{◌≡◌, ap, ◌∙◌, arith}
 use Rattle.loops.proofs.Common.{Blocks, block_at}
 use Rattle.loops.proofs.OrderLemmas.{block_gates, gates_rise, gates_within, homes_differ, order_is}
 use Rattle.loops.proofs.looped_netlist.LoopedNetlist.order_of_block.Goals as goal
 use Rattle.loops.proofs.looped_netlist.LoopedNetlist.order_of_block.Goals.{After-items-gates}
 
 gates_are : (c : After-items-gates) → c.items-gates.result.now ≡ (block_at c.args.self.now.blocks c.args.place).gates
-gates_are c =
-    block_gates c.args.self.now.blocks c.items.result.now _ c.args.place _ c.requires (c.items.ensures ∙ ap (λ (b : Blocks). b.list) c.blocks-blocks.ensures.blocks) c.items-gates.ensures
+gates_are c = grind (arith, block_gates)
 
 pub uncut_reads-requires-clause-rise : goal.uncut_reads-requires-clause-rise
 uncut_reads-requires-clause-rise c =
-    gates_rise c.args.self.now.net c.args.self.now.blocks c.blocks-blocks.ensures.looped.blocks c.args.place c.requires c.items-gates.result.now
-    (gates_are (goal.at.uncut_reads-requires-clause-rise c).After-items-gates)
+    grind (arith, gates_rise c.args.self.now.net c.args.self.now.blocks c.blocks-blocks.ensures.looped.blocks c.args.place c.requires c.items-gates.result.now (gates_are (goal.at.uncut_reads-requires-clause-rise c).After-items-gates), gates_are (goal.at.uncut_reads-requires-clause-rise c).After-items-gates)
 
 pub uncut_reads-requires-clause-gates : goal.uncut_reads-requires-clause-gates
-uncut_reads-requires-clause-gates c =
-    gates_within c.args.self.now.net c.args.self.now.blocks c.blocks-blocks.ensures.looped.blocks c.args.place c.requires c.items-gates.result.now
-    (gates_are (goal.at.uncut_reads-requires-clause-gates c).After-items-gates)
+uncut_reads-requires-clause-gates c = grind (arith, gates_within, gates_are)
 
 pub placed-requires-clause-differ : goal.placed-requires-clause-differ
 placed-requires-clause-differ c =

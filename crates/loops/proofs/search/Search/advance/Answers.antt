@@ -8,15 +8,10 @@ use Rattle.loops.proofs.search.Search.advance.Goals.{After-gates, After-index-ga
 
 -- the gate that is passed is one that was found
 gate_found : (c : After-index-gate) → (c.args.self.now.passed < length c.args.self.now.found.items) × (get_or c.args.self.now.found.items c.args.self.now.passed c.index-gate.result.now ≡ c.index-gate.result.now)
-gate_found c =
-    let within = c.requires.searching.within in
-    let less : c.args.self.now.passed < length c.args.self.now.found.items = omega (arith, c.args.self.now.found.ok.0) in
-    (less, sym (get_or_read c.args.self.now.found.items c.args.self.now.passed c.index-gate.result.now less c.index-gate.ensures c.index-gate.result.now))
+gate_found c = grind arith
 
 gate_within : (c : After-index-gate) → c.index-gate.result.now < length c.args.levels.now
-gate_within c =
-    let at = gate_found c in
-    found_within c.args.rows.now c.args.levels.now c.args.limit c.args.goal c.args.self.now c.requires.searching c.index-gate.result.now (c.args.self.now.passed, at.0, at.1)
+gate_within c = grind (arith, gate_found c, found_within c.args.rows.now c.args.levels.now c.args.limit c.args.goal c.args.self.now c.requires.searching c.index-gate.result.now)
 
 -- its row
 row_is : (c : After-gates) → c.index-gate.result.now < length c.args.levels.now → c.gates.result.now ≡ row_at c.args.rows.now c.index-gate.result.now
@@ -26,9 +21,7 @@ pub bounds-rows-gate : goal.bounds-rows-gate
 bounds-rows-gate c = (let low = gate_within (goal.at.bounds-rows-gate c).After-index-gate in omega (arith, c.requires.size))
 
 pub meets-requires-clause-row : goal.meets-requires-clause-row
-meets-requires-clause-row c =
-    let low = gate_within (goal.at.meets-requires-clause-row c).After-index-gate in
-    rw (row_is (goal.at.meets-requires-clause-row c).After-gates low, c.requires.others) (c.requires.rows c.index-gate.result.now _ (omega (arith, c.requires.size)))
+meets-requires-clause-row c = grind (arith, gate_within (goal.at.meets-requires-clause-row c).After-index-gate, row_is (goal.at.meets-requires-clause-row c).After-gates)
 
 pub returns-then-meets : goal.returns-then-meets
 returns-then-meets c =

@@ -12,9 +12,7 @@ loop-self-init c =
 
 -- the gate that is passed is one that was found
 next_found : (c : After-index-next) → (c.loop-self.self.passed < length c.loop-self.self.found.items) × (get_or c.loop-self.self.found.items c.loop-self.self.passed c.index-next.result.now ≡ c.index-next.result.now)
-next_found c =
-    let less : c.loop-self.self.passed < length c.loop-self.self.found.items = omega (arith, c.loop-self.self.found.ok.0) in
-    (less, sym (get_or_read c.loop-self.self.found.items c.loop-self.self.passed c.index-next.result.now less c.index-next.ensures c.index-next.result.now))
+next_found c = grind arith
 
 pub follow-requires-clause-gate : goal.follow-requires-clause-gate
 follow-requires-clause-gate c =
@@ -30,10 +28,7 @@ loop-self-preserved c =
     (c.loop-self.self.passed, at.0, at.1) at.0 (c.requires.rows next [] (omega (arith, c.requires.size))) c.in_ok-follow.ensures.follows (omega (arith, c.in_ok-follow.ensures.passed))
 
 pub loop-self-smaller : goal.loop-self-smaller
-loop-self-smaller c =
-    let at = next_found (goal.at.loop-self-smaller c).After-index-next in
-    work_falls c.args.levels.now (AtLeast 0) c.args.goal _ _ c.loop-self.self (record { marks = c.follow.new.self.marks; found = c.follow.new.self.found; passed = c.follow.new.self.passed + 1 })
-    c.in_ok-follow.ensures.follows at.0 (omega (arith, c.in_ok-follow.ensures.passed))
+loop-self-smaller c = grind arith
 
 pub returns : goal.returns
 returns c = spread_done c.args.rows.now (length c.args.levels.now) c.args.goal c.args.gate c.args.self.now.marks.items c.loop-self.self c.loop-self.invariant c.requires.marks
