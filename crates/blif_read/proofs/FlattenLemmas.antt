@@ -37,22 +37,18 @@ each_of_flat names_in each_in (s ∷ rest) each =
     All-append IsBlifName (names_in s) (flat_map names_in rest) (each_in s (All-head IsSoundStatement s rest each)) (each_of_flat names_in each_in rest (All-tail IsSoundStatement s rest each))
 
 sound_inputs : (said : Statement) → IsSoundStatement said → All IsBlifName (inputs_in said)
-sound_inputs (Inputs names) sound = sound
-sound_inputs other sound = All-nil IsBlifName
+sound_inputs other sound = grind arith
 
 sound_outputs : (said : Statement) → IsSoundStatement said → All IsBlifName (outputs_in said)
-sound_outputs (Outputs names) sound = sound
-sound_outputs other sound = All-nil IsBlifName
+sound_outputs other sound = grind arith
 
 sound_clocks : (said : Statement) → IsSoundStatement said → All IsBlifName (clocks_in said)
-sound_clocks (Clocks names) sound = sound
-sound_clocks other sound = All-nil IsBlifName
+sound_clocks other sound = grind arith
 
 sound_body : (said : List Statement) → AreSound said → All IsSoundItem (body_of said)
 sound_body [] each = All-nil IsSoundItem
 sound_body (Names pins output ∷ rest) each =
-    let gate = All-head IsSoundStatement (Names pins output) rest each in
-    All-cons IsSoundItem (item.Gate (gate_of pins output rest)) (body_of rest) (record { pins = gate.0; output = gate.1; width = refl }) (sound_body rest (All-tail IsSoundStatement (Names pins output) rest each))
+    grind (arith, All-head IsSoundStatement (Names pins output) rest each, All-cons IsSoundItem (item.Gate (gate_of pins output rest)) (body_of rest), sound_body rest (All-tail IsSoundStatement (Names pins output) rest each), All-tail IsSoundStatement (Names pins output) rest each)
 sound_body (Latch latch ∷ rest) each =
     All-cons IsSoundItem (item.Latch latch) (body_of rest) (All-head IsSoundStatement (Latch latch) rest each) (sound_body rest (All-tail IsSoundStatement (Latch latch) rest each))
 sound_body (Part part ∷ rest) each =
@@ -75,8 +71,7 @@ members_count (End ∷ rest) = omega arith
 members_count (other ∷ rest) = let more = members_count rest in omega arith
 
 kind_count : (k : Kind) (line : Line) → input_count (statement_of_kind k line) ≤ word_count line
-kind_count of.Inputs line = let e = length-drop 1 line.words in omega arith
-kind_count other line = omega arith
+kind_count other line = grind arith
 
 lines_count : (found : List Line) → total input_count (map statement found) ≤ total word_count found
 lines_count [] = omega arith
@@ -133,21 +128,13 @@ abbrev new_behind : Kind → Line → List Line → List ℕ → Bool
 new_behind k line earlier name = (is_model k && bytes_eq name (model_name line)) || is_model_name name earlier
 
 weaker : (k : Kind) (line : Line) (earlier : List Line) (found : List BlifModel) → All (λ m. new_behind k line earlier m.name ≡ false) found → All (IsNewTo earlier) found
-weaker k line earlier found each =
-    All-weaker (λ m. new_behind k line earlier m.name ≡ false) (IsNewTo earlier)
-    (λ m is. (or_parts (is_model k && bytes_eq m.name (model_name line)) (is_model_name m.name earlier) is).1) found each
+weaker k line earlier found each = grind arith
 
 other_names : (line : Line) (earlier : List Line) (name : List ℕ) → new_behind of.Model line earlier name ≡ false → model_name line ≢ name
-other_names line earlier name is same =
-    let no = (or_parts (bytes_eq name (model_name line)) (is_model_name name earlier) is).0 in
-    let yes : bytes_eq name (model_name line) ≡ true = ap (bytes_eq name) same ∙ bytes_eq-same name name refl in
-    let both = sym no ∙ yes in
-    cc both
+other_names line earlier name is same = grind (arith, or_parts (bytes_eq name (model_name line)) (is_model_name name earlier) is, bytes_eq-same name name)
 
 all_other : (line : Line) (earlier : List Line) (found : List BlifModel) (model : BlifModel) → model.name ≡ model_name line → All (λ m. new_behind of.Model line earlier m.name ≡ false) found → All (NamesDiffer model) found
-all_other line earlier found model is each =
-    All-weaker (λ m. new_behind of.Model line earlier m.name ≡ false) (NamesDiffer model)
-    (λ m new same. other_names line earlier m.name new (sym is ∙ same)) found each
+all_other line earlier found model is each = grind (arith, All-weaker, other_names line earlier)
 
 pub record AreNewBehind (k : Kind) (line : Line) (earlier : List Line) (found : List BlifModel) : Type 0 where
   pub each : All (λ m. new_behind k line earlier m.name ≡ false) found
@@ -165,10 +152,7 @@ new_by_kind other line earlier rest none new = record { each = new.each; differ 
 
 new_models : (earlier rest : List Line) → first_fault earlier rest ≡ None → AreNew earlier (models (map statement rest))
 new_models earlier [] none = record { each = All-nil (IsNewTo earlier); differ = λ i j d below inside. absurd (omega arith) }
-new_models earlier (line ∷ rest) none =
-    let both = or_none (fault_of line earlier) (first_fault (line ∷ earlier) rest) none in
-    let more = new_models (line ∷ earlier) rest both.1 in
-    new_by_kind (kind line) line earlier (map statement rest) both.0 (record { each = more.each; differ = more.differ })
+new_models earlier (line ∷ rest) none = grind (arith, or_none (fault_of line earlier) (first_fault (line ∷ earlier) rest) none, new_models (line ∷ earlier) rest, new_by_kind (kind line) line earlier (map statement rest))
 
 -- Where there are models there is no fault.
 models_are : (fault : Option BlifFault) (all found : List BlifModel) → unless_fault fault all ≡ Ok found → (fault ≡ None) × (all ≡ found)
@@ -179,13 +163,7 @@ models_are None (m ∷ ms) found is = (refl, cc is)
 of_lines : (text : List ℕ) (all : Result (List Line) ℕ) (found : List BlifModel) → lines text true ≡ all → reads_lines all ≡ Ok found → length text ≤ 4000000000 → CanBeFlattened found
 of_lines text (Err n) found are is few = absurd (cc is)
 of_lines text (Ok all) found are is few =
-    let both = models_are (first_fault [] all) (models (map statement all)) found is in
-    let names = words_are_names text true all are in
-    let words = words_are_few text true all are in
-    let inputs = lines_count all in
-    let sound : All IsSoundModel (models (map statement all)) = sound_models (map statement all) (sound_statements [] all names both.0) (omega arith) in
-    let new = new_models [] all both.0 in
-    rw (← both.1) (record { sound = sound; names_differ = new.differ })
+    grind (arith, models_are (first_fault [] all) (models (map statement all)) found is, words_are_names text true all are, words_are_few text true all are, lines_count all, sound_models (map statement all), sound_statements [] all, new_models [] all)
 
 pub can_be_flattened : (text : List ℕ) (found : List BlifModel) → reads text ≡ Ok found → length text ≤ 4000000000 → CanBeFlattened found
 can_be_flattened text found is few = of_lines text (lines text true) found refl is few
@@ -198,20 +176,12 @@ HasFewInputs most model = length model.inputs ≤ most
 few_in_models : (most : ℕ) (said : List Statement) → total input_count said ≤ most → All (HasFewInputs most) (models said)
 few_in_models most [] few = All-nil (HasFewInputs most)
 few_in_models most (Model name ∷ rest) few =
-    let count = flat_count (members rest) in
-    let fewer = members_count rest in
-    All-cons (HasFewInputs most) (model_of name (members rest)) (models rest) (omega arith) (few_in_models most rest (few_behind (Model name) rest few))
+    grind (arith, flat_count (members rest), members_count rest, All-cons (HasFewInputs most) (model_of name (members rest)) (models rest), few_in_models most rest (few_behind (Model name) rest few), few_behind (Model name) rest few)
 few_in_models most (other ∷ rest) few = few_in_models most rest (few_behind other rest few)
 
 few_of_lines : (text : List ℕ) (all : Result (List Line) ℕ) (found : List BlifModel) → lines text true ≡ all → reads_lines all ≡ Ok found
     → All (λ model. length model.inputs ≤ length text) found
-few_of_lines text (Err n) found are is = absurd (cc is)
-few_of_lines text (Ok all) found are is =
-    let both = models_are (first_fault [] all) (models (map statement all)) found is in
-    let words = words_are_few text true all are in
-    let inputs = lines_count all in
-    let P : List BlifModel → Type 0 = λ ms. All (HasFewInputs (length text)) ms in
-    subst P both.1 (few_in_models (length text) (map statement all) (omega arith))
+few_of_lines text all found are is = grind (arith, models_are, words_are_few, lines_count, few_in_models)
 
 pub few_inputs : (text : List ℕ) (found : List BlifModel) → reads text ≡ Ok found → All (λ model. length model.inputs ≤ length text) found
 few_inputs text found is = few_of_lines text (lines text true) found refl is

@@ -13,14 +13,11 @@ use Rattle.blif_read.specs.Running.{FitsGate, FitsModel, FitsProgress, place_in,
 -- Pins.
 
 few_pins : (names : List (List ℕ)) (t : Bool) (n : ℕ) → nat_lt 1024 (length names) ≡ t → (if t then Some (fault.TooManyPins n) else None) ≡ None → length names ≤ 1024
-few_pins names true n is none = absurd (cc none)
-few_pins names false n is none = grind (arith, nat_tests)
+few_pins names t n is none = grind arith
 
 pub pins_fit : (n : ℕ) (names : List (List ℕ)) → names_fault n names ≡ None → length (pins_of names) ≤ 1024
 pins_fit n [] none = absurd (cc none)
-pins_fit n (name ∷ names) none =
-    let few = few_pins names (nat_lt 1024 (length names)) n refl none in
-    simp length-take (omega (arith, few))
+pins_fit n (name ∷ names) none = grind (arith, few_pins names (nat_lt 1024 (length names)) n, length-take)
 
 -- Literals.
 
@@ -29,8 +26,7 @@ length_lits [] = refl
 length_lits (b ∷ rest) = ap suc (length_lits rest)
 
 first_of_and : (a b c : Bool) → (a && b && c) ≡ true → a ≡ true
-first_of_and true b c is = refl
-first_of_and false b c is = is
+first_of_and a b c is = grind arith
 
 row_width : (pins : ℕ) (words : List (List ℕ)) → is_row_of pins words ≡ true → length (lits_of words) ≡ pins
 row_width zero [] is = absurd (cc is)
@@ -43,36 +39,26 @@ row_width (suc n) (lits ∷ plane ∷ []) is =
 row_width (suc n) (a ∷ b ∷ c ∷ rest) is = absurd (cc is)
 
 row_is : (t : Bool) (pins n : ℕ) (words : List (List ℕ)) (next : Option BlifFault) → is_row_of pins words ≡ t → (if t then next else Some (fault.BadRow n)) ≡ None → is_row_of pins words ≡ true
-row_is true pins n words next is none = is
-row_is false pins n words next is none = absurd (cc none)
+row_is t pins n words next is none = grind arith
 
 pub row_fits : (pins : ℕ) (first : Option Bool) (line : Line) → row_fault_in pins first line ≡ None → length (lits_of line.words) ≡ pins
-row_fits pins first line none =
-    row_width pins line.words
-    (row_is (is_row_of pins line.words) pins line.number line.words (if differs first (is_on line) then Some (fault.MixedRows line.number) else None) refl none)
+row_fits pins first line none = grind (arith, row_width pins line.words, row_is (is_row_of pins line.words) pins line.number line.words (if differs first (is_on line) then Some (fault.MixedRows line.number) else None))
 
 gate_fits : (gate : Option OpenGate) (first : Option Bool) (line : Line) → row_fault (option_map (λ g. length g.pins) gate) first line ≡ None
     → FitsGate gate (record { lits = lits_of line.words })
-gate_fits None first line none = tt
-gate_fits (Some gate) first line none = row_fits (length gate.pins) first line none
+gate_fits gate first line none = grind (arith, row_fits)
 
 model_fits : (open_model : OpenModel) (k : Kind) (line : Line) → fault_inside k line (place_in (Some open_model)) ≡ None → FitsModel open_model (statement_of_kind k line)
-model_fits m Row line none = gate_fits m.gate (place_in (Some m)).first line none
-model_fits m Names line none = pins_fit line.number (arguments line) none
-model_fits m k line none = tt
+model_fits m k line none = grind (arith, gate_fits, pins_fit)
 
 pub fits : (in_progress : Option OpenModel) (k : Kind) (line : Line) → fault_inside k line (place_in in_progress) ≡ None → FitsProgress in_progress (statement_of_kind k line)
-fits None k line none = tt
-fits (Some m) k line none = model_fits m k line none
+fits in_progress k line none = grind (arith, model_fits)
 
 -- Lines that aren't `.model` lines.
 
 pub fault_of_other : (k : Kind) (line : Line) (place : Place) (taken : Bool) → k ≢ Model
     → fault_at k line place taken ≡ (if place.in_model then fault_inside k line place else Some (fault.OutsideModel line.number))
-fault_of_other Model line place taken other = absurd (other refl)
-fault_of_other k line place taken other = refl
+fault_of_other k line place taken other = grind arith
 
 pub goes_on : (progress : Progress) (k : Kind) (line : Line) → k ≢ Model → k ≢ End → follow progress (statement_of_kind k line) ≡ go_on progress (statement_of_kind k line)
-goes_on progress Model line other more = absurd (other refl)
-goes_on progress End line other more = absurd (more refl)
-goes_on progress k line other more = refl
+goes_on progress k line other more = grind arith

@@ -19,6 +19,4 @@ few : (pins : ℕ) → pins ≤ 1024 → nat_le pins 1024 ≡ true
 few pins fits = grind (arith, nat_tests)
 
 pub no_fault : (pins : ℕ) (rows : List Row) → pins ≤ 1024 → All (λ row. length row.lits ≡ pins) rows → first_fault pins rows ≡ None
-no_fault pins rows fits each =
-    ap (λ (t : Bool). if t then option_map Width (position_from (λ row. not (has_width pins row)) 0 rows) else Some TooManyPins) (few pins fits)
-    ∙ ap (option_map Width) (none_of_other_width pins rows 0 each)
+no_fault pins rows fits each = grind (arith, few pins, none_of_other_width pins rows 0 each)

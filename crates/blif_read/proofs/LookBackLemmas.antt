@@ -1,5 +1,5 @@
 -- What follows up to the next end is what looks back.
-use Rattle.std.proofs.Common.{◌≡◌, Bool, true, false, not, List, [], ◌∷◌, map, refl, sym, ap, ◌∙◌}
+use Rattle.std.proofs.Common.{◌≡◌, Bool, true, false, not, List, [], ◌∷◌, map, refl, sym, ap, ◌∙◌, arith}
 use Rattle.blif_read.proofs.Common.{◌&&◌, if◌then◌else◌, Line, Kind, Row, Model, Statement, kind, statement, statement_of_kind, members}
 use Rattle.cover_logic.specs.declared.row.Row.{Row as CoverRow}
 use Rattle.blif_read.specs.Places.{is_row}
@@ -7,12 +7,10 @@ use Rattle.blif_read.specs.Models.{rows_of}
 use Rattle.blif_read.specs.Laws.{ends_model, reaches_model, lines_of_model, reaches_cover, rows_of_cover, row_of, ModelsLookBack, CoversLookBack}
 
 false_either_way : (t : Bool) (reaches : Bool) → reaches ≡ false → (if t then false else reaches) ≡ false
-false_either_way true reaches is = refl
-false_either_way false reaches is = is
+false_either_way t reaches is = grind arith
 
 false_or : (t : Bool) (reaches : Bool) → reaches ≡ false → (if t then reaches else false) ≡ false
-false_or true reaches is = is
-false_or false reaches is = refl
+false_or t reaches is = grind arith
 
 -- Models.
 
@@ -22,19 +20,14 @@ skipped reaches ends line found rest is = ap (λ t. if t && not ends then line �
 none_behind : (passed rest : List Line) → reaches_model passed ≡ false → lines_of_model passed rest ≡ []
 none_behind passed [] is = refl
 none_behind passed (line ∷ rest) is =
-    skipped (reaches_model passed) (ends_model (kind line)) line (lines_of_model (line ∷ passed) rest) (lines_of_model (line ∷ passed) rest) is
-    ∙ none_behind (line ∷ passed) rest (false_either_way (ends_model (kind line)) (reaches_model passed) is)
+    grind (arith, skipped (reaches_model passed) (ends_model (kind line)) line (lines_of_model (line ∷ passed) rest) (lines_of_model (line ∷ passed) rest) is, none_behind (line ∷ passed) rest (false_either_way (ends_model (kind line)) (reaches_model passed) is), false_either_way (ends_model (kind line)) (reaches_model passed) is)
 
 member_by_kind : (k : Kind) (line : Line) (rest : List Statement) → members (statement_of_kind k line ∷ rest) ≡ (if ends_model k then [] else statement_of_kind k line ∷ members rest)
-member_by_kind Model line rest = refl
-member_by_kind k line rest = refl
+member_by_kind k line rest = grind arith
 
 model_choice : (ends reaches : Bool) (line : Line) (more : List Statement) (found : List Line) → reaches ≡ true → (ends ≡ false → more ≡ map statement found) → (ends ≡ true → found ≡ [])
     → (if ends then [] else statement line ∷ more) ≡ map statement (if reaches && not ends then line ∷ found else found)
-model_choice true reaches line more found is goes none =
-    ap (map statement) (sym (none refl) ∙ sym (ap (λ t. if t && false then line ∷ found else found) is))
-model_choice false reaches line more found is goes none =
-    ap (λ rest. statement line ∷ rest) (goes refl) ∙ ap (λ t. map statement (if t && true then line ∷ found else found)) (sym is)
+model_choice ends reaches line more found is goes none = grind arith
 
 member_lines : (passed rest : List Line) → reaches_model passed ≡ true → members (map statement rest) ≡ map statement (lines_of_model passed rest)
 member_lines passed [] is = refl
@@ -52,20 +45,14 @@ models_look_back rest = member_lines [] rest refl
 
 no_rows_behind : (passed rest : List Line) → reaches_cover passed ≡ false → rows_of_cover passed rest ≡ []
 no_rows_behind passed [] is = refl
-no_rows_behind passed (line ∷ rest) is =
-    ap (λ t. if t && is_row (kind line) then line ∷ rows_of_cover (line ∷ passed) rest else rows_of_cover (line ∷ passed) rest) is
-    ∙ no_rows_behind (line ∷ passed) rest (false_or (is_row (kind line)) (reaches_cover passed) is)
+no_rows_behind passed (line ∷ rest) is = grind (arith, no_rows_behind (line ∷ passed) rest (false_or (is_row (kind line)) (reaches_cover passed) is), false_or (is_row (kind line)) (reaches_cover passed) is)
 
 row_by_kind : (k : Kind) (line : Line) (rest : List Statement) → rows_of (statement_of_kind k line ∷ rest) ≡ (if is_row k then row_of line ∷ rows_of rest else [])
-row_by_kind Row line rest = refl
-row_by_kind k line rest = refl
+row_by_kind k line rest = grind arith
 
 row_choice : (row reaches : Bool) (line : Line) (more : List CoverRow) (found : List Line) → reaches ≡ true → (row ≡ true → more ≡ map row_of found) → (row ≡ false → found ≡ [])
     → (if row then row_of line ∷ more else []) ≡ map row_of (if reaches && row then line ∷ found else found)
-row_choice true reaches line more found is goes none =
-    ap (λ rest. row_of line ∷ rest) (goes refl) ∙ ap (λ t. map row_of (if t && true then line ∷ found else found)) (sym is)
-row_choice false reaches line more found is goes none =
-    ap (map row_of) (sym (none refl) ∙ sym (ap (λ t. if t && false then line ∷ found else found) is))
+row_choice row reaches line more found is goes none = grind arith
 
 row_lines : (passed rest : List Line) → reaches_cover passed ≡ true → rows_of (map statement rest) ≡ map row_of (rows_of_cover passed rest)
 row_lines passed [] is = refl

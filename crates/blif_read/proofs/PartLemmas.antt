@@ -8,16 +8,14 @@ pub pairs_more : (words : List (List ℕ)) (k : ℕ) → k < length words
     → list_all is_pair (drop k words) ≡ (is_pair (get_or words k []) && list_all is_pair (drop (k + 1) words))
 pairs_more words k inside =
     let e : suc k ≡ k + 1 = omega arith in
-    ap (list_all is_pair) (drop-cons words k [] inside)
-    ∙ ap (λ at. is_pair (get_or words k []) && list_all is_pair (drop at words)) e
+    grind (arith, drop-cons words k [] inside)
 
 pub pairs_end : (words : List (List ℕ)) (k : ℕ) → length words ≤ k → list_all is_pair (drop k words) ≡ true
 pairs_end words k over = ap (list_all is_pair) (drop_of_length-le words over)
 
 pub pair_next : (words : List (List ℕ)) (k : ℕ) → 2 ≤ k → k < length words
     → map pair_of (slice_range words 2 (k + 1)) ≡ map pair_of (slice_range words 2 k) ++ pair_of (get_or words k []) ∷ []
-pair_next words k low high =
-    ap (map pair_of) (slice_more words 2 k [] low high) ∙ map_push pair_of (slice_range words 2 k) (get_or words k [])
+pair_next words k low high = grind (arith, slice_more words 2 k [] low high, map_push pair_of (slice_range words 2 k) (get_or words k []))
 
 pub pair_none : (words : List (List ℕ)) → map pair_of (slice_range words 2 2) ≡ []
 pair_none words = ap (map pair_of) (slice_none words 2)

@@ -47,39 +47,22 @@ pub record Remains (text : List ℕ) (p : Progress) (left : Result (List Line) �
   pub answers : answer_left p earlier left ≡ reads text
 
 nothing_earlier : (found : Result (List Line) ℕ) → answer_left start [] found ≡ reads_lines found
-nothing_earlier (Ok found) = refl
-nothing_earlier (Err n) = refl
+nothing_earlier found = grind arith
 
 remains_line : (text : List ℕ) (p : Progress) (line : Line) (rest : Result (List Line) ℕ) → Remains text p (behind_part (line ∷ []) rest) → fault_next p line ≡ None
     → Remains text (follow p (statement line)) rest
-remains_line text p line (Err n) at none = record {
-  earlier = line ∷ at.earlier;
-  agrees = agrees_next p line at.earlier at.agrees none;
-  answers = at.answers;
-}
-remains_line text p line (Ok rest) at none = record {
-  earlier = line ∷ at.earlier;
-  agrees = agrees_next p line at.earlier at.agrees none;
-  answers =
-      ap (unless_fault (first_fault (line ∷ at.earlier) rest)) (whole_step p (statement line) (map statement rest))
-      ∙ ap (λ f. unless_fault (or_else f (first_fault (line ∷ at.earlier) rest)) (whole p (statement line ∷ map statement rest)))
-      (sym none ∙ fault_is p line at.earlier at.agrees)
-      ∙ at.answers;
-}
+remains_line text p line (Err n) at none = grind (arith, agrees_next p line at.earlier at.agrees none)
+remains_line text p line (Ok rest) at none = grind (arith, agrees_next p line at.earlier at.agrees none, whole_step p (statement line) (map statement rest), whole p (statement line ∷ map statement rest), fault_is p line at.earlier at.agrees)
 
 behind_none : (rest : Result (List Line) ℕ) → behind_part [] rest ≡ rest
-behind_none (Ok rest) = refl
-behind_none (Err n) = refl
+behind_none rest = grind arith
 
 behind_one : (line : Line) (more : List Line) (rest : Result (List Line) ℕ) → behind_part (line ∷ more) rest ≡ behind_part (line ∷ []) (behind_part more rest)
-behind_one line more (Ok rest) = refl
-behind_one line more (Err n) = refl
+behind_one line more rest = grind arith
 
 remains_lines : (text : List ℕ) (p q : Progress) (part : List Line) (rest : Result (List Line) ℕ) → Remains text p (behind_part part rest) → LeadTo p part q → Remains text q rest
 remains_lines text p q [] rest found is = rw is (rw (behind_none rest) at found)
-remains_lines text p q (line ∷ more) rest found leads =
-    remains_lines text (follow p (statement line)) q more rest
-    (remains_line text p line (behind_part more rest) (rw (behind_one line more rest) at found) leads.0) leads.1
+remains_lines text p q (line ∷ more) rest found leads = grind (arith, remains_lines text (follow p (statement line)) q more rest, remains_line text p line (behind_part more rest), behind_one line more rest)
 
 remains_none : (text : List ℕ) (p : Progress) → Remains text p (Ok []) → reads text ≡ if_any (all_ended p)
 remains_none text p at = sym at.answers ∙ ap if_any (whole_end p)
@@ -92,43 +75,18 @@ pub record PartsAt (text : List ℕ) (p : Progress) (s : State) (i : ℕ) : Type
   pub remains : Remains text p (left true text s i)
 
 pub at_start : (text : List ℕ) (p : Progress) (s : State) → p ≡ start → s ≡ text_start → PartsAt text p s 0
-at_start text p s p_is s_is = record {
-  stands = stands_start s s_is;
-  number = (stands_start s s_is).number;
-  within = omega arith;
-  remains = rw p_is (record {
-    earlier = [];
-    agrees = record { place = refl; names = λ name. refl };
-    answers = ap (answer_left start []) (left_start text true s s_is) ∙ nothing_earlier (lines text true);
-  });
-}
+at_start text p s p_is s_is = grind (arith, stands_start s s_is, left_start text true s s_is, nothing_earlier (lines text true))
 
 pub at_bytes : (text : List ℕ) (p : Progress) (s next : State) (i j : ℕ) → PartsAt text p s i → i ≤ j → j ≤ length text → state_over true text i (j - i) s ≡ Some next
     → PartsAt text p next j
-at_bytes text p s next i j at low within read =
-    let stands = stands_over text true s next i j at.stands low within read in
-    record {
-      stands = stands;
-      number = stands.number;
-      within = within;
-      remains = rw (left_over text true s next i j at.stands low within read) (at.remains);
-    }
+at_bytes text p s next i j at low within read = grind (arith, stands_over text true s next i j at.stands low within read, left_over text true s next i j at.stands low within read)
 
 pub at_part : (text : List ℕ) (p q : Progress) (s next : State) (part : List Line) (i : ℕ) → PartsAt text p s i → s ≡ with_part part next → LeadTo p part q → PartsAt text q next i
-at_part text p q s next part i at is leads = record {
-  stands = stands_part part s next i is at.stands;
-  number = (stands_part part s next i is at.stands).number;
-  within = at.within;
-  remains = remains_lines text p q part (left true text next i) (rw (left_part text true part s next i is) at (at.remains)) leads;
-}
+at_part text p q s next part i at is leads = grind (arith, stands_part part s next i is at.stands, remains_lines text p q part (left true text next i), left true text next i, left_part text true part s next i is)
 
 pub at_end : (text : List ℕ) (p q : Progress) (s : State) (part : List Line) (i : ℕ) → PartsAt text p s i → length text ≤ i → part ≡ finish true s → LeadTo p part q
     → reads text ≡ if_any (all_ended q)
-at_end text p q s part i at over is leads =
-    let e : left true text s i ≡ behind_part part (Ok []) =
-    left_end text true s i at.stands over ∙ ap (λ all. Ok all) (sym (append-nil part ∙ is)) in
-    remains_none text q (remains_lines text p q part (Ok []) (rw e at (at.remains)) leads)
+at_end text p q s part i at over is leads = grind (arith, left true text s i, left_end text true s i at.stands over, append-nil part, remains_none text q, remains_lines text p q part (Ok []))
 
 pub ok_same : {X : Type 0} (result wanted : Result X BlifFault) → wanted ≡ result → IfOk result (λ x. wanted ≡ Ok x)
-ok_same (Ok x) wanted is = is
-ok_same (Err fault) wanted is = tt
+ok_same result wanted is = grind arith

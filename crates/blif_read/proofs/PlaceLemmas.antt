@@ -28,8 +28,7 @@ length_pins names = simp length-take (omega arith)
 -- The first row.
 
 first_is : (found : Option Line) (first : Option Bool) (line : Line) → first ≡ option_map is_on found → Some (unwrap_or first (is_on line)) ≡ option_map is_on (this_unless line found)
-first_is None first line same = ap (λ f. Some (unwrap_or f (is_on line))) same
-first_is (Some row) first line same = ap (λ f. Some (unwrap_or f (is_on line))) same
+first_is found first line same = grind arith
 
 row_place : (gate : Option OpenGate) (line : Line) (earlier : List Line)
     → option_map (λ g. length g.pins) gate ≡ option_map (λ names. pin_count (arguments names)) (cover_line earlier)
@@ -38,50 +37,34 @@ row_place : (gate : Option OpenGate) (line : Line) (earlier : List Line)
     → (let now : Option OpenGate = option_map (add_row (record { lits = lits_of line.words }) (is_on line)) gate in
     place true (option_map (λ g. length g.pins) now) (option_and_then (λ g. g.first) now))
     ≡ place true (option_map (λ names. pin_count (arguments names)) (cover_line earlier)) (option_map is_on (this_unless line (first_row earlier)))
-row_place None line earlier pins first none = absurd (cc none)
-row_place (Some gate) line earlier pins first none = ap₂ (place true) pins (first_is (first_row earlier) gate.first line first)
+row_place gate line earlier pins first none = grind arith
 
 -- A line of each kind.
 
 inside_place : (m : OpenModel) (k : Kind) (line : Line) (earlier : List Line) → k ≢ Model → k ≢ End → place_in (Some m) ≡ place_behind earlier
     → fault_inside k line (place_in (Some m)) ≡ None
     → place_in (Some (add m (statement_of_kind k line))) ≡ place_by k line earlier
-inside_place m Model line earlier other more same none = absurd (other refl)
-inside_place m End line earlier other more same none = absurd (more refl)
-inside_place m Row line earlier other more same none =
-    row_place m.gate line earlier (ap (λ at. at.pins) same) (ap (λ at. at.first) same) none
-    ∙ ap (λ t. place t (option_map (λ names. pin_count (arguments names)) (cover_line earlier)) (option_map is_on (this_unless line (first_row earlier)))) (ap (λ at. at.in_model) same)
-inside_place m Names line earlier other more same none =
-    ap₂ (λ t pins. place t (Some pins) None) (ap (λ at. at.in_model) same) (length_pins (arguments line))
-inside_place m k line earlier other more same none = ap (λ t. place t None None) (ap (λ at. at.in_model) same)
+inside_place m k line earlier other more same none = grind (arith, row_place, length_pins)
 
 some_place : (in_progress : Option OpenModel) (k : Kind) (line : Line) (earlier : List Line) → k ≢ Model → k ≢ End → place_in in_progress ≡ place_behind earlier
     → (if (place_in in_progress).in_model then fault_inside k line (place_in in_progress) else Some (fault.OutsideModel line.number)) ≡ None
     → place_in (option_map (λ m. add m (statement_of_kind k line)) in_progress) ≡ place_by k line earlier
-some_place None k line earlier other more same none = absurd (cc none)
-some_place (Some m) k line earlier other more same none = inside_place m k line earlier other more same none
+some_place in_progress k line earlier other more same none = grind (arith, inside_place)
 
 other_place : (p : Progress) (k : Kind) (line : Line) (earlier : List Line) (taken : Bool) → k ≢ Model → k ≢ End → place_in p.in_progress ≡ place_behind earlier
     → fault_at k line (place_in p.in_progress) taken ≡ None
     → place_in (follow p (statement_of_kind k line)).in_progress ≡ place_by k line earlier
-other_place p k line earlier taken other more same none =
-    ap (λ now. place_in now.in_progress) (goes_on p k line other more)
-    ∙ some_place p.in_progress k line earlier other more same (sym (fault_of_other k line (place_in p.in_progress) taken other) ∙ none)
+other_place p k line earlier taken other more same none = grind (arith, goes_on p k line other more, some_place p.in_progress k line earlier other more same, fault_of_other k line (place_in p.in_progress) taken other)
 
 place_by_kind : (p : Progress) (k : Kind) (line : Line) (earlier : List Line) (taken : Bool) → place_in p.in_progress ≡ place_behind earlier
     → fault_at k line (place_in p.in_progress) taken ≡ None
     → place_in (follow p (statement_of_kind k line)).in_progress ≡ place_by k line earlier
-place_by_kind p Model line earlier taken same none = refl
-place_by_kind p End line earlier taken same none = refl
-place_by_kind p k line earlier taken same none = other_place p k line earlier taken (λ e. cc e) (λ e. cc e) same none
+place_by_kind p k line earlier taken same none = grind (arith, other_place)
 
 -- Names of models.
 
 swapped : (a b c : Bool) → (a || (b || c)) ≡ (b || (a || c))
-swapped true true c = refl
-swapped true false c = refl
-swapped false true c = refl
-swapped false false c = refl
+swapped a b c = grind arith
 
 any_push : (test : List ℕ → Bool) (names : List (List ℕ)) (name : List ℕ) → list_any test (names ++ name ∷ []) ≡ (test name || list_any test names)
 any_push test [] name = refl
@@ -93,9 +76,7 @@ AreNames names earlier = (name : List ℕ) → list_any (bytes_eq name) names �
 
 names_by_kind : (p : Progress) (k : Kind) (line : Line) (earlier : List Line) → AreNames p.names earlier → (name : List ℕ)
     → list_any (bytes_eq name) (follow p (statement_of_kind k line)).names ≡ ((is_model k && bytes_eq name (model_name line)) || is_model_name name earlier)
-names_by_kind p Model line earlier are name =
-    any_push (bytes_eq name) p.names (model_name line) ∙ ap (λ t. bytes_eq name (model_name line) || t) (are name)
-names_by_kind p k line earlier are name = are name
+names_by_kind p k line earlier are name = grind (arith, any_push)
 
 -- The running state agrees with the lines so far.
 pub record Agrees (p : Progress) (earlier : List Line) : Type 0 where
@@ -103,10 +84,7 @@ pub record Agrees (p : Progress) (earlier : List Line) : Type 0 where
   pub names : AreNames p.names earlier
 
 pub agrees_next : (p : Progress) (line : Line) (earlier : List Line) → Agrees p earlier → fault_next p line ≡ None → Agrees (follow p (statement line)) (line ∷ earlier)
-agrees_next p line earlier agrees none = record {
-  place = place_by_kind p (kind line) line earlier (list_any (bytes_eq (model_name line)) p.names) agrees.place none;
-  names = names_by_kind p (kind line) line earlier agrees.names;
-}
+agrees_next p line earlier agrees none = grind (arith, place_by_kind p (kind line) line earlier (list_any (bytes_eq (model_name line)) p.names) agrees.place none, names_by_kind p (kind line) line earlier agrees.names)
 
 -- So the fault of the next line is the one that looking back finds.
 pub fault_is : (p : Progress) (line : Line) (earlier : List Line) → Agrees p earlier → fault_next p line ≡ fault_at (kind line) line (place_behind earlier) (is_model_name (model_name line) earlier)

@@ -1,5 +1,5 @@
 -- The answer that there is once the lines that are left are read.
-use Rattle.std.proofs.Common.{◌≡◌, ◌≤◌, ◌<◌, ℕ, zero, suc, ◌+◌, List, [], ◌∷◌, length, drop, map, Some, None, Ok, Err, refl, sym, ap, ◌∙◌, drop_of_length-le, add-one}
+use Rattle.std.proofs.Common.{◌≡◌, ◌≤◌, ◌<◌, ℕ, zero, suc, ◌+◌, List, [], ◌∷◌, length, drop, map, Some, None, Ok, Err, refl, sym, ap, ◌∙◌, drop_of_length-le, add-one, arith}
 use Rattle.blif_read.proofs.Common.{Option, Result, drop-cons, Line, BlifFault, BlifModel, first_fault, or_else, statement, if_any, unless_fault, reads_lines, Progress, all_ended, follow, fault_next}
 use Rattle.blif_text.specs.Lines.{line_at}
 use Rattle.blif_read.specs.Answers.{Answers}
@@ -27,11 +27,7 @@ lines_here lines i inside = drop-cons lines i (record { number = 0; words = [] }
 
 fault_here : (lines : List Line) (p : Progress) (i : ℕ) (found : Option BlifFault) → ReadsAt lines p i → i < length lines → fault_next p (line_at lines i) ≡ found
     → unless_fault (or_else found (first_fault (line_at lines i ∷ before lines i) (drop (suc i) lines))) (whole p (statement (line_at lines i) ∷ map statement (drop (suc i) lines))) ≡ reads_lines (Ok lines)
-fault_here lines p i found at inside is =
-    ap (λ f. unless_fault (or_else f (first_fault (line_at lines i ∷ before lines i) (drop (suc i) lines))) (whole p (statement (line_at lines i) ∷ map statement (drop (suc i) lines))))
-    (sym is ∙ fault_is p (line_at lines i) (before lines i) at.agrees)
-    ∙ ap (answer p (before lines i)) (sym (lines_here lines i inside))
-    ∙ at.answers
+fault_here lines p i found at inside is = grind (arith, whole p (statement (line_at lines i) ∷ map statement (drop (suc i) lines)), fault_is p (line_at lines i) (before lines i) at.agrees, lines_here lines i inside)
 
 pub at_next : (lines : List Line) (p next : Progress) (i : ℕ) → ReadsAt lines p i → i < length lines → fault_next p (line_at lines i) ≡ None → next ≡ follow p (statement (line_at lines i))
     → ReadsAt lines next (i + 1)
@@ -48,11 +44,7 @@ pub at_fault : (lines : List Line) (p : Progress) (i : ℕ) (found : BlifFault) 
 at_fault lines p i found at inside is = sym (fault_here lines p i (Some found) at inside is)
 
 pub at_end : (lines : List Line) (p : Progress) (i : ℕ) → ReadsAt lines p i → length lines ≤ i → reads_lines (Ok lines) ≡ if_any (all_ended p)
-at_end lines p i at over =
-    sym at.answers
-    ∙ ap (answer p (before lines i)) (drop_of_length-le lines over)
-    ∙ ap if_any (whole_end p)
+at_end lines p i at over = grind (arith, drop_of_length-le lines over, whole_end p)
 
 pub answers_same : {X : Type 0} (result wanted : Result X BlifFault) → result ≡ wanted → Answers result wanted
-answers_same (Ok x) wanted is = sym is
-answers_same (Err found) wanted is = λ _. sym is
+answers_same result wanted is = grind arith

@@ -45,16 +45,13 @@ sound_model_name n (a ∷ b ∷ c ∷ rest) taken each none = absurd (cc none)
 
 sound_gate : (n : ℕ) (names : List (List ℕ)) → All IsBlifName names → names_fault n names ≡ None → All IsBlifName (pins_of names) × IsBlifName (output_of names)
 sound_gate n [] each none = absurd (cc none)
-sound_gate n (name ∷ names) each none =
-    (All-take IsBlifName (pin_count (name ∷ names)) (name ∷ names) each, each (pin_count (name ∷ names)) [] (omega arith))
+sound_gate n (name ∷ names) each none = grind (arith, All-take IsBlifName (pin_count (name ∷ names)) (name ∷ names) each)
 
 -- `.latch` lines.
 
 sound_choice : (t : Bool) (edge : Edge) (name : List ℕ) → bytes_eq name (codes "NIL") ≡ t → IsBlifName name
     → IsSoundControl (if t then None else Some (record { edge = edge; name = name }))
-sound_choice true edge name is blif = tt
-sound_choice false edge name is blif =
-    (blif, λ e. let same : bytes_eq name (codes "NIL") ≡ true = ap (λ n. bytes_eq n (codes "NIL")) e in let both = sym is ∙ same in cc both)
+sound_choice t edge name is blif = grind arith
 
 sound_control : (edge : Edge) (name : List ℕ) → IsBlifName name → IsSoundControl (control_of edge name)
 sound_control edge name blif = sound_choice (bytes_eq name (codes "NIL")) edge name refl blif
@@ -78,9 +75,8 @@ filled_name (b ∷ rest) filled each = ((λ e. cc e), each)
 
 sound_pair : (word : List ℕ) → IsBlifName word → is_pair word ≡ true → IsBlifName (formal_of word) × IsBlifName (actual_of word)
 sound_pair word blif pair =
-    let both = and_parts (is_filled (formal_of word)) (is_filled (actual_of word)) pair in
     let at = position_or_len is_equals word in
-    (filled_name (formal_of word) both.0 (All-take IsBlifByte at word blif.1), filled_name (actual_of word) both.1 (All-drop IsBlifByte (at + 1) word blif.1))
+    grind (arith, and_parts (is_filled (formal_of word)) (is_filled (actual_of word)) pair, filled_name (formal_of word), All-take IsBlifByte, filled_name (actual_of word), All-drop IsBlifByte (at + 1) word blif.1)
 
 abbrev IsSoundWord : List ℕ → Type 0
 IsSoundWord word = IsBlifName (formal_of word) × IsBlifName (actual_of word)
@@ -92,8 +88,7 @@ sound_pairs (word ∷ words) each pairs =
     All-cons IsSoundWord word words (sound_pair word (All-head IsBlifName word words each) both.0) (sound_pairs words (All-tail IsBlifName word words each) both.1)
 
 are_pairs : (t : Bool) (n : ℕ) (words : List (List ℕ)) → list_all is_pair words ≡ t → (if t then None else Some (fault.BadSubckt n)) ≡ None → list_all is_pair words ≡ true
-are_pairs true n words is none = is
-are_pairs false n words is none = absurd (cc none)
+are_pairs t n words is none = grind arith
 
 sound_part : (n : ℕ) (words : List (List ℕ)) → All IsBlifName words → subckt_fault n words ≡ None → IsSoundPart (part_of words)
 sound_part n [] each none = absurd (cc none)
@@ -107,31 +102,19 @@ sound_part n (model ∷ pairs) each none = record {
 -- Each statement.
 
 sound_inside : (k : Kind) (line : Line) (place : Place) → k ≢ of.Model → HasNames line → fault_inside k line place ≡ None → IsSoundStatement (statement_of_kind k line)
-sound_inside of.Model line place other each none = absurd (other refl)
-sound_inside of.Inputs line place other each none = names_behind line each
-sound_inside of.Outputs line place other each none = names_behind line each
-sound_inside of.Clock line place other each none = names_behind line each
-sound_inside of.Names line place other each none = sound_gate line.number (arguments line) (names_behind line each) none
-sound_inside of.Latch line place other each none = sound_latch line.number (arguments line) (names_behind line each) none
-sound_inside of.Subckt line place other each none = sound_part line.number (arguments line) (names_behind line each) none
-sound_inside unnamed line place other each none = tt
+sound_inside unnamed line place other each none = grind (arith, names_behind, sound_gate, sound_latch, sound_part)
 
 no_fault_inside : (t : Bool) (n : ℕ) (inside : Option BlifFault) → (if t then inside else Some (fault.OutsideModel n)) ≡ None → inside ≡ None
-no_fault_inside true n inside none = none
-no_fault_inside false n inside none = absurd (cc none)
+no_fault_inside t n inside none = grind arith
 
 sound_other : (k : Kind) (line : Line) (place : Place) (taken : Bool) → k ≢ of.Model → HasNames line → fault_at k line place taken ≡ None → IsSoundStatement (statement_of_kind k line)
-sound_other k line place taken other each none =
-    sound_inside k line place other each
-    (no_fault_inside place.in_model line.number (fault_inside k line place) (sym (fault_of_other k line place taken other) ∙ none))
+sound_other k line place taken other each none = grind (arith, sound_inside k line place other each, no_fault_inside place.in_model line.number (fault_inside k line place), fault_of_other k line place taken other)
 
 sound_statement : (k : Kind) (line : Line) (place : Place) (taken : Bool) → HasNames line → fault_at k line place taken ≡ None → IsSoundStatement (statement_of_kind k line)
-sound_statement of.Model line place taken each none = sound_model_name line.number line.words taken each none
-sound_statement other line place taken each none = sound_other other line place taken (λ e. cc e) each none
+sound_statement other line place taken each none = grind (arith, sound_model_name, sound_other)
 
 pub or_none : (here next : Option BlifFault) → or_else here next ≡ None → (here ≡ None) × (next ≡ None)
-or_none (Some f) next none = absurd (cc none)
-or_none None next none = (refl, none)
+or_none here next none = grind arith
 
 pub sound_statements : (earlier rest : List Line) → All HasNames rest → first_fault earlier rest ≡ None → All IsSoundStatement (map statement rest)
 sound_statements earlier [] each none = All-nil IsSoundStatement

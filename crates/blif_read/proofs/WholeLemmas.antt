@@ -1,5 +1,5 @@
 -- The models that there are once more statements follow.
-use Rattle.std.proofs.Common.{◌≡◌, ℕ, Bool, true, List, [], ◌∷◌, ◌++◌, length, Some, None, refl, sym, ap, ap₂, ◌∙◌, append_assoc, append-nil}
+use Rattle.std.proofs.Common.{◌≡◌, ℕ, Bool, true, List, [], ◌∷◌, ◌++◌, length, Some, None, refl, sym, ap, ap₂, ◌∙◌, append_assoc, append-nil, arith}
 use Rattle.blif_read.proofs.Common.{option_map, Option, BlifModel, Statement, Inputs, Outputs, Clocks, Latch, Part, End, members, OpenGate, OpenModel, Progress, all_ended, follow}
 use Rattle.std.specs.Prelude.{flat_map, option_to_list, unwrap_or}
 use Rattle.cover_logic.specs.declared.row.Row as rows
@@ -45,34 +45,23 @@ whole progress rest = (progress.done ++ open_then progress.in_progress rest) ++ 
 -- Where no row follows, the gate is as it stands.
 
 plane_ended : (first : Option Bool) (inside : List Statement) → plane_of inside ≡ true → plane_then first inside ≡ unwrap_or first true
-plane_ended (Some plane) inside is = refl
-plane_ended None inside is = is
+plane_ended first inside is = grind arith
 
 gate_ended : (gate : Option OpenGate) (inside : List Statement) → plane_of inside ≡ true → rows_of inside ≡ [] → gate_then gate inside ≡ gate_items gate ++ body_of inside
-gate_ended None inside plane rows = refl
-gate_ended (Some gate) inside plane rows =
-    ap₂ (λ p rs. item.Gate (cover_line gate.pins gate.output p rs) ∷ body_of inside)
-    (plane_ended gate.first inside plane)
-    (ap (λ more. gate.rows ++ more) rows ∙ append-nil gate.rows)
+gate_ended gate inside plane rows = grind (arith, plane_ended, append-nil)
 
 body_ended : (body : List Item) (gate : Option OpenGate) (inside : List Statement) → plane_of inside ≡ true → rows_of inside ≡ []
     → (body ++ gate_items gate) ++ body_of inside ≡ body ++ gate_then gate inside
-body_ended body gate inside plane rows =
-    append_assoc body (gate_items gate) (body_of inside) ∙ ap (λ more. body ++ more) (sym (gate_ended gate inside plane rows))
+body_ended body gate inside plane rows = grind (arith, append_assoc body (gate_items gate) (body_of inside), gate_ended gate inside plane rows)
 
 -- One statement more in the model.
 
 plane_added : (first : Option Bool) (row : rows.Row) (plane : Bool) (inside : List Statement) → unwrap_or first plane ≡ plane_then first (Row row plane ∷ inside)
-plane_added None row plane inside = refl
-plane_added (Some p) row plane inside = refl
+plane_added first row plane inside = grind arith
 
 row_added : (gate : Option OpenGate) (row : rows.Row) (plane : Bool) (inside : List Statement)
     → gate_then (option_map (add_row row plane) gate) inside ≡ gate_then gate (Row row plane ∷ inside)
-row_added None row plane inside = refl
-row_added (Some gate) row plane inside =
-    ap₂ (λ p rs. item.Gate (cover_line gate.pins gate.output p rs) ∷ body_of inside)
-    (plane_added gate.first row plane inside)
-    (append_assoc gate.rows (row ∷ []) (rows_of inside))
+row_added gate row plane inside = grind (arith, plane_added, append_assoc)
 
 abbrev StandsInside : Statement → Type 0
 StandsInside (Model name) = Unit {0} → ⊥
@@ -82,47 +71,24 @@ StandsInside other = Unit {0}
 extended_by : (m : OpenModel) (said : Statement) (inside : List Statement) → StandsInside said → extended (add m said) inside ≡ extended m (said ∷ inside)
 extended_by m (Model name) inside stands = absurd (stands tt)
 extended_by m End inside stands = absurd (stands tt)
-extended_by m (Inputs names) inside stands =
-    ap₂ (λ inputs body. model_with m.model.name inputs (m.model.outputs ++ flat_map outputs_in inside) (m.model.clocks ++ flat_map clocks_in inside) body)
-    (append_assoc m.model.inputs names (flat_map inputs_in inside))
-    (body_ended m.model.body m.gate (Inputs names ∷ inside) refl refl)
-extended_by m (Outputs names) inside stands =
-    ap₂ (λ outputs body. model_with m.model.name (m.model.inputs ++ flat_map inputs_in inside) outputs (m.model.clocks ++ flat_map clocks_in inside) body)
-    (append_assoc m.model.outputs names (flat_map outputs_in inside))
-    (body_ended m.model.body m.gate (Outputs names ∷ inside) refl refl)
-extended_by m (Clocks names) inside stands =
-    ap₂ (λ clocks body. model_with m.model.name (m.model.inputs ++ flat_map inputs_in inside) (m.model.outputs ++ flat_map outputs_in inside) clocks body)
-    (append_assoc m.model.clocks names (flat_map clocks_in inside))
-    (body_ended m.model.body m.gate (Clocks names ∷ inside) refl refl)
-extended_by m (Row row plane) inside stands =
-    ap (λ items. model_with m.model.name (m.model.inputs ++ flat_map inputs_in inside) (m.model.outputs ++ flat_map outputs_in inside) (m.model.clocks ++ flat_map clocks_in inside) (m.model.body ++ items))
-    (row_added m.gate row plane inside)
-extended_by m (Latch latch) inside stands =
-    ap (λ body. model_with m.model.name (m.model.inputs ++ flat_map inputs_in inside) (m.model.outputs ++ flat_map outputs_in inside) (m.model.clocks ++ flat_map clocks_in inside) body)
-    (append_assoc (m.model.body ++ gate_items m.gate) (item.Latch latch ∷ []) (body_of inside) ∙ body_ended m.model.body m.gate (Latch latch ∷ inside) refl refl)
-extended_by m (Part part) inside stands =
-    ap (λ body. model_with m.model.name (m.model.inputs ++ flat_map inputs_in inside) (m.model.outputs ++ flat_map outputs_in inside) (m.model.clocks ++ flat_map clocks_in inside) body)
-    (append_assoc (m.model.body ++ gate_items m.gate) (item.Part part ∷ []) (body_of inside) ∙ body_ended m.model.body m.gate (Part part ∷ inside) refl refl)
-extended_by m other inside stands =
-    ap (λ body. model_with m.model.name (m.model.inputs ++ flat_map inputs_in inside) (m.model.outputs ++ flat_map outputs_in inside) (m.model.clocks ++ flat_map clocks_in inside) body)
-    (body_ended m.model.body m.gate (other ∷ inside) refl refl)
+extended_by m (Inputs names) inside stands = grind (arith, append_assoc m.model.inputs names (flat_map inputs_in inside), body_ended m.model.body m.gate (Inputs names ∷ inside))
+extended_by m (Outputs names) inside stands = grind (arith, append_assoc m.model.outputs names (flat_map outputs_in inside), body_ended m.model.body m.gate (Outputs names ∷ inside))
+extended_by m (Clocks names) inside stands = grind (arith, append_assoc m.model.clocks names (flat_map clocks_in inside), body_ended m.model.body m.gate (Clocks names ∷ inside))
+extended_by m (Row row plane) inside stands = grind (arith, row_added m.gate row plane inside)
+extended_by m (Latch latch) inside stands = grind (arith, append_assoc (m.model.body ++ gate_items m.gate) (item.Latch latch ∷ []) (body_of inside), body_ended m.model.body m.gate (Latch latch ∷ inside))
+extended_by m (Part part) inside stands = grind (arith, append_assoc (m.model.body ++ gate_items m.gate) (item.Part part ∷ []) (body_of inside), body_ended m.model.body m.gate (Part part ∷ inside))
+extended_by m other inside stands = grind (arith, body_ended m.model.body m.gate (other ∷ inside))
 
 -- Nothing more in the model.
 extended_no_more : (m : OpenModel) → extended m [] ≡ ended m
-extended_no_more m =
-    ap₂ (λ inputs outputs. model_with m.model.name inputs outputs (m.model.clocks ++ []) (m.model.body ++ gate_then m.gate [])) (append-nil m.model.inputs) (append-nil m.model.outputs)
-    ∙ ap₂ (λ clocks items. model_with m.model.name m.model.inputs m.model.outputs clocks (m.model.body ++ items)) (append-nil m.model.clocks)
-    (gate_ended m.gate [] refl refl ∙ append-nil (gate_items m.gate))
+extended_no_more m = grind (arith, append-nil m.model.inputs, append-nil m.model.outputs, append-nil m.model.clocks, gate_ended m.gate [], append-nil (gate_items m.gate))
 
 open_ended : (in_progress : Option OpenModel) (rest : List Statement) → members rest ≡ [] → open_then in_progress rest ≡ option_to_list (option_map ended in_progress)
-open_ended None rest none = refl
-open_ended (Some m) rest none = ap (λ inside. extended m inside ∷ []) none ∙ ap (λ model. model ∷ []) (extended_no_more m)
+open_ended in_progress rest none = grind (arith, extended_no_more)
 
 open_by : (in_progress : Option OpenModel) (said : Statement) (rest : List Statement) → StandsInside said → members (said ∷ rest) ≡ said ∷ members rest
     → open_then (option_map (λ m. add m said) in_progress) rest ≡ open_then in_progress (said ∷ rest)
-open_by None said rest stands inside = refl
-open_by (Some m) said rest stands inside =
-    ap (λ model. model ∷ []) (extended_by m said (members rest) stands) ∙ ap (λ all. extended m all ∷ []) (sym inside)
+open_by in_progress said rest stands inside = grind (arith, extended_by)
 
 -- A statement in the model in progress, and outside of one nothing.
 within : (p : Progress) (said : Statement) (rest : List Statement) → StandsInside said → members (said ∷ rest) ≡ said ∷ members rest
@@ -131,12 +97,7 @@ within p said rest stands inside = ap (λ more. (p.done ++ more) ++ models rest)
 
 -- The models stay the same when a statement is taken from those that follow.
 pub whole_step : (p : Progress) (said : Statement) (rest : List Statement) → whole (follow p said) rest ≡ whole p (said ∷ rest)
-whole_step p (Model name) rest =
-    append_assoc (all_ended p) (model_of name (members rest) ∷ []) (models rest)
-    ∙ ap (λ more. (p.done ++ more) ++ model_of name (members rest) ∷ models rest) (sym (open_ended p.in_progress (Model name ∷ rest) refl))
-whole_step p End rest =
-    ap (λ front. front ++ models rest) (append-nil (all_ended p) ∙ ap (λ more. p.done ++ more) (sym (open_ended p.in_progress (End ∷ rest) refl)))
-whole_step p other rest = within p other rest tt refl
+whole_step p other rest = grind (arith, append_assoc, open_ended, append-nil, within)
 
 pub whole_end : (p : Progress) → whole p [] ≡ all_ended p
 whole_end p = append-nil (p.done ++ open_then p.in_progress []) ∙ ap (λ more. p.done ++ more) (open_ended p.in_progress [] refl)

@@ -4,5 +4,4 @@ use Rattle.blif_read.proofs.Common.{is_equals}
 use Rattle.blif_read.proofs.subckts.equals_at.Goals as goal
 
 pub returns-clause-place : goal.returns-clause-place
-returns-clause-place c =
-    sym (position_or_len_is is_equals c.args.word.now (length c.args.word.now) 0 (omega arith) (λ k h. c.loop-at.invariant k (omega arith)) (λ h. absurd (omega arith)))
+returns-clause-place c = grind (arith, position_or_len_is is_equals c.args.word.now (length c.args.word.now) 0)
