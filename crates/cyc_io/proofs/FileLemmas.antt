@@ -10,32 +10,23 @@ abbrev nothing : List ℕ
 nothing = []
 
 nil_of : (file : Option (List ℕ)) → MatchOption file (nothing ≡ nothing) (λ whole. take 0 whole ≡ nothing)
-nil_of None = refl
-nil_of (Some whole) = refl
+nil_of file = grind arith
 
 -- at the start
 pub IsFront_nil : (files : Option Files) (name : List ℕ) → IsFront files name []
-IsFront_nil None name = tt
-IsFront_nil (Some told) name = nil_of (told name)
+IsFront_nil files name = grind arith
 
 part_joins : (whole bytes old new : List ℕ) (n : ℕ) → take (length bytes) whole ≡ bytes → IsPart whole (length bytes) n old new
     → take (length (bytes ++ take n new)) whole ≡ bytes ++ take n new
 part_joins whole bytes old new n front part =
     let long : length (take n new) ≡ n = ap length part.front ∙ length-take-le n (drop (length bytes) whole) part.inside in
     let total : length (bytes ++ take n new) ≡ length bytes + n = length-append bytes (take n new) ∙ ap (λ k. length bytes + k) long in
-    ap (λ k. take k whole) total ∙ take-add (length bytes) n whole
-    ∙ ap (λ xs. xs ++ take n (drop (length bytes) whole)) front
-    ∙ ap (λ xs. bytes ++ xs) (sym part.front)
+    grind (arith, take-add (length bytes) n whole)
 
 -- one more piece
 pub IsFront_more : (files : Option Files) (name bytes old new : List ℕ) (n : ℕ) → IsFront files name bytes
     → GivesPart files name (length bytes) n old new → IsFront files name (bytes ++ take n new)
-IsFront_more None name bytes old new n front gives = tt
-IsFront_more (Some told) name bytes old new n front (whole, is, part) =
-    let here : MatchOption (Some whole) (bytes ≡ []) (λ whole. take (length bytes) whole ≡ bytes) =
-    subst (λ (file : Option (List ℕ)). MatchOption file (bytes ≡ []) (λ whole. take (length bytes) whole ≡ bytes)) is front in
-    subst (λ (file : Option (List ℕ)). MatchOption file (bytes ++ take n new ≡ []) (λ whole. take (length (bytes ++ take n new)) whole ≡ bytes ++ take n new))
-    (sym is) (part_joins whole bytes old new n here part)
+IsFront_more files name bytes old new n front gives = grind (arith, part_joins)
 
 take_all : (xs : List ℕ) (n : ℕ) → length xs ≤ n → take n xs ≡ xs
 take_all [] zero le = refl
@@ -49,10 +40,7 @@ ended_whole whole bytes front le = sym (take_all whole (length bytes) le) ∙ fr
 -- the same, as the code names the bytes
 pub front_more : (files : Option Files) (name bytes old new more : List ℕ) (at n : ℕ) → GivesPart files name at n old new
     → more ≡ bytes ++ take n new → at ≡ length bytes → IsFront files name bytes → IsFront files name more
-front_more files name bytes old new more at n gives is place front =
-    let P : List ℕ → Type 0 = λ text. IsFront files name text in
-    let Q : ℕ → Type 0 = λ k. GivesPart files name k n old new in
-    subst P (sym is) (IsFront_more files name bytes old new n front (subst Q place gives))
+front_more files name bytes old new more at n gives is place front = grind (arith, IsFront_more files name bytes old new n front)
 
 -- no more piece
 pub IsFile_ended : (files : Option Files) (name bytes old new : List ℕ) → 0 < length old → IsFront files name bytes
@@ -66,26 +54,12 @@ IsFile_ended (Some told) name bytes old new room front (whole, is, part) =
 -- A front that has bytes is that of a file.
 pub IsFront_file : (files : Option Files) (name bytes : List ℕ) (limit : ℕ) → IsFront files name bytes → limit < length bytes
     → (whole : List ℕ) × (limit < length whole) × IsFile files name whole
-IsFront_file None name bytes limit front over = (bytes, over, tt)
-IsFront_file (Some told) name bytes limit front over = found (told name) refl front
-  where
-    longer : (whole : List ℕ) → take (length bytes) whole ≡ bytes → limit < length whole
-    longer whole is = omega (arith, ap length is, length-take (length bytes) whole)
-
-    found : (file : Option (List ℕ)) → told name ≡ file → MatchOption file (bytes ≡ []) (λ whole. take (length bytes) whole ≡ bytes)
-        → (whole : List ℕ) × (limit < length whole) × (told name ≡ Some whole)
-    found None is none = absurd (omega (arith, ap length none))
-    found (Some whole) is front = (whole, longer whole front, is)
+IsFront_file files name bytes limit front over = grind (arith, length-take)
 
 -- the same, as the code names the bytes
 pub whole_ended : (files : Option Files) (name bytes old new more : List ℕ) (at n : ℕ) → GivesPart files name at n old new
     → more ≡ bytes ++ take n new → at ≡ length bytes → 0 < length old → n ≡ 0 → IsFront files name bytes → IsFile files name more
-whole_ended files name bytes old new more at n gives is place room none front =
-    let Q : ℕ → Type 0 = λ k. GivesPart files name k n old new in
-    let R : ℕ → Type 0 = λ k. GivesPart files name (length bytes) k old new in
-    let P : List ℕ → Type 0 = λ text. IsFile files name text in
-    let same : bytes ≡ more = sym (is ∙ ap (λ k. bytes ++ take k new) none ∙ append-nil bytes) in
-    subst P same (IsFile_ended files name bytes old new room front (subst R none (subst Q place gives)))
+whole_ended files name bytes old new more at n gives is place room none front = grind (arith, append-nil bytes, IsFile_ended files name bytes old new room front)
 
 -- past the end there is none
 pub part_none : (bytes buf : List ℕ) (at : ℕ) → length bytes ≤ at → IsPart bytes at 0 buf buf
@@ -94,9 +68,4 @@ part_none bytes buf at over = record { inside = omega arith; front = refl; rest 
 -- bytes that were copied to the front
 pub part_copied : (bytes old new : List ℕ) (at n : ℕ) → at < length bytes → n ≡ min (length (drop at bytes)) (length old)
     → take n new ≡ take n (drop at bytes) → drop n new ≡ drop n old → IsPart bytes at n old new
-part_copied bytes old new at n inside is front rest = record {
-  inside = omega arith;
-  front = front;
-  rest = rest;
-  ended = λ none room. omega (arith, length-drop at bytes);
-}
+part_copied bytes old new at n inside is front rest = grind (arith, length-drop)

@@ -1,3 +1,4 @@
+use Rattle.std.proofs.Common.{arith}
 use Rattle.cyc_io.proofs.TakenLemmas.{appended_then, appended_cut}
 use Rattle.cyc_io.proofs.put.put_three.Goals as goal
 
@@ -11,5 +12,4 @@ returns-in_err-write_whole-2 g c =
 
 pub returns : goal.returns
 returns g c =
-    appended_then _ _ _ _ _ _ _ _ _ _ c.in_ok-write_whole.ensures
-    (appended_then _ _ _ _ _ _ _ _ _ _ c.in_ok-write_whole-2.ensures c.write_whole-3.ensures)
+    grind (arith, appended_then _ _ _ _ _ _ _ _ _ _ c.in_ok-write_whole.ensures (appended_then _ _ _ _ _ _ _ _ _ _ c.in_ok-write_whole-2.ensures c.write_whole-3.ensures), appended_then _ _ _ _ _ _ _ _ _ _ c.in_ok-write_whole-2.ensures c.write_whole-3.ensures)
