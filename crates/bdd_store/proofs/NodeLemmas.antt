@@ -40,13 +40,6 @@ index-complemented_if m n = grind arith
 pub is_marked-complemented_if : (m : Bool) (n : Node) → is_marked (complemented_if m n) ≡ flipped m (is_marked n)
 is_marked-complemented_if m n = grind arith
 
-pub complemented_if-twice : (m : Bool) (n : Node) → complemented_if m (complemented_if m n) ≡ n
-complemented_if-twice m n = grind arith
-
--- without its own mark a node has none
-pub is_marked-own : (n : Node) → is_marked (complemented_if (is_marked n) n) ≡ false
-is_marked-own n = is_marked-complemented_if (is_marked n) n ∙ flipped-own (is_marked n)
-
 -- ---- the node without a mark at a position
 
 pub plain : (n : Node) (p : ℕ) → n.number ≡ 2 * p + 3 → (index n ≡ p + 1) × (is_marked n ≡ false)

@@ -9,7 +9,7 @@ pub use Rattle.blif_read.specs.Running.{OpenGate, OpenModel, Progress, all_ended
 pub use Rattle.blif_read.specs.Statements.{pair_of, pins_of, statement, statement_of_kind}
 pub use Rattle.blif_read.specs.declared.fault.BlifFault.{BlifFault}
 pub use Rattle.blif_read.specs.declared.kind.Kind.{Kind}
-pub use Rattle.blif_read.specs.declared.kind.Kind.TheVariants.{Model, Row}
+pub use Rattle.blif_read.specs.declared.kind.Kind.TheVariants.{Model}
 pub use Rattle.blif_read.specs.declared.models.BlifModel.{BlifModel}
 pub use Rattle.blif_read.specs.declared.place.Place.{Place}
 pub use Rattle.blif_read.specs.declared.statement.Statement.{Statement}

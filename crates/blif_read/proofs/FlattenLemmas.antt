@@ -1,6 +1,6 @@
 -- The models of a text can be flattened.
-use Rattle.std.proofs.Common.{◌≡◌, ◌≢◌, ◌≤◌, ℕ, ◌+◌, List, [], ◌∷◌, length, drop, map, true, false, refl, sym, ap, subst, ◌∙◌, arith, length-append, length-drop, All}
-use Rattle.blif_read.proofs.Common.{◌&&◌, Option, Result, bytes_eq, All-head, All-tail, Line, BlifFault, Kind, BlifModel, Statement, Inputs, Outputs, Clocks, Latch, Part, End, kind, model_name, place_behind, is_model_name, fault_at, first_fault, statement, statement_of_kind, members, reads, reads_lines, unless_fault}
+use Rattle.std.proofs.Common.{◌≡◌, ◌≢◌, ◌≤◌, ℕ, ◌+◌, List, [], ◌∷◌, length, drop, map, true, false, refl, ap, ◌∙◌, arith, length-append, All}
+use Rattle.blif_read.proofs.Common.{◌&&◌, Option, Result, bytes_eq, All-head, All-tail, Line, BlifFault, Kind, BlifModel, Statement, Latch, Part, End, kind, model_name, place_behind, is_model_name, fault_at, first_fault, statement, statement_of_kind, members, reads, reads_lines, unless_fault}
 use Rattle.std.specs.Prelude.{Bool, ◌||◌, Some, None, Ok, Err, flat_map, AllPairs}
 use Rattle.std.proofs.lemmas.List.Elements.{All-nil, All-cons, All-append, All-weaker}
 use Rattle.std.proofs.lemmas.List.Kept.{AllPairs-cons}

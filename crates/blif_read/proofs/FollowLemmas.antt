@@ -1,10 +1,9 @@
 -- A line without a fault fits the model in progress.
-use Rattle.std.proofs.Common.{◌≡◌, ◌≢◌, ◌≤◌, ℕ, zero, suc, Bool, true, false, List, [], ◌∷◌, length, map, Some, None, refl, ap, ◌∙◌, arith, eqb-true, length-take}
-use Rattle.blif_read.proofs.Common.{◌&&◌, if◌then◌else◌, option_map, Option, list_all, Line, BlifFault, Kind, Row, Model, Place, arguments, fault_inside, fault_at, statement_of_kind, pins_of, OpenGate, OpenModel, Progress, follow}
+use Rattle.std.proofs.Common.{◌≡◌, ◌≢◌, ◌≤◌, ℕ, zero, suc, Bool, true, List, [], ◌∷◌, length, map, Some, None, refl, ap, ◌∙◌, arith, eqb-true, length-take}
+use Rattle.blif_read.proofs.Common.{◌&&◌, if◌then◌else◌, option_map, Option, list_all, Line, BlifFault, Kind, Model, Place, fault_inside, fault_at, statement_of_kind, pins_of, OpenGate, OpenModel, Progress, follow}
 use Rattle.std.specs.Prelude.{◌==◌, nat_lt}
-use Rattle.std.proofs.lemmas.Bool.Decides.{nat_tests}
 use Rattle.blif_read.specs.declared.fault.BlifFault.TheVariants as fault
-use Rattle.blif_read.specs.declared.kind.Kind.TheVariants.{Names, End}
+use Rattle.blif_read.specs.declared.kind.Kind.TheVariants.{End}
 use Rattle.blif_read.specs.Kinds.{is_on}
 use Rattle.blif_read.specs.Faults.{names_fault, row_fault, row_fault_in, is_row_of, is_lit, is_plane, differs}
 use Rattle.blif_read.specs.Statements.{lits_of, lit_of}

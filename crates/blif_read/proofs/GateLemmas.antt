@@ -1,11 +1,10 @@
 -- Rows that fit make a cover.
 use Rattle.std.proofs.Common.{◌≡◌, ◌≤◌, ℕ, ◌+◌, Bool, true, not, cond, List, [], ◌∷◌, length, All, Some, None, refl, ap, ◌∙◌, arith, eq-eqb}
-use Rattle.blif_read.proofs.Common.{All-head, All-tail, if◌then◌else◌, option_map}
+use Rattle.blif_read.proofs.Common.{All-head, All-tail}
 use Rattle.std.proofs.lemmas.Bool.Decides.{nat_tests}
 use Rattle.std.specs.Prelude.{nat_le}
 use Rattle.std.specs.List.{position_from}
 use Rattle.cover_logic.specs.declared.row.Row.{Row}
-use Rattle.cover_logic.specs.declared.cover.CoverFault.TheVariants.{TooManyPins, Width}
 use Rattle.cover_logic.specs.Covers.{has_width, first_fault}
 
 none_of_other_width : (pins : ℕ) (rows : List Row) (i : ℕ) → All (λ row. length row.lits ≡ pins) rows → position_from (λ row. not (has_width pins row)) i rows ≡ None

@@ -1,6 +1,6 @@
 -- What follows up to the next end is what looks back.
-use Rattle.std.proofs.Common.{◌≡◌, Bool, true, false, not, List, [], ◌∷◌, map, refl, sym, ap, ◌∙◌, arith}
-use Rattle.blif_read.proofs.Common.{◌&&◌, if◌then◌else◌, Line, Kind, Row, Model, Statement, kind, statement, statement_of_kind, members}
+use Rattle.std.proofs.Common.{◌≡◌, Bool, true, false, not, List, [], ◌∷◌, map, refl, ap, ◌∙◌, arith}
+use Rattle.blif_read.proofs.Common.{◌&&◌, if◌then◌else◌, Line, Kind, Statement, kind, statement, statement_of_kind, members}
 use Rattle.cover_logic.specs.declared.row.Row.{Row as CoverRow}
 use Rattle.blif_read.specs.Places.{is_row}
 use Rattle.blif_read.specs.Models.{rows_of}

@@ -1,6 +1,6 @@
 -- The models of a text whose lines are read part by part.
 use Rattle.std.proofs.Common.{◌≡◌, ◌≤◌, ◌<◌, ℕ, suc, ◌+◌, ◌-◌, List, [], ◌∷◌, length, drop, map, true, Some, None, Ok, Err, refl, sym, ap, ◌∙◌, arith, drop_of_length-le, append-nil}
-use Rattle.blif_read.proofs.Common.{Result, drop-cons, Line, BlifFault, BlifModel, first_fault, or_else, statement, if_any, unless_fault, reads_lines, reads, Progress, all_ended, follow, fault_next}
+use Rattle.blif_read.proofs.Common.{Result, drop-cons, Line, BlifFault, BlifModel, statement, if_any, reads_lines, reads, Progress, all_ended, follow, fault_next}
 use Rattle.std.specs.Prelude.{IfOk}
 use Rattle.blif_text.specs.Texts.{lines}
 use Rattle.blif_text.specs.Lines.{line_at}

@@ -1,7 +1,7 @@
 -- The running state is what looking back finds.
-use Rattle.std.proofs.Common.{◌≡◌, ◌≢◌, ℕ, Bool, true, false, List, [], ◌∷◌, ◌++◌, length, Some, None, refl, sym, ap, ap₂, ◌∙◌, arith, length-take}
-use Rattle.blif_read.proofs.Common.{◌&&◌, if◌then◌else◌, option_map, Option, bytes_eq, Line, Kind, Row, Model, Place, kind, arguments, model_name, place_behind, is_model_name, fault_inside, fault_at, statement, statement_of_kind, pins_of, OpenGate, OpenModel, Progress, follow, fault_next}
-use Rattle.std.specs.Prelude.{◌||◌, option_and_then, unwrap_or}
+use Rattle.std.proofs.Common.{◌≡◌, ◌≢◌, ℕ, Bool, true, false, List, [], ◌∷◌, ◌++◌, length, Some, None, refl, ap, ap₂, ◌∙◌, arith, length-take}
+use Rattle.blif_read.proofs.Common.{◌&&◌, if◌then◌else◌, option_map, Option, bytes_eq, Line, Kind, Model, Place, kind, arguments, model_name, place_behind, is_model_name, fault_inside, fault_at, statement, statement_of_kind, pins_of, OpenGate, OpenModel, Progress, follow, fault_next}
+use Rattle.std.specs.Prelude.{◌||◌, option_and_then}
 use Rattle.std.specs.List.{list_any}
 use Rattle.blif_read.specs.declared.fault.BlifFault.TheVariants as fault
 use Rattle.blif_read.specs.declared.kind.Kind.TheVariants.{Names, End}
@@ -26,9 +26,6 @@ length_pins : (names : List (List ℕ)) → length (pins_of names) ≡ pin_count
 length_pins names = simp length-take (omega arith)
 
 -- The first row.
-
-first_is : (found : Option Line) (first : Option Bool) (line : Line) → first ≡ option_map is_on found → Some (unwrap_or first (is_on line)) ≡ option_map is_on (this_unless line found)
-first_is found first line same = grind arith
 
 row_place : (gate : Option OpenGate) (line : Line) (earlier : List Line)
     → option_map (λ g. length g.pins) gate ≡ option_map (λ names. pin_count (arguments names)) (cover_line earlier)

@@ -1,5 +1,5 @@
 -- What the lines of a text say is sound.
-use Rattle.std.proofs.Common.{◌≡◌, ◌≢◌, ℕ, ◌+◌, List, [], ◌∷◌, drop, map, true, false, refl, sym, ap, ◌∙◌, arith, All}
+use Rattle.std.proofs.Common.{◌≡◌, ◌≢◌, ℕ, ◌+◌, List, [], ◌∷◌, drop, map, true, refl, arith, All}
 use Rattle.blif_read.proofs.Common.{if◌then◌else◌, Option, bytes_eq, list_all, All-head, All-tail, Line, BlifFault, Kind, Place, Statement, Inputs, Outputs, Clocks, Latch, Part, End, kind, arguments, model_name, place_behind, is_model_name, fault_at, fault_inside, first_fault, or_else, is_pair, is_equals, statement, statement_of_kind, pins_of, pair_of}
 use Rattle.std.specs.Prelude.{Bool, Some, None, codes}
 use Rattle.std.specs.List.{position_or_len}

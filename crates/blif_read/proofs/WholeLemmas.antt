@@ -1,5 +1,5 @@
 -- The models that there are once more statements follow.
-use Rattle.std.proofs.Common.{◌≡◌, ℕ, Bool, true, List, [], ◌∷◌, ◌++◌, length, Some, None, refl, sym, ap, ap₂, ◌∙◌, append_assoc, append-nil, arith}
+use Rattle.std.proofs.Common.{◌≡◌, ℕ, Bool, true, List, [], ◌∷◌, ◌++◌, length, Some, None, refl, ap, ◌∙◌, append_assoc, append-nil, arith}
 use Rattle.blif_read.proofs.Common.{option_map, Option, BlifModel, Statement, Inputs, Outputs, Clocks, Latch, Part, End, members, OpenGate, OpenModel, Progress, all_ended, follow}
 use Rattle.std.specs.Prelude.{flat_map, option_to_list, unwrap_or}
 use Rattle.cover_logic.specs.declared.row.Row as rows
@@ -8,7 +8,7 @@ use Rattle.blif_read.specs.declared.models.GateLine.{GateLine}
 use Rattle.blif_read.specs.declared.models.Item.{Item}
 use Rattle.blif_read.specs.declared.models.Item.TheVariants as item
 use Rattle.blif_read.specs.declared.statement.Statement.TheVariants.{Model, Row}
-use Rattle.blif_read.specs.Models.{inputs_in, outputs_in, clocks_in, rows_of, plane_of, body_of, model_of, models}
+use Rattle.blif_read.specs.Models.{inputs_in, outputs_in, clocks_in, rows_of, plane_of, body_of, models}
 use Rattle.blif_read.specs.Running.{add_row, gate_items, ended, add}
 
 -- the plane of the first row, where more rows follow

@@ -1,7 +1,5 @@
 -- Counts over several calls.
-use Rattle.std.proofs.Common.{◌≡◌, inl, inr, ℕ, ◌-◌, ◌^◌, ◌≤◌, nat_lt, Bool, true, false, List, refl, sym, subst, ap, ◌∙◌, arith}
-use Rattle.std.specs.Str.{bytes_eq}
-use Rattle.std.proofs.lemmas.Slice.Eq.{bytes_eq-Decides}
+use Rattle.std.proofs.Common.{ℕ, ◌-◌, ◌≤◌, List, refl, arith}
 use Rattle.cyc_io.specs.Faults.{Counts, ChangesCountOf, RaisesOnly, Rose, SameCounts, next_count}
 
 -- a call that changes none

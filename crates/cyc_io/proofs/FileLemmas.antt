@@ -6,12 +6,6 @@ use Rattle.std.specs.Prelude.{MatchOption}
 use Rattle.std.specs.declared.option.Option.{Option}
 use Rattle.cyc_io.specs.Files.{Files, IsFile, IsFront, IsPart, GivesPart}
 
-abbrev nothing : List ℕ
-nothing = []
-
-nil_of : (file : Option (List ℕ)) → MatchOption file (nothing ≡ nothing) (λ whole. take 0 whole ≡ nothing)
-nil_of file = grind arith
-
 -- at the start
 pub IsFront_nil : (files : Option Files) (name : List ℕ) → IsFront files name []
 IsFront_nil files name = grind arith

@@ -28,7 +28,6 @@ pub use Rattle.loops.specs.declared.structure.Cut.{Cut}
 pub use Rattle.netlist.specs.Fixpoint.{fix, fix_gates, wire}
 pub use Rattle.netlist.specs.Netlists.{gate_at, gate_sig}
 pub use Rattle.netlist.specs.Walks.{Feeds, Walk}
-pub use Rattle.netlist.specs.declared.parts.Gate.{Gate}
 pub use Rattle.netlist.specs.declared.parts.Parts.{Parts}
 pub use Rattle.std.proofs.lemmas.Bool.{and_from, and_parts, cases_Bool, cases_eq, cases_lt, eqb-true, lt-ltb}
 pub use Rattle.std.proofs.lemmas.List.{get_or-set_other, get_or-set_same, get_or_append_left, get_or_default, get_or_past, get_or_read, length-map, length-replicate, length-set, with_items_is}

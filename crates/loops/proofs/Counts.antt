@@ -1,7 +1,7 @@
 -- The number of sweeps is one for each loop.
-use Rattle.std.proofs.Common.{◌≡◌, ℕ, true, ◌&&◌, List, length, map, get_or, ap, subst, arith}
+use Rattle.std.proofs.Common.{◌≡◌, ℕ, true, List, arith}
 use Rattle.std.proofs.lemmas.List.Elements.{filter_agree}
-use Rattle.loops.proofs.Common.{range_with_len, Trit, X, same_truth, Parts, fix_gates, Loops, AreLoopsOf}
+use Rattle.loops.proofs.Common.{Trit, same_truth, Parts, Loops, AreLoopsOf}
 use Rattle.loops.specs.Sweeps.{sweeps, cuts_of, CutsAreFixed}
 use Rattle.loops.specs.Laws.{CountIsOfLoops}
 use Rattle.loops.proofs.Sweeps.{same-sym, same-trans}

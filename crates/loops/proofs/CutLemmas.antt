@@ -1,7 +1,7 @@
 -- Paths through gates that are kept are the walks that make a gate a cut wire, and levels show where there are none.
-use Rattle.std.proofs.Common.{◌≡◌, ◌⊎◌, ◌↔◌, inl, inr, ℕ, ◌<◌, ◌≤◌, ◌+◌, ◌-◌, Bool, true, false, List, [], ◌∷◌, ◌++◌, length, get_or, set, replicate, ap, sym, ◌∙◌, subst, arith, Contains, true≢false}
+use Rattle.std.proofs.Common.{◌≡◌, ◌⊎◌, ◌↔◌, inl, inr, ℕ, ◌<◌, ◌≤◌, ◌+◌, ◌-◌, Bool, true, false, List, [], ◌∷◌, ◌++◌, length, set, replicate, ap, sym, ◌∙◌, subst, arith, Contains, true≢false}
 use borrow.Author.Count.{below_more}
-use Rattle.loops.proofs.Common.{cases_eq, cases_lt, get_or-set_same, get_or-set_other, length-set, length-replicate, get_or_past, AllByRecursion, all_weaker, all_append, Parts, Feeds, Walk, Blocks, Cut, AreBlocksOf, MayPass, is_cut, HasParted, HaveGained, IsCutSearch, IsKept, Meeting, ReadsBack, IsLoopPin, Connects, InRow, IsFree, IsReady, Path, level_at, row_at, AnyGate, Leads, SameLoop}
+use Rattle.loops.proofs.Common.{cases_eq, cases_lt, get_or-set_same, get_or-set_other, length-set, length-replicate, get_or_past, AllByRecursion, all_weaker, all_append, Parts, Feeds, Walk, Blocks, Cut, AreBlocksOf, MayPass, is_cut, HasParted, HaveGained, IsCutSearch, IsKept, Meeting, ReadsBack, IsLoopPin, Connects, InRow, IsFree, Path, level_at, row_at, AnyGate, Leads, SameLoop}
 use Rattle.std.proofs.lemmas.List.{get_or-replicate}
 use Rattle.std.specs.List.{All}
 use Rattle.loops.specs.declared.cuts.CutSearch.{CutSearch}
@@ -93,9 +93,6 @@ cut_step net blocks are n cut b l now below =
 
 empty : List ℕ
 empty = []
-
-no_entry : (xs : List ℕ) (x : ℕ) → xs ≡ [] → ¬ Contains xs x
-no_entry xs x e c = (let l = c.1 in omega (arith, ap (λ (ys : List ℕ). length ys) e))
 
 -- nothing is kept at first
 pub nothing_kept : (R : ℕ → ℕ → Type 0) (cut : List Bool) (readers sources : List (List ℕ)) (levels : List ℕ) (gates : ℕ) → length cut ≡ gates → readers ≡ replicate gates [] → sources ≡ replicate gates [] → levels ≡ replicate gates 4294967296 → IsKept R cut 0 readers sources levels

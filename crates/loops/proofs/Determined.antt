@@ -1,5 +1,5 @@
 -- Without loops each gate is determined.
-use Rattle.std.proofs.Common.{◌≡◌, ◌+◌, inl, inr, ℕ, zero, suc, ◌<◌, Bool, false, List, [], ◌∷◌, length, map, get_or, refl, ap, ap₂, sym, ◌∙◌, arith}
+use Rattle.std.proofs.Common.{◌≡◌, ◌+◌, inl, inr, ℕ, zero, suc, ◌<◌, Bool, false, List, [], ◌∷◌, length, map, get_or, refl, ap, ap₂, ◌∙◌, arith}
 use Rattle.loops.proofs.Common.{cases_lt, get_or_append_left, length-map, Trit, X, ext, Sig, Parts, gate_at, wire, fix, fix_gates, Leads, AnyGate, first_gate, gate_of}
 use Rattle.std.proofs.lemmas.List.{get_or-map}
 use Rattle.cyc_base.specs.Values.{bit, bits}

@@ -1,5 +1,5 @@
 -- The loops and cut wires that are found by trying all walks are those of the netlist.
-use Rattle.std.proofs.Common.{◌≡◌, ◌⊎◌, ◌↔◌, inl, inr, ℕ, zero, suc, ◌<◌, ltb, Bool, true, not, ◌&&◌, ◌||◌, List, [], ◌∷◌, ◌++◌, length, refl, ap, ap₂, sym, ◌∙◌, subst, arith}
+use Rattle.std.proofs.Common.{◌≡◌, ◌⊎◌, ◌↔◌, inl, inr, ℕ, zero, suc, ◌<◌, ltb, Bool, true, not, ◌&&◌, List, [], ◌∷◌, ◌++◌, length, refl, ap, sym, ◌∙◌, arith}
 use Rattle.loops.proofs.Common.{cases_eq, and_parts, and_from, lt-ltb, AllByRecursion, all_weaker, all_append, Parts, gate_at, gate_sig, Feeds, Walk, Leads, AnyGate, SameLoop, MayPass, loops_of}
 use Rattle.std.proofs.lemmas.Bool.{or_cases, or_left, or_right, ltb-true, not-true, eq-eqb}
 use Rattle.std.proofs.lemmas.List.Folds.{list_any_at}

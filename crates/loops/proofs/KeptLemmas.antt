@@ -1,5 +1,5 @@
 -- Rows that gain a gate, the sources of a gate's pins, and levels that are moved.
-use Rattle.std.proofs.Common.{◌≡◌, ◌⊎◌, ◌↔◌, inl, inr, ℕ, ◌+◌, ◌<◌, ◌≤◌, Bool, List, [], ◌∷◌, ◌++◌, length, get_or, set, ap, sym, ◌∙◌, subst, arith, Contains}
+use Rattle.std.proofs.Common.{◌≡◌, ◌⊎◌, ◌↔◌, inl, inr, ℕ, ◌+◌, ◌<◌, ◌≤◌, Bool, List, [], ◌∷◌, ◌++◌, length, get_or, set, sym, ◌∙◌, subst, arith, Contains}
 use Rattle.loops.proofs.Common.{cases_eq, get_or-set_same, get_or-set_other, get_or_default, get_or_read, length-set, Contains-append_left, Contains-get_or, Contains-push, Contains-push_cases, Sig, Parts, gate_at, gate_sig, Blocks, AreBlocksOf, Landmark, AreSourcesBelow, HaveGained, HaveGainedPins, IsKept, AreLandmarks, IsLoopPin, InRow, IsFree, IsReady, row_at}
 use Rattle.std.specs.List.{All}
 use Rattle.loops.specs.Keeping.{AreLinks}

@@ -1,12 +1,11 @@
 -- The components of a block's uncut reads are single gates, in an order for a sweep.
-use Rattle.std.proofs.Common.{◌≡◌, ◌==◌, inl, inr, ℕ, zero, suc, ◌<◌, ◌≤◌, ◌+◌, Bool, false, List, [], ◌∷◌, ◌++◌, length, filter, get_or, ap, sym, ◌∙◌, subst, arith, Contains}
+use Rattle.std.proofs.Common.{◌≡◌, inl, inr, ℕ, zero, suc, ◌<◌, ◌≤◌, ◌+◌, Bool, false, List, [], ◌∷◌, ◌++◌, length, filter, get_or, ap, sym, ◌∙◌, subst, arith, Contains}
 use Rattle.loops.proofs.Common.{cases_Bool, cases_eq, cases_lt, get_or_default, get_or_append_left, Contains-append_left, Contains-get_or, Contains-push, Contains-push_cases, AllByRecursion, range_with_len, Sig, all_append, AreComponentsOf, Parts, gate_at, gate_sig, Feeds, Block, Blocks, Cut, AreBlocksOf, block_at, home_of, is_cut, ArePlacesRead, AreUncutReads, Leads, SameLoop}
 use Rattle.std.proofs.lemmas.List.{get_or_push, length_push}
 use Rattle.std.proofs.lemmas.List.Elements.{All-from_recursion}
 use Rattle.cyc_base.proofs.ListLemmas.{all_filter}
 use Rattle.components.specs.declared.components.Components.{Components}
 use Rattle.components.specs.Graphs.{AreStronglyConnected, Edge, Walk as GraphWalk}
-use Rattle.loops.specs.Blocks.{gates_at, no_block}
 use Rattle.loops.specs.Cuts.{IsCutOf, loops_by}
 use Rattle.loops.specs.Orders.{IsInOrder, IsOrderOf, ReadsUncut}
 use Rattle.loops.specs.Placing.{ArePlaced, IsPlaceRead, IsUncutPin, Rise}

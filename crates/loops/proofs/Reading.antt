@@ -1,8 +1,7 @@
 -- Reading lists, wires and gates by number.
-use Rattle.std.proofs.Common.{◌≡◌, inl, inr, ℕ, zero, suc, ◌+◌, ◌-◌, ◌<◌, ◌≤◌, leb, Bool, true, false, if◌then◌else◌, List, [], ◌∷◌, ◌++◌, length, map, filter, get_or, refl, ap, ap₂, sym, ◌∙◌, subst, arith, Contains}
+use Rattle.std.proofs.Common.{◌≡◌, inl, inr, ℕ, zero, suc, ◌+◌, ◌-◌, ◌<◌, ◌≤◌, Bool, true, false, if◌then◌else◌, List, [], ◌∷◌, ◌++◌, length, map, filter, get_or, refl, ap, ap₂, sym, ◌∙◌, subst, arith, Contains}
 use borrow.Author.Count.{below_more}
-use Rattle.loops.proofs.Common.{and_parts, cases_Bool, length-map, length-range_with_len, get_or-range_with_len, range_with_len, Sig, Trit, X, Parts, gate_at, fix, fix_gates, Loops, first_gate, gate_of, in_loop_of}
-use Rattle.std.proofs.lemmas.Bool.{leb-true}
+use Rattle.loops.proofs.Common.{cases_Bool, length-map, length-range_with_len, get_or-range_with_len, range_with_len, Sig, Trit, X, Parts, gate_at, fix, fix_gates, Loops, first_gate, gate_of, in_loop_of}
 use Rattle.std.proofs.lemmas.List.{get_or-append_right}
 use Rattle.std.proofs.lemmas.List.FromFn.{fill_by_all}
 use Rattle.cyc_base.proofs.ListLemmas.{Contains-cases, Contains-here, Contains-nothing, Contains-there}

@@ -1,5 +1,5 @@
 -- A rising row of lists of one length stands still after as many steps as a list has values.
-use Rattle.std.proofs.Common.{◌≡◌, ◌⊎◌, inl, inr, ℕ, zero, suc, ◌<◌, ◌≤◌, List, length, arith}
+use Rattle.std.proofs.Common.{◌≡◌, ◌⊎◌, ℕ, zero, suc, ◌<◌, ◌≤◌, List, length, arith}
 use Rattle.loops.proofs.Common.{Trit}
 use Rattle.cyc_base.specs.Values.{EachBelow}
 use Rattle.netlist.proofs.FixpointLemmas.{known_count, known_count-le, same_or_more}

@@ -1,5 +1,5 @@
 -- Following rows finds gates, and a search that has passed all that it found has found all.
-use Rattle.std.proofs.Common.{◌≡◌, ◌⊎◌, ◌==◌, inl, inr, ℕ, zero, suc, ◌+◌, ◌<◌, ◌≤◌, List, [], ◌∷◌, ◌++◌, length, get_or, set, refl, sym, ◌∙◌, subst, arith, Contains}
+use Rattle.std.proofs.Common.{◌≡◌, ◌⊎◌, inl, inr, ℕ, zero, suc, ◌+◌, ◌<◌, ◌≤◌, List, [], ◌∷◌, ◌++◌, length, get_or, set, refl, ◌∙◌, subst, arith, Contains}
 use Rattle.loops.proofs.Common.{cases_Bool, cases_eq, cases_lt, get_or-set_same, get_or-set_other, length-set, get_or_append_left, get_or_default, get_or_past, Contains-append_left, Contains-push, Contains-push_cases, AtLeast, Search, Meeting, Connects, InRow, IsMarked, IsReady, Meets, Path, level_at, row_at, work_left, AnyGate}
 use Rattle.std.specs.List.{All}
 use Rattle.std.proofs.lemmas.Bool.{eq-eqb, ne_eqb}

@@ -1,7 +1,6 @@
 -- What searches, numbers of blocks and orders show of walks.
-use Rattle.std.proofs.Common.{◌≡◌, ◌⊎◌, inl, inr, ℕ, ◌<◌, ◌≤◌, Bool, true, List, [], ◌∷◌, refl, ap, sym, arith}
+use Rattle.std.proofs.Common.{◌≡◌, ◌⊎◌, inr, ℕ, ◌<◌, ◌≤◌, Bool, true, List, [], ◌∷◌, arith}
 use Rattle.loops.proofs.Common.{cases_eq, AllByRecursion, Parts, Feeds, Walk}
-use Rattle.loops.specs.Walks.{SameBlock}
 use Rattle.loops.specs.Laws.{SearchIsComplete, BlocksByNumbers, LoopFreeByNumbers}
 
 module _ (net : Parts) (kind seen : ℕ → Bool) (start goal : ℕ) (closes : (x y : ℕ) → (x ≡ start) ⊎ (seen x ≡ true) → Feeds net x y → kind y ≡ true → seen y ≡ true) (none : (x : ℕ) → (x ≡ start) ⊎ (seen x ≡ true) → Feeds net x goal → ⊥) where

@@ -1,5 +1,5 @@
 -- Sweeps rise, stay below the fixpoint, and reach it.
-use Rattle.std.proofs.Common.{◌≡◌, inl, inr, ℕ, zero, suc, ◌<◌, Bool, true, ◌&&◌, List, [], ◌∷◌, length, map, filter, replicate, get_or, refl, ap, sym, ◌∙◌, subst, arith, ap₂, Contains}
+use Rattle.std.proofs.Common.{◌≡◌, ℕ, zero, suc, ◌<◌, Bool, true, ◌&&◌, List, [], ◌∷◌, length, map, filter, replicate, get_or, refl, sym, ◌∙◌, subst, arith, Contains}
 use Rattle.loops.proofs.Common.{and_from, and_parts, cases_Bool, length-map, length-replicate, range_with_len, Sig, Trit, X, ext, Parts, gate_at, wire, fix, fix_gates, Walk, Loops, AreLoopsOf, first_gate, gate_of, in_loop_of, pin_in, sweep}
 use Rattle.std.proofs.lemmas.List.{get_or-replicate}
 use Rattle.std.proofs.lemmas.List.FromFn.{length-map-range_with_len, get_or-map-range_with_len}

@@ -1,6 +1,6 @@
 -- What blocks and a cut tell of loops.
-use Rattle.std.proofs.Common.{◌≡◌, ◌==◌, inl, inr, ℕ, ◌<◌, ltb, true, List, length, refl, sym, ◌∙◌, subst, arith, Contains, true≢false}
-use Rattle.loops.proofs.Common.{and_parts, and_from, cases_Bool, eqb-true, lt-ltb, range_with_len, Parts, Blocks, AreBlocksOf, block_at, home_of, in_one_loop, SameLoop}
+use Rattle.std.proofs.Common.{◌≡◌, ◌==◌, inr, ℕ, ◌<◌, true, List, length, refl, sym, subst, arith, Contains, true≢false}
+use Rattle.loops.proofs.Common.{and_parts, cases_Bool, eqb-true, range_with_len, Parts, Blocks, AreBlocksOf, block_at, home_of, in_one_loop, SameLoop}
 use Rattle.std.proofs.lemmas.Bool.{eq-eqb, ltb-true}
 use Rattle.cyc_base.proofs.ListLemmas.{Contains-filter, Contains-range}
 use Rattle.loops.specs.Blocks.{gates_at}

@@ -1,5 +1,5 @@
 -- A sweep is the one assignment, since no loop is left without the cut wires.
-use Rattle.std.proofs.Common.{◌≡◌, inl, inr, ℕ, ◌+◌, ◌<◌, ◌≤◌, false, List, [], ◌∷◌, ◌++◌, length, get_or, ap, sym, ◌∙◌, subst, arith}
+use Rattle.std.proofs.Common.{◌≡◌, inl, inr, ℕ, ◌<◌, ◌≤◌, false, List, [], length, get_or, ap, sym, ◌∙◌, arith}
 use Rattle.loops.proofs.Common.{cases_lt, get_or_default, get_or_past, Sig, Trit, X, all_append, ext, Parts, gate_at, gate_sig, wire, fix, Feeds, Leads, Loops, AreLoopsOf, first_gate, gate_of, in_loop_of, pin_in, sweep}
 use Rattle.std.proofs.lemmas.List.{ext_get_or}
 use Rattle.loops.specs.Sweeps.{IsSweep}

@@ -1,6 +1,6 @@
 -- Walks, and what the cut wires do to loops.
-use Rattle.std.proofs.Common.{◌≡◌, ◌⊎◌, inl, inr, ℕ, zero, suc, ◌<◌, true, false, List, [], ◌∷◌, ◌++◌, length, sym, ◌∙◌, subst, arith, true≢false}
-use Rattle.loops.proofs.Common.{cases_eq, AllByRecursion, all_weaker, all_append, same_truth, Parts, Feeds, Walk, Leads, AnyGate, SameLoop, Loops, MayPass, AreLoopsOf}
+use Rattle.std.proofs.Common.{◌≡◌, ◌⊎◌, inl, inr, ℕ, zero, suc, ◌<◌, true, false, List, [], ◌∷◌, ◌++◌, length, subst, arith, true≢false}
+use Rattle.loops.proofs.Common.{cases_eq, AllByRecursion, all_weaker, all_append, same_truth, Parts, Feeds, Walk, Leads, AnyGate, SameLoop, Loops, AreLoopsOf}
 use Rattle.loops.specs.Laws.{EachCutIsNeeded, LoopsAreUnique}
 
 pub all_any : (xs : List ℕ) → AllByRecursion AnyGate xs

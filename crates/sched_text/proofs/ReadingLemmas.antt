@@ -22,9 +22,6 @@ abbrev pub ends_here : ℕ → Line → Bool
 ends_here end line = (line.number == end) && lacks_lines (Some (kind line))
 
 module _ (net : Parts) (ticks end : ℕ) (piece : List Line) (place : Place) (draft : Draft) where
-  pub nothing_read : ReadsPiece net ticks end piece place draft place draft 0
-  nothing_read lines base is reads = let e : base + 0 ≡ base = omega arith in rw e reads
-
   module _ (now : Place) (so_far : Draft) (i : ℕ) (before : ReadsPiece net ticks end piece place draft now so_far i) (inside : i < length piece) where
     cut_here : (lines : List Line) (base : ℕ) → IsPieceOf end lines base piece
         → is_cut_off end (line_at lines (base + i)) (drop (base + i + 1) lines) ≡ ends_here end (line_at lines (base + i))

@@ -6,7 +6,7 @@ use Rattle.std.proofs.lemmas.List.{get_or_default}
 use Rattle.components.specs.Graphs.{Edge}
 use Rattle.short_cycles.specs.declared.search.Step.{Step}
 use Rattle.short_cycles.specs.Cycles.{IsTrail, last, IsCycle, IsWay, IsShortest, ReachesNone}
-use Rattle.short_cycles.specs.Search.{step_at, depth_of, IsPlaced, IsWithin, IsSearch, IsWayBack, Closes, ClosesFirst, IsClosing, IsNearer, IsShortestThrough, IsTooLong, IsThrough, IsBestOf, IsBest, IsLimitBelow, IsNearestOf}
+use Rattle.short_cycles.specs.Search.{step_at, depth_of, IsPlaced, IsWithin, IsSearch, IsWayBack, Closes, ClosesFirst, IsClosing, IsNearer, IsShortestThrough, IsTooLong, IsThrough, IsBestOf, IsBest, IsNearestOf}
 use Rattle.short_cycles.proofs.SearchLemmas.{same_step, step_within}
 
 -- ---- the node nearest to the root from which an edge leads back
@@ -159,17 +159,6 @@ through_none graph root limit steps h none = λ other cycle through.
     ]
 
 -- ---- the best of the cycles through all roots
-
-pub best_at_one : (graph : List (List ℕ)) (reached : List (Option Step)) (root : ℕ) (best : Option (List ℕ)) → IsBest graph reached root best → IsLimitBelow (length graph) best None → IsBest graph reached (root + 1) best
-best_at_one graph reached root best h few = grind arith
-
-pub best_stays : (graph : List (List ℕ)) (reached : List (Option Step)) (root limit : ℕ) (best : Option (List ℕ)) → IsBest graph reached root best → IsLimitBelow (length graph) best (Some limit) →
-    IsThrough graph root limit None → IsBest graph reached (root + 1) best
-best_stays graph reached root limit best h is none = grind arith
-
-pub best_changes : (graph : List (List ℕ)) (reached : List (Option Step)) (root limit : ℕ) (best : Option (List ℕ)) (nodes : List ℕ) → IsPlaced reached root → IsBest graph reached root best → IsLimitBelow (length graph) best (Some limit) →
-    IsShortestThrough graph root limit nodes → limit ≤ 4294967295 → IsBestOf graph reached (root + 1) nodes
-best_changes graph reached root limit best nodes placed h is through fits = grind arith
 
 -- ---- what the goal reaches
 

@@ -19,9 +19,6 @@ not_both o step e h = cc
 pub step_within : (steps : List (Option Step)) (node : ℕ) (step : Step) → step_at steps node ≡ Some step → node < length steps
 step_within steps node step e = grind (arith, cases_lt, not_both, get_or_past)
 
-pub old_or_placed : (steps : List (Option Step)) (node : ℕ) → (IsNew steps node → ⊥) → node < length steps → IsPlaced steps node
-old_or_placed steps node old l = grind arith
-
 unplaced-set : (steps : List (Option Step)) (node : ℕ) (step : Step) → node < length steps → step_at steps node ≡ None → unplaced steps ≡ suc (unplaced (set steps node (Some step)))
 unplaced-set [] node step l e = absurd (omega arith)
 unplaced-set (None ∷ steps) zero step l e = refl
@@ -36,9 +33,6 @@ unplaced-none (suc n) = ap suc (unplaced-none n)
 -- ---- growing
 
 module _ (links : ℕ → ℕ → Type 0) (depth : ℕ) where
-  pub Grown-refl : (steps : List (Option Step)) (before : List ℕ) → Grown links depth steps steps before before
-  Grown-refl steps before = grind arith
-
   pub Grown-one : (old : List (Option Step)) (before : List ℕ) (node : ℕ) (step : Step) → IsNew old node → step.depth ≡ depth → links step.from node →
       Grown links depth old (set old node (Some step)) before (before ++ node ∷ [])
   Grown-one old before node step new level link = record {
@@ -302,10 +296,6 @@ module _ (graph : List (List ℕ)) (root depth : ℕ) (level : List ℕ) (steps 
     where
       old : (node : ℕ) (step : Step) → step_at new node ≡ Some step → step_at steps node ≡ Some step
       old node step e = grind arith
-
--- all up to the limit is found
-pub searched_limit : (graph : List (List ℕ)) (root limit depth : ℕ) (level : List ℕ) (steps : List (Option Step)) → IsSearching graph root depth level steps → limit ≡ depth → IsSearch graph root limit steps
-searched_limit graph root limit depth level steps h e = grind arith
 
 -- the nodes of a level are nodes of the graph
 pub level_within : (graph : List (List ℕ)) (root depth : ℕ) (level : List ℕ) (steps : List (Option Step)) → IsSearching graph root depth level steps → All (λ node. node < length graph) level

@@ -1,13 +1,7 @@
 -- What the source of a pin says of the pin.
-use Rattle.std.proofs.Common.{◌≡◌, ◌≤◌, ℕ, Bool, true, false, if◌then◌else◌, Some, None, arith}
-use Rattle.unroll.proofs.Common.{Sig, Parts, Loops, loops_by, first_gate, gate_of, in_loop_of, Option, loops_of, Looped, IsLooped}
-use Rattle.std.specs.Bool.{then_some}
+use Rattle.std.proofs.Common.{◌≡◌, ℕ, Bool, true, false, if◌then◌else◌, Some, None, arith}
+use Rattle.unroll.proofs.Common.{Sig, loops_by, gate_of, in_loop_of, Option, loops_of, Looped, IsLooped}
 use Rattle.loops.proofs.LoopedLemmas.{one_loop_is_told}
-
--- the gate that drives a pin, where a test tells whether it is in the loop
-pub source_is : (net : Parts) (loops : Loops) (n source : ℕ) (s : Sig) (b : Bool) → first_gate net ≤ s.0 → source ≡ gate_of net s → loops.same n source ≡ b
-    → then_some b source ≡ (if in_loop_of net loops n s then Some (gate_of net s) else None)
-source_is net loops n source s b past is told = grind arith
 
 -- the same by the blocks and the cut wires
 pub source_by_blocks : (l : Looped) → IsLooped l → (n : ℕ) (s : Sig) (source : Option ℕ) → source ≡ (if in_loop_of l.net (loops_of l.net) n s then Some (gate_of l.net s) else None)

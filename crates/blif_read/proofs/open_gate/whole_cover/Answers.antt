@@ -1,5 +1,4 @@
-use Rattle.std.proofs.Common.{ap, sym, ◌∙◌, arith}
-use Rattle.std.specs.Result.{result_err}
+use Rattle.std.proofs.Common.{arith}
 use Rattle.blif_read.proofs.GateLemmas.{no_fault}
 use Rattle.blif_read.proofs.open_gate.whole_cover.Goals as goal
 

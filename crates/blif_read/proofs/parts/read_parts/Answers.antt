@@ -1,4 +1,4 @@
-use Rattle.std.proofs.Common.{arith, sym, ap, ◌∙◌}
+use Rattle.std.proofs.Common.{arith}
 use Rattle.blif_read.proofs.Common.{if_any, reads, progress_of}
 use Rattle.blif_read.proofs.PartLinesLemmas.{PartsAt, at_start, at_bytes, at_part, at_end, ok_same}
 use Rattle.blif_read.proofs.parts.read_parts.Goals as goal

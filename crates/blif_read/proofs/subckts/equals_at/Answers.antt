@@ -1,4 +1,4 @@
-use Rattle.std.proofs.Common.{sym, arith, length}
+use Rattle.std.proofs.Common.{arith, length}
 use Rattle.std.proofs.lemmas.List.Sums.{position_or_len_is}
 use Rattle.blif_read.proofs.Common.{is_equals}
 use Rattle.blif_read.proofs.subckts.equals_at.Goals as goal

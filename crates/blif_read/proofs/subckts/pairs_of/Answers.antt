@@ -1,5 +1,4 @@
-use Rattle.std.proofs.Common.{◌<◌, ◌≤◌, ◌++◌, ◌∷◌, [], length, ap, ap₂, sym, ◌∙◌, arith}
-use Rattle.blif_read.proofs.Common.{pair_of}
+use Rattle.std.proofs.Common.{arith}
 use Rattle.blif_read.proofs.PartLemmas.{pair_next}
 use Rattle.blif_read.proofs.subckts.pairs_of.Goals as goal
 

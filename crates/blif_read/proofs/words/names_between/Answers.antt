@@ -1,4 +1,4 @@
-use Rattle.std.proofs.Common.{◌<◌, ◌≤◌, ◌++◌, ◌∷◌, [], length, ap₂, sym, ◌∙◌, arith}
+use Rattle.std.proofs.Common.{[], arith}
 use Rattle.blif_read.proofs.WordLemmas.{slice_more}
 use Rattle.blif_read.proofs.words.names_between.Goals as goal
 

@@ -1,6 +1,4 @@
-use Rattle.std.proofs.Common.{ℕ, List, ap, arith, length}
-use Rattle.loops.proofs.Common.{AreComponentsOf}
-use Rattle.netlist.specs.Orders.{gate_graph}
+use Rattle.std.proofs.Common.{arith}
 use Rattle.netlist.proofs.GraphLemmas.{length-gate_graph}
 use Rattle.loops.proofs.BlockLemmas.{are_blocks, lists_within}
 use Rattle.loops.proofs.blocks.find_blocks.Goals as goal

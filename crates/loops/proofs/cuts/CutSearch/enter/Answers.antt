@@ -5,7 +5,7 @@ use Rattle.loops.proofs.CutLemmas.{closes, entered, found_free, left_out, parted
 use Rattle.loops.proofs.KeptLemmas.{gained_rows, kept_links, landmarks_as, own_row, ready_as}
 use Rattle.loops.proofs.LandmarkLemmas.{landmark_kept, passed_meet}
 use Rattle.loops.proofs.cuts.CutSearch.enter.Goals as goal
-use Rattle.loops.proofs.cuts.CutSearch.enter.Goals.{In_ok-insert, In_ok-part, In_ok-row, Then-branch}
+use Rattle.loops.proofs.cuts.CutSearch.enter.Goals.{In_ok-insert, In_ok-row, Then-branch}
 
 -- the row of what the gate reads is laid
 is_laid : (c : In_ok-row) → IsKept (IsLoopPin c.args.grouped.now.net c.args.grouped.now.blocks) c.args.cut.now c.args.gate c.args.self.now.kept.readers.items (set c.args.self.now.kept.sources.items c.args.gate c.in_ok-row.row) c.args.self.now.kept.levels.items × ((x : ℕ) → InRow (set c.args.self.now.kept.sources.items c.args.gate c.in_ok-row.row) c.args.gate x ↔ (IsLoopPin c.args.grouped.now.net c.args.grouped.now.blocks x c.args.gate × IsFree c.args.cut.now c.args.gate x))

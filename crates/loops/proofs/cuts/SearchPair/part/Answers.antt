@@ -1,5 +1,5 @@
 -- What one search has found is moved past the levels of the other row.
-use Rattle.std.proofs.Common.{◌≡◌, ◌-◌, inl, inr, ℕ, List, [], length, ap, arith, subst, sym, ◌∙◌}
+use Rattle.std.proofs.Common.{◌≡◌, ◌-◌, ℕ, List, length, ap, arith, subst, sym}
 use Rattle.loops.proofs.Common.{get_or_default, with_items_is, AtMost, AtLeast, row_at}
 use Rattle.loops.specs.Keeping.{AreNear, HasEnded, IsNear}
 use Rattle.loops.proofs.CutLemmas.{high_is_near, low_is_near}

@@ -1,6 +1,5 @@
 -- The gate that is chosen is one that the search has found.
-use Rattle.std.proofs.Common.{◌<◌, length, sym, arith, Contains}
-use Rattle.loops.proofs.Common.{get_or_read}
+use Rattle.std.proofs.Common.{arith, Contains}
 use Rattle.loops.proofs.landmarks.Landmarks.learn.Goals as goal
 use Rattle.loops.proofs.landmarks.Landmarks.learn.Goals.{After-index}
 

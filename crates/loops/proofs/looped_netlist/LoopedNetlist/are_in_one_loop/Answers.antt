@@ -1,5 +1,4 @@
-use Rattle.std.proofs.Common.{ap, ◌∙◌, arith}
-use Rattle.loops.proofs.Common.{loops_of, Looped}
+use Rattle.std.proofs.Common.{arith}
 use Rattle.loops.proofs.LoopedLemmas.{one_loop_is_told}
 use Rattle.loops.proofs.looped_netlist.LoopedNetlist.are_in_one_loop.Goals as goal
 

@@ -1,5 +1,4 @@
-use Rattle.std.proofs.Common.{ap, sym, ◌∙◌, arith}
-use Rattle.loops.proofs.Common.{begins_with}
+use Rattle.std.proofs.Common.{arith}
 use Rattle.loops.proofs.ListedLemmas.{begins_in_loop, begins_no_loop}
 use Rattle.loops.proofs.looped_netlist.LoopedNetlist.begins_loop.Goals as goal
 

@@ -1,5 +1,4 @@
-use Rattle.std.proofs.Common.{Bool, false, List, ap, ◌∙◌, slice_index_or, arith}
-use Rattle.loops.proofs.Common.{loops_of, Looped}
+use Rattle.std.proofs.Common.{arith}
 use Rattle.loops.proofs.LoopedLemmas.{cut_is_told}
 use Rattle.loops.proofs.looped_netlist.LoopedNetlist.is_cut.Goals as goal
 

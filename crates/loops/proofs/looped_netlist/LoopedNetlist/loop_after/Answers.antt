@@ -1,6 +1,5 @@
-use Rattle.std.proofs.Common.{◌<◌, ◌≤◌, length, refl, ap, ◌∙◌, arith}
-use Rattle.loops.proofs.Common.{Parts}
-use Rattle.loops.proofs.ListLemmas.{gate_begins, gate_passes, gates_end}
+use Rattle.std.proofs.Common.{refl, arith}
+use Rattle.loops.proofs.ListLemmas.{gate_begins, gate_passes}
 use Rattle.loops.proofs.looped_netlist.LoopedNetlist.loop_after.Goals as goal
 
 pub loop-gate-init : goal.loop-gate-init

@@ -1,5 +1,5 @@
-use Rattle.std.proofs.Common.{◌≡◌, ap, ◌∙◌, arith}
-use Rattle.loops.proofs.Common.{Blocks, block_at}
+use Rattle.std.proofs.Common.{◌≡◌, arith}
+use Rattle.loops.proofs.Common.{block_at}
 use Rattle.loops.proofs.OrderLemmas.{block_gates, gates_rise, gates_within, homes_differ, order_is}
 use Rattle.loops.proofs.looped_netlist.LoopedNetlist.order_of_block.Goals as goal
 use Rattle.loops.proofs.looped_netlist.LoopedNetlist.order_of_block.Goals.{After-items-gates}

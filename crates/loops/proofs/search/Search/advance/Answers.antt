@@ -1,6 +1,6 @@
 -- A gate that is passed shows that both searches meet, or leaves this one underway.
-use Rattle.std.proofs.Common.{◌≡◌, ◌<◌, length, get_or, refl, arith, sym}
-use Rattle.loops.proofs.Common.{get_or_read, row_at}
+use Rattle.std.proofs.Common.{◌≡◌, ◌<◌, length, get_or, refl, arith}
+use Rattle.loops.proofs.Common.{row_at}
 use Rattle.loops.proofs.KeptLemmas.{row_read}
 use Rattle.loops.proofs.SearchLemmas.{found_within, goes_on, meets_at}
 use Rattle.loops.proofs.search.Search.advance.Goals as goal

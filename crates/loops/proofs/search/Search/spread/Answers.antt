@@ -1,7 +1,6 @@
 -- A gate that is passed leaves the search at gates that the first one reaches.
-use Rattle.std.proofs.Common.{◌≡◌, ◌<◌, ◌+◌, [], length, get_or, refl, arith, sym}
-use Rattle.loops.proofs.Common.{get_or_read, AtLeast}
-use Rattle.loops.proofs.SearchLemmas.{spread_begun, spread_done, spread_on, work_falls}
+use Rattle.std.proofs.Common.{◌≡◌, ◌<◌, [], length, get_or, refl, arith}
+use Rattle.loops.proofs.SearchLemmas.{spread_begun, spread_done, spread_on}
 use Rattle.loops.proofs.search.Search.spread.Goals as goal
 use Rattle.loops.proofs.search.Search.spread.Goals.{After-index-next}
 
