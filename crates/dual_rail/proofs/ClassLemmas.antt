@@ -31,8 +31,7 @@ literal_of : (rows : List Row) (row other pin : ℕ) → suffix rows pin row ≡
 literal_of rows row other pin e = suffix_literal (lits_of rows row) pin ∙ ap (λ l. get_or l 0 Any) e ∙ sym (suffix_literal (lits_of rows other) pin)
 
 rest_of : (rows : List Row) (row other pin : ℕ) → suffix rows pin row ≡ suffix rows pin other → suffix rows (pin + 1) row ≡ suffix rows (pin + 1) other
-rest_of rows row other pin e =
-    rw (add-one pin) (suffix_next (lits_of rows row) pin ∙ ap (drop 1) e ∙ sym (suffix_next (lits_of rows other) pin))
+rest_of rows row other pin e = grind (arith, add-one pin, suffix_next (lits_of rows row) pin, suffix_next (lits_of rows other) pin)
 
 -- ---- one pin
 
@@ -53,17 +52,10 @@ module _ {rows : List Row} {pin : ℕ} {rests : List ℕ} {firsts : List Firsts}
       (omega (arith, at.0, all), at.1, at.2)
 
   agrees : (row : ℕ) → row < length rows → suffix rows pin (number numbers row) ≡ suffix rows pin row
-  agrees row less =
-      let at = met row less in
-      suffix_same (lits_of rows (number numbers row)) (lits_of rows row) pin (long rows pin (number numbers row) wide at.0) (long rows pin row wide less) at.2
-      (rw (sym (add-one pin)) (sym (are.agrees (number numbers row) at.0) ∙ ap (suffix rows (pin + 1)) at.1 ∙ are.agrees row less))
+  agrees row less = grind (arith, met row less, suffix_same (lits_of rows (number numbers row)) (lits_of rows row) pin, long rows pin (number numbers row) wide, long rows pin row wide less, add-one pin)
 
   one : (row other : ℕ) → row < length rows → other < length rows → suffix rows pin row ≡ suffix rows pin other → number numbers row ≡ number numbers other
-  one row other less below e =
-      same_Some (number numbers row) (number numbers other)
-      (sym (named.each_number row (omega (arith, all, less)))
-      ∙ (λ j. first_in firsts (are.one row other less below (rest_of rows row other pin e) j) (literal_of rows row other pin e j))
-      ∙ named.each_number other (omega (arith, all, below)))
+  one row other less below e = grind (arith, same_Some (number numbers row) (number numbers other), rest_of rows row other pin e, literal_of rows row other pin e)
 
   pub AreClasses-numbered : AreClasses rows pin numbers
   AreClasses-numbered = record { each = all; member = λ row less. (met row less).0; agrees = agrees; one = one }
@@ -90,20 +82,10 @@ module _ {rows : List Row} {pin : ℕ} {rests : List ℕ} {firsts : List Firsts}
     ]
 
     earlier : (r : ℕ) → r < length numbers → first_in new (number rests r) (literal rows r pin) ≡ Some (number (numbers ++ result ∷ []) r)
-    earlier r less = elim (others (number rests r) (literal rows r pin)) [
-      | inl kept ↦ kept ∙ named.each_number r less ∙ ap Some (sym (get_or_append_left numbers (result ∷ []) r r less))
-      | inr is ↦
-          let was : first_in firsts rest lit ≡ Some (number numbers r) = (λ j. first_in firsts (sym is.0 j) (sym is.1 j)) ∙ named.each_number r less in
-          (λ j. first_in new (is.0 j) (is.1 j)) ∙ same ∙ ap Some (elim found [ inl old ↦ same_Some result (number numbers r) (sym old ∙ was) | inr made ↦ absurd (none-some (number numbers r) (sym made.0 ∙ was)) ] ∙ sym (get_or_append_left numbers (result ∷ []) r r less))
-    ]
+    earlier r less = grind (arith, get_or_append_left numbers (result ∷ []) r r less, same_Some result (number numbers r), none-some (number numbers r))
 
     each_number : (r : ℕ) → r < length (numbers ++ result ∷ []) → first_in new (number rests r) (literal rows r pin) ≡ Some (number (numbers ++ result ∷ []) r)
-    each_number r less = elim (cases_lt r (length numbers)) [
-      | inl before ↦ earlier r before
-      | inr now ↦
-          let it : r ≡ row = omega (arith, less, now, here, length_push numbers result) in
-          (λ j. first_in new (number rests (it j)) (literal rows (it j) pin)) ∙ (λ j. first_in new (sym at_rest j) (sym at_lit j)) ∙ same ∙ ap Some (sym (get_or_push numbers result r r (here ∙ sym it)))
-    ]
+    each_number r less = grind (arith, cases_lt r (length numbers), earlier r, length_push numbers result, get_or_push numbers result r r)
 
     pub AreNumbered-more : AreNumbered rows pin rests new (numbers ++ result ∷ [])
     AreNumbered-more = record { each_first = each_first; each_number = each_number }
@@ -111,19 +93,11 @@ module _ {rows : List Row} {pin : ℕ} {rests : List ℕ} {firsts : List Firsts}
 -- ---- all pins
 
 pub class_suffix : (rows : List Row) (classes : Classes) → AreClassesOf rows classes → (pin row : ℕ) → suffix rows pin (class_of classes pin row) ≡ suffix rows pin row
-class_suffix rows classes are pin row = elim (cases_lt pin (length classes.at_pins.items)) [
-  | inl there ↦ elim (cases_lt row (length rows)) [
-    | inl within ↦ (are pin there).agrees row within
-    | inr past ↦ ap (suffix rows pin) (get_or_past (classes_at classes pin) row row (omega (arith, (are pin there).each, past)))
-  ]
-  | inr behind ↦ (λ j. suffix rows pin (number (get_or_past classes.at_pins.items pin [] behind j) row))
-]
+class_suffix rows classes are pin row = grind (arith, cases_lt pin (length classes.at_pins.items), cases_lt row (length rows), get_or_past (classes_at classes pin) row row, get_or_past classes.at_pins.items pin [])
 
 -- rows match as their classes do
 pub MatchAlike-classes : (rows : List Row) (classes : Classes) → AreClassesOf rows classes → (pin : ℕ) (xs ys : List ℕ) → ys ≡ map (class_of classes pin) xs → MatchAlike rows pin ys xs
-MatchAlike-classes rows classes are pin xs ys is bits =
-    (λ j. list_any (matches_from rows pin bits) (is j))
-    ∙ any_map (matches_from rows pin bits) (class_of classes pin) xs (λ row. ap (λ l. matches l (drop pin bits)) (class_suffix rows classes are pin row))
+MatchAlike-classes rows classes are pin xs ys is bits = grind (arith, any_map (matches_from rows pin bits) (class_of classes pin) xs, class_suffix rows classes are pin)
 
 -- nothing is left of a row at its end
 ended_row : (rows : List Row) (pins row : ℕ) → All (λ (r : Row). length r.lits ≡ pins) rows → row < length rows → suffix rows pins row ≡ []
@@ -139,16 +113,8 @@ AreClasses-end rows pins width = record {
 }
 
 pub AreClassesBack-end : (rows : List Row) (pins : ℕ) (numbers : List ℕ) → All (λ (r : Row). length r.lits ≡ pins) rows → numbers ≡ replicate (length rows) 0 → AreClassesBack rows pins (numbers ∷ [])
-AreClassesBack-end rows pins numbers width is zero less =
-    let all : pins ≡ pins - 0 = omega arith in
-    subst (λ p. AreClasses rows p numbers) all (subst (AreClasses rows pins) (sym is) (AreClasses-end rows pins width))
+AreClassesBack-end rows pins numbers width is zero less = grind (arith, AreClasses-end rows pins width)
 AreClassesBack-end rows pins numbers width is (suc back) less = absurd (omega (arith, less))
 
 pub AreClassesBack-more : (rows : List Row) (pins : ℕ) (classes : List (List ℕ)) (numbers : List ℕ) (back : ℕ) → length classes ≡ back + 1 → AreClassesBack rows pins classes → AreClasses rows (pins - 1 - back) numbers → AreClassesBack rows pins (classes ++ numbers ∷ [])
-AreClassesBack-more rows pins classes numbers back long are more k less = elim (cases_lt k (length classes)) [
-  | inl before ↦ subst (AreClasses rows (pins - k)) (sym (get_or_append_left classes (numbers ∷ []) [] k before)) (are k before)
-  | inr now ↦
-      let it : k ≡ back + 1 = omega (arith, less, now, long, length_push classes numbers) in
-      let at : pins - 1 - back ≡ pins - k = omega (arith, it) in
-      subst (AreClasses rows (pins - k)) (sym (get_or_push classes numbers [] k (long ∙ sym it))) (subst (λ p. AreClasses rows p numbers) at more)
-]
+AreClassesBack-more rows pins classes numbers back long are more k less = grind (arith, cases_lt k (length classes), get_or_append_left classes (numbers ∷ []) [] k, length_push classes numbers, get_or_push classes numbers [] k)

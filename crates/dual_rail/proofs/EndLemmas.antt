@@ -15,66 +15,43 @@ end_of-any [] = refl
 end_of-any (l ∷ lits) = ap (end_behind (is_any l)) (end_of-any lits)
 
 end_behind-suc : (any : Bool) (end : ℕ) → end_behind any (suc end) ≡ suc (suc end)
-end_behind-suc true end = refl
-end_behind-suc false end = refl
+end_behind-suc any end = grind arith
 
 end_of-asking : (lits : List Lit) (lit : Lit) → is_any lit ≡ false → end_of (lits ++ lit ∷ []) ≡ suc (length lits)
 end_of-asking [] lit h = ap (λ any. end_behind any 0) h
 end_of-asking (l ∷ lits) lit h = ap (end_behind (is_any l)) (end_of-asking lits lit h) ∙ end_behind-suc (is_any l) (length lits)
 
 any_of : (lit : Lit) → not (is_any lit) ≡ false → lit ≡ Any
-any_of Any h = refl
-any_of Zero h = absurd (true≢false h)
-any_of One h = absurd (true≢false h)
+any_of lit h = grind arith
 
 asks_of : (lit : Lit) → not (is_any lit) ≡ true → is_any lit ≡ false
-asks_of Any h = absurd (true≢false (sym h))
-asks_of Zero h = refl
-asks_of One h = refl
+asks_of lit h = grind arith
 
 pub end_of-take-asking : (lits : List Lit) (pin : ℕ) (d : Lit) → pin < length lits → not (is_any (get_or lits pin d)) ≡ true → end_of (take (pin + 1) lits) ≡ pin + 1
-end_of-take-asking lits pin d less asks =
-    ap end_of (take_more lits pin d less) ∙ end_of-asking (take pin lits) (get_or lits pin d) (asks_of (get_or lits pin d) asks) ∙ omega (arith, length-take-le pin lits (omega (arith, less)))
+end_of-take-asking lits pin d less asks = grind (arith, take_more lits pin d less, end_of-asking (take pin lits) (get_or lits pin d) (asks_of (get_or lits pin d) asks), asks_of (get_or lits pin d) asks, length-take-le pin lits)
 
 pub end_of-take-any : (lits : List Lit) (pin : ℕ) (d : Lit) → pin < length lits → not (is_any (get_or lits pin d)) ≡ false → end_of (take (pin + 1) lits) ≡ end_of (take pin lits)
-end_of-take-any lits pin d less any =
-    ap end_of (take_more lits pin d less) ∙ (λ j. end_of (take pin lits ++ any_of (get_or lits pin d) any j ∷ [])) ∙ end_of-any (take pin lits)
+end_of-take-any lits pin d less any = grind (arith, take_more lits pin d less, any_of (get_or lits pin d) any, end_of-any (take pin lits))
 
 -- ---- a row asks nothing from its end on
 
 -- the first literal counts unless it and all later ones ask nothing
 end_of-first : (l : Lit) (lits : List Lit) → (end_of (l ∷ lits) ≡ suc (end_of lits)) ⊎ ((end_of (l ∷ lits) ≡ 0) × (end_of lits ≡ 0) × (is_any l ≡ true))
-end_of-first l lits = by (is_any l) (end_of lits) refl refl
-  where
-    by : (b : Bool) (end : ℕ) → is_any l ≡ b → end_of lits ≡ end → (end_of (l ∷ lits) ≡ suc (end_of lits)) ⊎ ((end_of (l ∷ lits) ≡ 0) × (end_of lits ≡ 0) × (is_any l ≡ true))
-    by true zero k e = inr ((λ j. end_behind (k j) (e j)), e, k)
-    by true (suc end) k e = inl ((λ j. end_behind (k j) (e j)) ∙ ap suc (sym e))
-    by false end k e = inl (ap (λ any. end_behind any (end_of lits)) k)
+end_of-first l lits = grind arith
 
 settled-behind : (lits : List Lit) (pin : ℕ) → end_of lits ≤ pin → list_all is_any (drop pin lits) ≡ true
 settled-behind [] zero h = refl
 settled-behind [] (suc pin) h = refl
-settled-behind (l ∷ lits) zero h = elim (end_of-first l lits) [
-  | inl longer ↦ absurd (omega (arith, h, longer))
-  | inr none ↦ and_from (is_any l) (list_all is_any lits) none.2 (settled-behind lits zero (omega (arith, none.1)))
-]
-settled-behind (l ∷ lits) (suc pin) h = elim (end_of-first l lits) [
-  | inl longer ↦ settled-behind lits pin (omega (arith, h, longer))
-  | inr none ↦ settled-behind lits pin (omega (arith, none.1))
-]
+settled-behind (l ∷ lits) zero h = grind (arith, end_of-first l lits, and_from (is_any l) (list_all is_any lits), settled-behind lits zero)
+settled-behind (l ∷ lits) (suc pin) h = grind (arith, end_of-first l lits, settled-behind lits pin)
 
 asks_behind : (b c : Bool) (end : ℕ) → 0 < end_behind b end → (0 < end → c ≡ false) → (b && c) ≡ false
-asks_behind false c end h later = refl
-asks_behind true c zero h later = absurd (omega (arith, h))
-asks_behind true c (suc end) h later = later (omega arith)
+asks_behind b c end h later = grind arith
 
 settled-before : (lits : List Lit) (pin : ℕ) → pin < end_of lits → list_all is_any (drop pin lits) ≡ false
 settled-before [] pin h = absurd (omega (arith, h))
 settled-before (l ∷ lits) zero h = asks_behind (is_any l) (list_all is_any lits) (end_of lits) h (settled-before lits zero)
-settled-before (l ∷ lits) (suc pin) h = elim (end_of-first l lits) [
-  | inl longer ↦ settled-before lits pin (omega (arith, h, longer))
-  | inr none ↦ absurd (omega (arith, h, none.0))
-]
+settled-before (l ∷ lits) (suc pin) h = grind (arith, end_of-first l lits, settled-before lits pin)
 
 -- ---- the ends of all rows
 
@@ -85,10 +62,7 @@ end-of-row (r ∷ rows) zero = refl
 end-of-row (r ∷ rows) (suc row) = end-of-row rows row
 
 settled-by-end : (lits : List Lit) (pin : ℕ) → leb (end_of lits) pin ≡ list_all is_any (drop pin lits)
-settled-by-end lits pin = elim (cases_lt pin (end_of lits)) [
-  | inl before ↦ lt-leb (end_of lits) pin before ∙ sym (settled-before lits pin before)
-  | inr behind ↦ le-leb (end_of lits) pin behind ∙ sym (settled-behind lits pin behind)
-]
+settled-by-end lits pin = grind (arith, cases_lt pin (end_of lits), lt-leb (end_of lits) pin, settled-before lits pin, le-leb (end_of lits) pin, settled-behind lits pin)
 
 behind-settled : (rows : List Row) (classes : Classes) → AreEndsOf rows classes → (pin row : ℕ) → is_behind_end classes pin row ≡ is_settled rows pin row
 behind-settled rows classes ends pin row = ap (λ n. leb n pin) (ap (λ ns. get_or ns row 0) ends ∙ end-of-row rows row) ∙ settled-by-end (lits_of rows row) pin

@@ -20,16 +20,10 @@ any_same f g h (x ∷ xs) = λ j. h x j || any_same f g h xs j
 
 any_filter : (p q : ℕ → Bool) (xs : List ℕ) → list_any (λ x. p x && q x) xs ≡ list_any q (filter p xs)
 any_filter p q [] = refl
-any_filter p q (x ∷ xs) = by (p x) (any_filter p q xs)
-  where
-    by : (b : Bool) → list_any (λ y. p y && q y) xs ≡ list_any q (filter p xs) → ((b && q x) || list_any (λ y. p y && q y) xs) ≡ list_any q (cond b (x ∷ filter p xs) (filter p xs))
-    by true rest = ap (λ r. q x || r) rest
-    by false rest = rest
+any_filter p q (x ∷ xs) = grind (arith, any_filter p q xs)
 
 pub any_weaker : (f g : ℕ → Bool) → ((x : ℕ) → f x ≡ true → g x ≡ true) → (xs : List ℕ) → list_any f xs ≡ true → list_any g xs ≡ true
-any_weaker f g h xs e =
-    let found = Any-from_list_any f xs e in
-    list_any-from_Any g xs (found.0, found.1, found.2, found.3, h found.1 found.4)
+any_weaker f g h xs e = grind (arith, Any-from_list_any f xs e, list_any-from_Any g xs)
 
 pub range-more : (n : ℕ) → range_with_len 0 (n + 1) ≡ range_with_len 0 n ++ n ∷ []
 range-more n =
@@ -62,18 +56,14 @@ drop-nil (l ∷ lits) (suc pin) h = let less = drop-nil lits pin h in omega (ari
 -- ---- where the rows decide
 
 in_plane-true : (plane : Bool) → in_plane plane true ≡ plane
-in_plane-true true = refl
-in_plane-true false = refl
+in_plane-true plane = grind arith
 
 pub in_plane-false : (plane : Bool) → in_plane plane false ≡ not plane
-in_plane-false true = refl
-in_plane-false false = refl
+in_plane-false plane = grind arith
 
 -- a row that asks nothing more matches
 pub remainder-settled : (rows : List Row) (plane : Bool) (pin : ℕ) (live : List ℕ) → list_any (is_settled rows pin) live ≡ true → (bits : List Bool) → remainder rows plane pin live bits ≡ plane
-remainder-settled rows plane pin live h bits =
-    ap (in_plane plane) (any_weaker (is_settled rows pin) (matches_from rows pin bits) (λ row e. settled_lits (drop pin (lits_of rows row)) (drop pin bits) e) live h)
-    ∙ in_plane-true plane
+remainder-settled rows plane pin live h bits = grind (arith, any_weaker (is_settled rows pin) (matches_from rows pin bits), settled_lits, in_plane-true plane)
 
 -- the literals of a row that is there, or none
 pub lits_at : (rows : List Row) (n : ℕ) → ((d : Row) → (n < length rows) × (lits_of rows n ≡ (get_or rows n d).lits)) ⊎ (lits_of rows n ≡ [])
@@ -92,11 +82,7 @@ within_row rows n pin pins width less = elim (lits_at rows n) [
 -- one that asks more has a literal at this pin
 pub asks_within : (rows : List Row) (pin : ℕ) (live : List ℕ) (pins : ℕ) → All (λ row. length row.lits ≡ pins) rows → (live ≡ [] → ⊥) → list_any (is_settled rows pin) live ≡ false → pin < pins
 asks_within rows pin [] pins width some none = absurd (some refl)
-asks_within rows pin (row ∷ live) pins width some none = by (is_settled rows pin row) refl none
-  where
-    by : (b : Bool) → is_settled rows pin row ≡ b → (b || list_any (is_settled rows pin) live) ≡ false → pin < pins
-    by true e h = absurd (true≢false h)
-    by false e h = within_row rows row pin pins width (drop-nil (lits_of rows row) pin e)
+asks_within rows pin (row ∷ live) pins width some none = grind (arith, true≢false, within_row rows row pin pins width, drop-nil (lits_of rows row) pin)
 
 -- ---- one pin
 
@@ -120,9 +106,7 @@ module _ (rows : List Row) (plane : Bool) (pin : ℕ) (live : List ℕ) (b : Boo
   read_first bits = ap (λ l. get_or l pin false) (append_assoc (replicate pin false) (b ∷ []) (drop (length first) bits)) ∙ get_or_at (replicate pin false) b (drop (length first) bits) false pin (length-replicate pin false)
 
   later : (bits : List Bool) → remainder rows plane (pin + 1) (narrowed rows pin b live) bits ≡ remainder rows plane (pin + 1) (narrowed rows pin b live) (first ++ drop (length first) bits)
-  later bits =
-      ap (λ (bs : List Bool). in_plane plane (list_any (λ row. matches (drop (pin + 1) (lits_of rows row)) bs) (narrowed rows pin b live)))
-      (ap (λ n. drop n bits) (sym length-first) ∙ sym (drop_at first (drop (length first) bits) (pin + 1) length-first))
+  later bits = grind (arith, length-first, drop_at first (drop (length first) bits) (pin + 1) length-first)
 
   pub IsPart-narrowed : (vars : ℕ) → pin < vars → IsPart vars (remainder rows plane pin live) (remainder rows plane (pin + 1) (narrowed rows pin b live))
   IsPart-narrowed vars less = record {
@@ -134,19 +118,11 @@ module _ (rows : List Row) (plane : Bool) (pin : ℕ) (live : List ℕ) (b : Boo
 -- ---- nodes
 
 pub IsExpansion-kept : {rows : List Row} {plane : Bool} {s t : Arena} {pin : ℕ} {live : List ℕ} {n : Node} → KeepsNodes s t → IsExpansion rows plane s pin live n → IsExpansion rows plane t pin live n
-IsExpansion-kept {n = n} k is = record {
-  node = omega (arith, is.node, k.more);
-  function = λ bits len. k.function n bits is.node ∙ is.function bits (len ∙ k.vars);
-  top = omega (arith, is.top, k.variable n is.node);
-}
+IsExpansion-kept {n = n} k is = grind arith
 
 -- Shannon's expansion
 pub choice-remainder : {rows : List Row} {plane : Bool} {s : Arena} {pin : ℕ} {live : List ℕ} {low high : Node} → pin < s.vars → AreBranches rows plane s pin live low high → (bits : List Bool) → length bits ≡ s.vars → choice s pin low high bits ≡ remainder rows plane pin live bits
-choice-remainder {rows} {plane} {s} {pin} {live} {low} {high} less are bits len = by (get_or bits pin false) refl
-  where
-    by : (b : Bool) → get_or bits pin false ≡ b → (if b then den s high bits else den s low bits) ≡ remainder rows plane pin live bits
-    by true e = are.at_one.function bits len ∙ sym (remainder-narrowed rows plane pin live true bits (omega arith) e)
-    by false e = are.at_zero.function bits len ∙ sym (remainder-narrowed rows plane pin live false bits (omega arith) e)
+choice-remainder {rows} {plane} {s} {pin} {live} {low} {high} less are bits len = grind (arith, remainder-narrowed rows plane pin live)
 
 module _ {rows : List Row} {plane : Bool} {s : Arena} {pin : ℕ} {live : List ℕ} {low high : Node} (less : pin < s.vars) (are : AreBranches rows plane s pin live low high) (t : Arena) where
   -- the node that is made of both
@@ -173,10 +149,7 @@ lits_behind (b ∷ before) rows row (suc n) e = lits_behind before rows row n (o
 
 any_numbers : (P : List Lit → Bool) (before rows : List Row) (n : ℕ) → length before ≡ n → list_any (λ row. P (lits_of (before ++ rows) row)) (range_with_len n (length rows)) ≡ list_any (λ row. P row.lits) rows
 any_numbers P before [] n e = refl
-any_numbers P before (row ∷ rows) n e =
-    let rest = any_numbers P (before ++ row ∷ []) rows (suc n) (omega (arith, length_push before row)) in
-    rw (add-one n) ((λ j. P (lits_behind before rows row n e j) || list_any (λ k. P (lits_of (sym (append_assoc before (row ∷ []) rows) j) k)) (range_with_len (suc n) (length rows)))
-    ∙ ap (λ v. P row.lits || v) rest)
+any_numbers P before (row ∷ rows) n e = grind (arith, any_numbers P (before ++ row ∷ []) rows (suc n), length_push before row, add-one n, lits_behind before rows row n e, append_assoc before (row ∷ []) rows)
 
 pub remainder-whole : (rows : List Row) (plane : Bool) → (rows ≡ [] → plane ≡ true) → (bits : List Bool) → remainder rows plane 0 (range_with_len 0 (length rows)) bits ≡ value_of_rows plane rows bits
 remainder-whole rows plane on bits = ap (in_plane plane) (any_numbers (λ lits. matches lits bits) [] rows 0 refl) ∙ by plane rows on

@@ -30,8 +30,7 @@ any_dedup : (test : ℕ → Bool) (xs : List ℕ) → list_any test (dedup eqb x
 any_dedup test xs = same_truth _ _ (any_moved test (dedup eqb xs) xs (λ x. Contains-from_dedup eqb xs x)) (any_moved test xs (dedup eqb xs) (λ x. Contains-dedup_nat xs x))
 
 pub any_ascending : (xs sorted ys : List ℕ) → IsPermutation xs sorted → IsFiltered (DiffersFromLast eqb) [] sorted ys → (test : ℕ → Bool) → list_any test ys ≡ list_any test xs
-any_ascending xs sorted ys moved kept test =
-    (λ j. list_any test (dedup_is eqb sorted ys kept j)) ∙ any_dedup test sorted ∙ sym (list_any-IsPermutation test xs sorted moved)
+any_ascending xs sorted ys moved kept test = grind (arith, dedup_is eqb sorted ys kept, any_dedup test sorted, list_any-IsPermutation test xs sorted moved)
 
 -- the rows' classes match where the rows do
 pub any_map : (test : ℕ → Bool) (f : ℕ → ℕ) → (xs : List ℕ) → ((x : ℕ) → test (f x) ≡ test x) → list_any test (map f xs) ≡ list_any test xs
@@ -41,51 +40,30 @@ any_map test f (x ∷ xs) same = λ j. same x j || any_map test f xs same j
 -- ---- rows in others
 
 within_allows : (lit wide : Lit) (bit : Bool) → is_within lit wide ≡ true → allows lit bit ≡ true → allows wide bit ≡ true
-within_allows lit Either bit w a = refl
-within_allows Zero Zero bit w a = a
-within_allows One One bit w a = a
-within_allows Zero One bit w a = absurd (true≢false (sym w))
-within_allows One Zero bit w a = absurd (true≢false (sym w))
-within_allows Either Zero bit w a = absurd (true≢false (sym w))
-within_allows Either One bit w a = absurd (true≢false (sym w))
+within_allows lit wide bit w a = grind arith
 
 within_matches : (lits wide : List Lit) (bits : List Bool) → length lits ≡ length wide → list_all (λ pair. is_within pair.0 pair.1) (zip lits wide) ≡ true → matches lits bits ≡ true → matches wide bits ≡ true
 within_matches [] [] bits len w m = m
 within_matches [] (v ∷ wide) bits len w m = absurd (omega (arith, len))
 within_matches (l ∷ lits) [] bits len w m = absurd (omega (arith, len))
 within_matches (l ∷ lits) (v ∷ wide) [] len w m = refl
-within_matches (l ∷ lits) (v ∷ wide) (b ∷ bits) len w m =
-    let w = and_parts (is_within l v) (list_all (λ pair. is_within pair.0 pair.1) (zip lits wide)) w in
-    let m = and_parts (allows l b) (matches lits bits) m in
-    and_from (allows v b) (matches wide bits) (within_allows l v b w.0 m.0) (within_matches lits wide bits (omega (arith, len)) w.1 m.1)
+within_matches (l ∷ lits) (v ∷ wide) (b ∷ bits) len w m = grind (arith, and_parts (is_within l v), and_parts (allows l b) (matches lits bits), and_from (allows v b) (matches wide bits), within_allows l v b, within_matches lits wide bits)
 
 contained_matches : (rows : List Row) (pin : ℕ) (bits : List Bool) (row other : ℕ) → is_contained rows pin row other ≡ true → matches_from rows pin bits row ≡ true → matches_from rows pin bits other ≡ true
 contained_matches rows pin bits row other c m =
-    let parts = and_parts (eqb (length (suffix rows pin row)) (length (suffix rows pin other))) (list_all (λ pair. is_within pair.0 pair.1) (zip (suffix rows pin row) (suffix rows pin other))) c in
-    within_matches (suffix rows pin row) (suffix rows pin other) (drop pin bits) (eqb-true (length (suffix rows pin row)) (length (suffix rows pin other)) parts.0) parts.1 m
+    grind (arith, and_parts (eqb (length (suffix rows pin row)) (length (suffix rows pin other))), within_matches (suffix rows pin row) (suffix rows pin other) (drop pin bits), eqb-true (length (suffix rows pin row)) (length (suffix rows pin other)))
 
 -- a row that is contained in one of them says nothing new
 pub any_contained : (rows : List Row) (pin : ℕ) (kept : List ℕ) (row : ℕ) → list_any (is_contained rows pin row) kept ≡ true → (bits : List Bool)
     → list_any (matches_from rows pin bits) kept ≡ (list_any (matches_from rows pin bits) kept || matches_from rows pin bits row)
-any_contained rows pin kept row c bits = by (matches_from rows pin bits row) refl
-  where
-    by : (m : Bool) → matches_from rows pin bits row ≡ m → list_any (matches_from rows pin bits) kept ≡ (list_any (matches_from rows pin bits) kept || m)
-    by true e = any_weaker (is_contained rows pin row) (matches_from rows pin bits) (λ other w. contained_matches rows pin bits row other w e) kept c ∙ sym (or-true (list_any (matches_from rows pin bits) kept))
-    by false e = sym (or-false (list_any (matches_from rows pin bits) kept))
+any_contained rows pin kept row c bits =
+    grind (arith, any_weaker (is_contained rows pin row) (matches_from rows pin bits), contained_matches rows pin bits row, or-true (list_any (matches_from rows pin bits) kept), or-false (list_any (matches_from rows pin bits) kept))
 
 -- nor do those that are contained in it
 any_others : (rows : List Row) (pin : ℕ) (row : ℕ) (bits : List Bool) → matches_from rows pin bits row ≡ false → (kept : List ℕ)
     → list_any (matches_from rows pin bits) (filter (λ other. not (is_contained rows pin other row)) kept) ≡ list_any (matches_from rows pin bits) kept
 any_others rows pin row bits e [] = refl
-any_others rows pin row bits e (k ∷ kept) = by (any_others rows pin row bits e kept) (is_contained rows pin k row) refl
-  where
-    no : (m : Bool) → matches_from rows pin bits k ≡ m → is_contained rows pin k row ≡ true → m ≡ false
-    no true m c = absurd (true≢false (sym (contained_matches rows pin bits k row c m) ∙ e))
-    no false m c = refl
-
-    by : list_any (matches_from rows pin bits) (filter (λ other. not (is_contained rows pin other row)) kept) ≡ list_any (matches_from rows pin bits) kept → (b : Bool) → is_contained rows pin k row ≡ b → list_any (matches_from rows pin bits) (cond (not b) (k ∷ filter (λ other. not (is_contained rows pin other row)) kept) (filter (λ other. not (is_contained rows pin other row)) kept)) ≡ (matches_from rows pin bits k || list_any (matches_from rows pin bits) kept)
-    by rest true c = rest ∙ sym (ap (λ m. m || list_any (matches_from rows pin bits) kept) (no (matches_from rows pin bits k) refl c))
-    by rest false c = ap (λ r. matches_from rows pin bits k || r) rest
+any_others rows pin row bits e (k ∷ kept) = grind (arith, any_others rows pin row bits e kept, true≢false, contained_matches rows pin bits k row)
 
 pub any_kept : (rows : List Row) (pin : ℕ) (kept left new : List ℕ) (row : ℕ) → left ≡ filter (λ other. not (is_contained rows pin other row)) kept → new ≡ left ++ row ∷ [] → (bits : List Bool)
     → list_any (matches_from rows pin bits) new ≡ (list_any (matches_from rows pin bits) kept || matches_from rows pin bits row)
@@ -96,8 +74,7 @@ any_kept rows pin kept left new row fewer is bits =
     ∙ by (matches_from rows pin bits row) refl
   where
     by : (m : Bool) → matches_from rows pin bits row ≡ m → (list_any (matches_from rows pin bits) left || m) ≡ (list_any (matches_from rows pin bits) kept || m)
-    by true e = or-true (list_any (matches_from rows pin bits) left) ∙ sym (or-true (list_any (matches_from rows pin bits) kept))
-    by false e = ap (λ b. b || false) ((λ j. list_any (matches_from rows pin bits) (fewer j)) ∙ any_others rows pin row bits e kept)
+    by m e = grind (arith, or-true, any_others)
 
 -- ---- what is left to be matched
 
@@ -105,8 +82,7 @@ pub MatchAlike-chain : (rows : List Row) (pin : ℕ) (xs ys zs : List ℕ) → M
 MatchAlike-chain rows pin xs ys zs xy yz bits = xy bits ∙ yz bits
 
 pub MatchAlike-of : {E : Type 0} (rows : List Row) (pin : ℕ) (xs ys : List ℕ) (r : Result Live E) → IfOk r (λ next. MatchAlike rows pin next.rows.items xs) → MatchAlike rows pin xs ys → IfOk r (λ next. MatchAlike rows pin next.rows.items ys)
-MatchAlike-of rows pin xs ys (Ok next) is same = MatchAlike-chain rows pin next.rows.items xs ys is same
-MatchAlike-of rows pin xs ys (Err e) is same = is
+MatchAlike-of rows pin xs ys r is same = grind arith
 
 pub remainder-alike : (rows : List Row) (plane : Bool) (pin : ℕ) (xs ys : List ℕ) → MatchAlike rows pin xs ys → (bits : List Bool) → remainder rows plane pin xs bits ≡ remainder rows plane pin ys bits
 remainder-alike rows plane pin xs ys same bits = ap (in_plane plane) (same bits)
@@ -121,8 +97,7 @@ IsPart-next rows plane {pin} live b {vars} left less at same =
     (IsPart-alike (IsPart-narrowed rows plane pin live b vars less) (λ bits len. remainder-alike rows plane (pin + 1) left (narrowed rows pin b live) same bits))
 
 pub IsExpansion-next : {E : Type 0} (rows : List Row) (plane : Bool) (s : Arena) (pin next : ℕ) (left live : List ℕ) (r : Result Node E) → IfOk r (IsExpansion rows plane s next left) → next ≡ pin → MatchAlike rows pin left live → IfOk r (IsExpansion rows plane s pin live)
-IsExpansion-next rows plane s pin next left live (Ok n) is at same = IsExpansion-alike same (subst (λ p. IsExpansion rows plane s p left n) at is)
-IsExpansion-next rows plane s pin next left live (Err e) is at same = is
+IsExpansion-next rows plane s pin next left live r is at same = grind arith
 
 -- at the first pin
 pub remainder-first : (rows : List Row) (plane : Bool) (pin : ℕ) (live all : List ℕ) → pin ≡ 0 → MatchAlike rows 0 live all → (bits : List Bool) → remainder rows plane pin live bits ≡ remainder rows plane 0 all bits

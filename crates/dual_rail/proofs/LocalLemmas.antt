@@ -12,13 +12,10 @@ use Rattle.dual_rail.proofs.SizeLemmas.{nodes-below_power}
 
 -- at the first pin all is left
 pub remainder-cover : (cover : Cover) → IsCover cover → (rows : List Row) (plane : Bool) → rows ≡ cover.rows → plane ≡ cover.plane → (bits : List Bool) → remainder rows plane 0 (range_with_len 0 (length rows)) bits ≡ value cover bits
-remainder-cover cover is rows plane rows_are plane_is bits =
-    (λ j. remainder (rows_are j) (plane_is j) 0 (range_with_len 0 (length (rows_are j))) bits)
-    ∙ remainder-whole cover.rows cover.plane is.plane bits
+remainder-cover cover is rows plane rows_are plane_is bits = grind (arith, remainder-whole cover.rows cover.plane is.plane bits)
 
 pub function-cover : {E : Type 0} (cover : Cover) (is : IsCover cover) (rows : List Row) (plane : Bool) → rows ≡ cover.rows → plane ≡ cover.plane → (s : Arena) → s.vars ≡ cover.pins → (r : Result Node E) → IfOk r (IsExpansion rows plane s 0 (range_with_len 0 (length rows))) → IfOk r (λ n. (bits : List Bool) → length bits ≡ cover.pins → den s n bits ≡ value cover bits)
-function-cover cover is rows plane rows_are plane_is s vars (Ok n) e = λ bits len. e.function bits (len ∙ sym vars) ∙ remainder-cover cover is rows plane rows_are plane_is bits
-function-cover cover is rows plane rows_are plane_is s vars (Err x) e = tt
+function-cover cover is rows plane rows_are plane_is s vars h e = grind (arith, remainder-cover)
 
 pub NewAreParts-alike : {s t : Arena} {f g : List Bool → Bool} → Alike s.vars f g → NewAreParts s t f → NewAreParts s t g
 NewAreParts-alike {s} {t} same new = record { each = λ n node. elim (new.each n node) [ inl was ↦ inl was | inr part ↦ inr (IsPartAt-into t t n (λ m at here. IsPart-of_alike here same) part) ] }
@@ -34,9 +31,7 @@ module _ (cover : Cover) (old new : Arena) (pins_are : old.vars ≡ cover.pins) 
   local-most = omega (arith, local-size, nodes-below_power cover.pins (value cover))
 
   pub local-full : IsRefusedPart new (value cover) → old.limit < size cover
-  local-full r =
-      let past = (refused-parts old new (value cover) lawful kept parts r).past in
-      omega (arith, past, ap (λ v. nodes v (value cover)) pins_are, ap length empty, kept.limit)
+  local-full r = grind (arith, refused-parts old new (value cover) lawful kept parts r)
 
   module _ (top : Node) (node : IsNodeOf new top) (function_is : (bits : List Bool) → length bits ≡ cover.pins → den new top bits ≡ value cover bits) (pins : ℕ) (at : pins ≡ cover.pins) where
     pub local-is : IsLocal (record { store = new; top = top; pins = pins })

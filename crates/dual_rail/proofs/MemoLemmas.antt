@@ -1,5 +1,5 @@
 -- The memo of the expansion.
-use Rattle.std.proofs.Common.{◌≡◌, ℕ, Bool, true, false, cond, List, Option, Some, Result, Ok, Err, is_err, OnOk, nat_eq, refl, sym, subst, ◌∙◌, true≢false, eq-eqb}
+use Rattle.std.proofs.Common.{◌≡◌, ℕ, Bool, true, false, cond, List, Option, Some, Result, Ok, Err, is_err, OnOk, nat_eq, refl, sym, subst, ◌∙◌, true≢false, eq-eqb, arith}
 use Rattle.std.proofs.lemmas.Option.{same_Some}
 use Rattle.dual_rail.proofs.Common.{and_parts, Node, Arena, KeepsNodes, Row, IsExpansion}
 use Rattle.std.proofs.lemmas.Bool.{eqb-true}
@@ -31,13 +31,8 @@ pub IsMemo-insert : (rows : List Row) (plane : Bool) (s : Arena) (old new : Memo
 IsMemo-insert rows plane s old new p n memo is updates = record { each = λ q m at. by q m (live_eq p q) refl (sym (updates q) ∙ at) }
   where
     by : (q : Live) (m : Node) (b : Bool) → live_eq p q ≡ b → cond b (Some n) (get live_eq old q) ≡ Some m → IsExpansion rows plane s q.pin q.rows.items m
-    by q m true e h =
-        let same = same_live p q e in
-        let here : IsExpansion rows plane s p.pin p.rows.items m = subst (λ (k : Node). IsExpansion rows plane s p.pin p.rows.items k) (same_Some n m h) is in
-        subst (λ (l : List ℕ). IsExpansion rows plane s q.pin l m) same.1 (subst (λ (v : ℕ). IsExpansion rows plane s v p.rows.items m) same.0 here)
-    by q m false e h = memo.each q m h
+    by q m b e h = grind (arith, same_live, same_Some)
 
 -- the clause of an `Ok`
 pub on_ok : {X E : Type 0} {P : Type 0} (r : Result X E) → false ≡ is_err r → OnOk r P → P
-on_ok (Ok x) e h = h
-on_ok (Err x) e h = absurd (true≢false (sym e))
+on_ok r e h = grind arith

@@ -25,35 +25,16 @@ table_laws = lists_equiv bool_eq_equiv
 module _ {K : Type 0} (eq : K → K → Bool) where
   apart : (x : K) (xs : List K) → is_member eq xs x ≡ false → AllByRecursion (λ y. eq x y ≡ false) (unique_keys eq xs)
   apart x [] h = tt
-  apart x (y ∷ ys) h = by (is_member eq ys y) (apart x ys)
-    where
-      parts : (eq x y ≡ false) × (is_member eq ys x ≡ false)
-      parts = or_parts (eq x y) (is_member eq ys x) h
-
-      by : (b : Bool) → (is_member eq ys x ≡ false → AllByRecursion (λ z. eq x z ≡ false) (unique_keys eq ys)) → AllByRecursion (λ z. eq x z ≡ false) (cond b (unique_keys eq ys) (y ∷ unique_keys eq ys))
-      by true rest = rest parts.1
-      by false rest = (parts.0, rest parts.1)
+  apart x (y ∷ ys) h = grind (arith, apart x ys, or_parts (eq x y) (is_member eq ys x) h)
 
   unique_keys-distinct : (xs : List K) → IsDistinct eq (unique_keys eq xs)
   unfolding IsDistinct
   unique_keys-distinct [] = tt
-  unique_keys-distinct (x ∷ xs) = by (is_member eq xs x) refl (unique_keys-distinct xs)
-    where
-      by : (b : Bool) → is_member eq xs x ≡ b → IsDistinct eq (unique_keys eq xs) → IsDistinct eq (cond b (unique_keys eq xs) (x ∷ unique_keys eq xs))
-      by true e rest = rest
-      by false e rest = IsDistinct-cons eq x (unique_keys eq xs) (apart x xs e) rest
+  unique_keys-distinct (x ∷ xs) = grind (arith, unique_keys-distinct xs, IsDistinct-cons eq x (unique_keys eq xs), apart x xs)
 
   unique_keys-were : (xs : List K) (q : K) → is_member eq (unique_keys eq xs) q ≡ true → is_member eq xs q ≡ true
   unique_keys-were [] q h = h
-  unique_keys-were (x ∷ xs) q h = by (is_member eq xs x) (unique_keys-were xs q) h
-    where
-      or_weaker : (a b c : Bool) → (b ≡ true → c ≡ true) → (a || b) ≡ true → (a || c) ≡ true
-      or_weaker true b c k e = refl
-      or_weaker false b c k e = k e
-
-      by : (b : Bool) → (is_member eq (unique_keys eq xs) q ≡ true → is_member eq xs q ≡ true) → is_member eq (cond b (unique_keys eq xs) (x ∷ unique_keys eq xs)) q ≡ true → (eq q x || is_member eq xs q) ≡ true
-      by true rest e = ap (λ v. eq q x || v) (rest e) ∙ or-true (eq q x)
-      by false rest e = or_weaker (eq q x) (is_member eq (unique_keys eq xs) q) (is_member eq xs q) rest e
+  unique_keys-were (x ∷ xs) q h = grind (arith, unique_keys-were xs q, or-true (eq q x))
 
 -- ---- lists of bits
 
@@ -69,10 +50,7 @@ all_prefixes (suc n) P h = all_append P (prefixes n) (vectors (suc n)) (all_pref
 
 length-vectors : (n : ℕ) → length (vectors n) ≡ 2 ^ n
 length-vectors zero = refl
-length-vectors (suc n) =
-    let low = map (λ v. false ∷ v) (vectors n) in
-    let high = map (λ v. true ∷ v) (vectors n) in
-    omega (arith, length-append (map (λ v. false ∷ v) (vectors n)) (map (λ v. true ∷ v) (vectors n)), length-map {B = List Bool} (vectors n) (λ v. false ∷ v), length-map {B = List Bool} (vectors n) (λ v. true ∷ v), length-vectors n, pow-suc 2 n)
+length-vectors (suc n) = grind (arith, length-append, length-map {B = List Bool} (vectors n), length-vectors n, pow-suc 2 n)
 
 length-prefixes : (n : ℕ) → length (prefixes n) + 1 ≡ 2 ^ suc n
 length-prefixes zero = refl
@@ -88,15 +66,7 @@ IsAmong ts t = is_constant t ≡ false → Contains ts t
 
 among : (ts xs : List (List Bool)) → AllByRecursion (IsAmong ts) xs → (q : List Bool) → is_member table_eq (varying xs) q ≡ true → Contains ts q
 among ts [] a q m = absurd (true≢false (sym m))
-among ts (x ∷ xs) a q m = by (is_constant x) (a.0) (among ts xs a.1 q) m
-  where
-    first_or : (c : Bool) → table_eq q x ≡ c → Contains ts x → (is_member table_eq (varying xs) q ≡ true → Contains ts q) → (c || is_member table_eq (varying xs) q) ≡ true → Contains ts q
-    first_or true e there rest h = subst (λ (t : List Bool). Contains ts t) (sym ((table_decides q x).0 e)) there
-    first_or false e there rest h = rest h
-
-    by : (b : Bool) → (b ≡ false → Contains ts x) → (is_member table_eq (varying xs) q ≡ true → Contains ts q) → is_member table_eq (cond (not b) (x ∷ varying xs) (varying xs)) q ≡ true → Contains ts q
-    by true there rest h = rest h
-    by false there rest h = first_or (table_eq q x) refl (there refl) rest h
+among ts (x ∷ xs) a q m = grind (arith, among ts xs a.1 q, table_decides q x)
 
 -- a list that has each table but the constant ones is at least as long
 pub nodes-at_most : (vars : ℕ) (f : List Bool → Bool) (ts : List (List Bool)) → ((p : List Bool) → length p ≤ vars → IsAmong ts (table vars (fixed f p))) → nodes vars f ≤ length ts

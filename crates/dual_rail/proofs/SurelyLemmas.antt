@@ -33,22 +33,13 @@ pub exact-alike : (f g : List Bool → Bool) (trits : List Trit) → ((bs : List
 exact-alike f g trits same = ap₂ trit_of (surely-alike f g trits same) (surely-alike (λ bs. not (f bs)) (λ bs. not (g bs)) trits (λ bs len. ap not (same bs len)))
 
 high_alone : (h l : Bool) → h ≡ select true false h l
-high_alone true true = refl
-high_alone true false = refl
-high_alone false true = refl
-high_alone false false = refl
+high_alone h l = grind arith
 
 low_alone : (h l : Bool) → l ≡ select false true h l
-low_alone true true = refl
-low_alone true false = refl
-low_alone false true = refl
-low_alone false false = refl
+low_alone h l = grind arith
 
 both_alone : (h l : Bool) → (h && l) ≡ select false false h l
-both_alone true true = refl
-both_alone true false = refl
-both_alone false true = refl
-both_alone false false = refl
+both_alone h l = grind arith
 
 module _ (f hi lo : List Bool → Bool) (v : ℕ)
     (at_hi : (bs : List Bool) → get_or bs v false ≡ true → f bs ≡ hi bs)
@@ -70,8 +61,7 @@ module _ (f hi lo : List Bool → Bool) (v : ℕ)
   at_set bs b c = get_or-set_same bs v b false (subst (λ n. v < n) (Completes-length trits bs c) inside)
 
   either_way : (bs : List Bool) → hi bs ≡ true → lo bs ≡ true → (b : Bool) → get_or bs v false ≡ b → f bs ≡ true
-  either_way bs h l true e = at_hi bs e ∙ h
-  either_way bs h l false e = at_lo bs e ∙ l
+  either_way bs h l e i = grind arith
 
   split-x : get_or trits v X ≡ X → surely f trits ≡ (surely hi trits && surely lo trits)
   split-x e = same_truth _ _
@@ -89,13 +79,10 @@ module _ (f hi lo : List Bool → Bool) (v : ℕ)
 -- ---- exactness
 
 not_true_and : (a b : Bool) → (a ≡ true → b ≡ true → ⊥) → (a && b) ≡ false
-not_true_and true true h = absurd (h refl refl)
-not_true_and true false h = refl
-not_true_and false b h = refl
+not_true_and a b h = grind arith
 
 not_both_values : (x : Bool) → x ≡ true → not x ≡ true → ⊥
-not_both_values true e g = true≢false (sym g)
-not_both_values false e g = true≢false (sym e)
+not_both_values x e g = grind arith
 
 -- no function is surely 1 and surely 0
 pub surely-apart : (f : List Bool → Bool) (trits : List Trit) → (surely f trits && surely (λ bs. not (f bs)) trits) ≡ false
@@ -116,25 +103,14 @@ pub values_of-kept : {s t : Arena} → KeepsNodes s t → (pins : List Rails) �
 values_of-kept {s} {t} k pins all bs = map_alike (AreRailsOf s) (λ r. value_of t r bs) (λ r. value_of s r bs) pins (λ r is. value_of-kept k r is bs) (λ i d less. All-get_or (AreRailsOf s) pins i d less all)
 
 pub AreRailsOf-kept : {s t : Arena} → KeepsNodes s t → (r : Rails) → AreRailsOf s r → AreRailsOf t r
-AreRailsOf-kept k r is = record {
-  one = omega (arith, is.one, k.more);
-  zero = omega (arith, is.zero, k.more);
-  proper = λ bs. ap₂ (λ x y. x && y) (k.function r.one bs is.one) (k.function r.zero bs is.zero) ∙ is.proper bs;
-}
+AreRailsOf-kept k r is = grind arith
 
 pub IsSurely-kept : {s t : Arena} {pins : List Rails} {f : List Bool → Bool} {n : Node} → KeepsNodes s t → All (AreRailsOf s) pins → IsSurely s pins f n → IsSurely t pins f n
-IsSurely-kept {pins = pins} {f = f} {n = n} k all is = record {
-  node = omega (arith, is.node, k.more);
-  says = λ bs. k.function n bs is.node ∙ is.says bs ∙ ap (surely f) (sym (values_of-kept k pins all bs));
-}
+IsSurely-kept {pins = pins} {f = f} {n = n} k all is = grind (arith, values_of-kept k pins all)
 
 -- the rails of a lift are proper, and their value is the exact extension
 pub IsLift-rails : {a : Arena} {pins : List Rails} {f : List Bool → Bool} {r : Rails} → IsLift a pins f r → AreRailsOf a r
-IsLift-rails {a} {pins} {f} {r} is = record {
-  one = is.one.node;
-  zero = is.zero.node;
-  proper = λ bs. ap₂ (λ x y. x && y) (is.one.says bs) (is.zero.says bs) ∙ surely-apart f (values_of a pins bs);
-}
+IsLift-rails {a} {pins} {f} {r} is = grind (arith, surely-apart f)
 
 pub IsLift-exact : {a : Arena} {pins : List Rails} {f : List Bool → Bool} {r : Rails} → IsLift a pins f r → (bs : List Bool) → value_of a r bs ≡ exact f (values_of a pins bs)
 IsLift-exact {a} {pins} {f} {r} is bs = ap₂ trit_of (is.one.says bs) (is.zero.says bs)
@@ -157,10 +133,7 @@ pub selection-is : {s : Arena} {pins : List Rails} (f hi lo : List Bool → Bool
     → IsSurely s pins hi hi_node → IsSurely s pins lo lo_node
     → (bs : List Bool) → select (den s (get_or pins v none).one bs) (den s (get_or pins v none).zero bs) (den s hi_node bs) (den s lo_node bs) ≡ surely f (values_of s pins bs)
 selection-is {s} {pins} f hi lo v none hi_node lo_node at_hi at_lo hi_free lo_free inside all is_hi is_lo bs =
-    let pin = get_or pins v none in
-    let pin_is : AreRailsOf s (get_or pins v none) = All-get_or (AreRailsOf s) pins v none inside all in
-    ap₂ (λ x y. select (den s (get_or pins v none).one bs) (den s (get_or pins v none).zero bs) x y) (is_hi.says bs) (is_lo.says bs)
-    ∙ sym (split f hi lo v at_hi at_lo hi_free lo_free (values_of s pins bs) (subst (λ m. v < m) (sym (length-map {B = Trit} pins (λ r. value_of s r bs))) inside) (den s (get_or pins v none).one bs) (den s (get_or pins v none).zero bs) (pin_is.proper bs) (value_of-at s pins v none bs inside))
+    grind (arith, All-get_or (AreRailsOf s) pins v none inside all, split f hi lo v at_hi at_lo hi_free lo_free (values_of s pins bs), length-map {B = Trit} pins, value_of-at s pins v none bs inside)
 
 -- and so a node of that function says so
 pub IsSurely-made : {s t : Arena} {pins : List Rails} {f k : List Bool → Bool} {n : Node} → All (AreRailsOf s) pins → KeepsNodes s t → IsNodeOf t n → ((bs : List Bool) → den t n bs ≡ k bs) → ((bs : List Bool) → k bs ≡ surely f (values_of s pins bs)) → IsSurely t pins f n
@@ -211,7 +184,4 @@ surely-constant g false trits h =
 
 -- the rails of the complement are exchanged
 pub IsLift-complement : {a : Arena} {pins : List Rails} {f g : List Bool → Bool} {r : Rails} → ((bs : List Bool) → g bs ≡ not (f bs)) → IsLift a pins f r → IsLift a pins g (record { one = r.zero; zero = r.one })
-IsLift-complement {a} {pins} {f} {g} {r} opposite is = record {
-  one = record { node = is.zero.node; says = λ bits. is.zero.says bits ∙ surely-alike (λ bs. not (f bs)) g (values_of a pins bits) (λ bs len. sym (opposite bs)) };
-  zero = record { node = is.one.node; says = λ bits. is.one.says bits ∙ surely-alike f (λ bs. not (g bs)) (values_of a pins bits) (λ bs len. sym (not-not (f bs)) ∙ ap not (sym (opposite bs))) };
-}
+IsLift-complement {a} {pins} {f} {g} {r} opposite is = grind (arith, surely-alike, surely-alike f, not-not)

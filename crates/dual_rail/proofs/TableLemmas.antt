@@ -38,11 +38,7 @@ step-table {l} {s} {t} {pins} {table} more node r before k all at unmarked is it
   where
     by : (n : Node) (none : Rails) → is_marked n ≡ false → index n < length (table ++ r ∷ []) → (index n < length table) ⊎ (length table ≤ index n) → IsLift t pins (den l.store n) (slice_index_or (table ++ r ∷ []) (index n) none)
     by n none plain less (inl low) = subst (IsLift t pins (den l.store n)) (sym (get_or_append_left table (r ∷ []) none (index n) low)) (IsLift-kept k all (before.each n none plain low))
-    by n none plain less (inr high) =
-        let here : length table ≡ index n = omega (arith, less, high, length_push table r) in
-        let same : node ≡ n = same_node node n (sym at ∙ here) (unmarked ∙ sym plain) in
-        subst (IsLift t pins (den l.store n)) (sym (get_or_push table r none (index n) here))
-        (subst (λ (m : Node). IsLift t pins (den l.store m) r) same is)
+    by n none plain less (inr high) = grind (arith, length_push table r, same_node node n, get_or_push table r none (index n))
 
 -- the rails of a node with a mark are those of the one without, exchanged
 pub IsLift-at : {l : Local} {s : Arena} {pins table : List Rails} (n : Node) (none : Rails) → IsTable l s pins table → index n < length table → (m : Bool) → m ≡ is_marked n → (r : Rails) → r ≡ slice_index_or table (index n) none
@@ -58,7 +54,4 @@ IsLift-at {l} {s} {pins} {table} n none is less false mark r at = subst (IsLift 
 
 -- a diagram has no more nodes than its function
 pub local-count : (l : Local) → IsLawful l.store → IsLocal l → length l.store.entries ≤ local_size l
-local-count l lawful local =
-    let parts : (n : Node) → IsNodeOf l.store n → IsNodeOf (empty l.store.vars l.store.limit) n ⊎ IsPartAt l.store.vars (function l) l.store n = λ n node. elim (cases_lt n.number 2) [ inl less ↦ inl (omega arith) | inr more ↦ inr (local.parts n node more) ] in
-    let most = count-parts l.store lawful.canonical (function l) lawful.constants (empty l.store.vars l.store.limit) (omega arith) parts in
-    omega (arith, most, ap (λ v. nodes v (function l)) local.pins)
+local-count l lawful local = grind (arith, cases_lt, count-parts l.store lawful.canonical (function l) lawful.constants (empty l.store.vars l.store.limit))

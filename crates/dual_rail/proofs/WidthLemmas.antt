@@ -27,8 +27,7 @@ IsWide-fewer P Q w into wide = record { variables = wide.variables; combinations
 -- ---- the functions of the list
 
 and_same : (a : Bool) → (a && a) ≡ a
-and_same true = refl
-and_same false = refl
+and_same a = grind arith
 
 -- a function that reads no first pins
 surely-drop : (g : List Bool → Bool) (k : ℕ) (trits : List Trit) → surely (λ bs. g (drop k bs)) trits ≡ surely g (drop k trits)
@@ -36,22 +35,13 @@ surely-drop g zero trits = refl
 surely-drop g (suc k) [] = refl
 surely-drop g (suc k) (Zero ∷ trits) = list_all-map (λ bs. g (drop (suc k) bs)) (λ bs. false ∷ bs) (completions trits) ∙ surely-drop g k trits
 surely-drop g (suc k) (One ∷ trits) = list_all-map (λ bs. g (drop (suc k) bs)) (λ bs. true ∷ bs) (completions trits) ∙ surely-drop g k trits
-surely-drop g (suc k) (X ∷ trits) =
-    list_all-append (λ bs. g (drop (suc k) bs)) (map (λ bs. false ∷ bs) (completions trits)) (map (λ bs. true ∷ bs) (completions trits))
-    ∙ ap₂ (λ x y. x && y)
-    (list_all-map (λ bs. g (drop (suc k) bs)) (λ bs. false ∷ bs) (completions trits) ∙ surely-drop g k trits)
-    (list_all-map (λ bs. g (drop (suc k) bs)) (λ bs. true ∷ bs) (completions trits) ∙ surely-drop g k trits)
-    ∙ and_same (surely g (drop k trits))
+surely-drop g (suc k) (X ∷ trits) = grind (arith, list_all-append, list_all-map, surely-drop g k trits, and_same (surely g (drop k trits)))
 
 is_one : (a b : Bool) → a ≡ is_bit true (cond a One (cond b Zero X))
-is_one true b = refl
-is_one false true = refl
-is_one false false = refl
+is_one a b = grind arith
 
 is_zero : (a b : Bool) → (a && b) ≡ false → b ≡ is_bit false (cond a One (cond b Zero X))
-is_zero true b e = e
-is_zero false true e = refl
-is_zero false false e = refl
+is_zero a b e = grind arith
 
 module _ (s : Arena) (pins : List Rails) (vars : ℕ) (len : length pins ≡ vars) (F g : List Bool → Bool) (part : IsPart vars F g) where
   long : (bits : List Bool) → length (values_of s pins bits) ≡ vars
@@ -111,13 +101,7 @@ module _ (l : Local) (node : Node) {s : Arena} {pins : List Rails} {fork : Fork}
       f = selection s fork.pin.one fork.pin.zero fork.hi.one fork.lo.one
 
   pub zero-nodes : nodes s.vars (selection s fork.pin.one fork.pin.zero fork.hi.zero fork.lo.zero) ≤ w
-  zero-nodes = elim part [
-    | inl p ↦ bounds f (extended-zero s pins l.pins len (function l) (den l.store node) p f is.zero)
-    | inr p ↦ bounds f (extended-one s pins l.pins len (function l) (den l.store (complemented node)) p f (λ bits. is.zero bits ∙ surely-alike (λ bs. not (den l.store node bs)) (den l.store (complemented node)) (values_of s pins bits) (λ bs wide. sym (node_value-complemented l.store.entries node bs))))
-  ]
-    where
-      f : List Bool → Bool
-      f = selection s fork.pin.one fork.pin.zero fork.hi.zero fork.lo.zero
+  zero-nodes = grind (arith, extended-zero s pins l.pins len (function l) (den l.store node), extended-one s pins l.pins len (function l) (den l.store (complemented node)), surely-alike, node_value-complemented l.store.entries node)
 
 -- ---- a bound of every function
 
@@ -133,7 +117,4 @@ nodes-bounded vars f =
 
 -- each list has one
 pub IsWide-some : (vars : ℕ) (P : (List Bool → Bool) → Type 0) → IsWide vars P (vars + 1 + length (prefixes vars))
-IsWide-some vars P = record {
-  variables = omega arith;
-  combinations = λ c f g h pf pg ph. let b = nodes-bounded vars (λ bits. c (f bits) (g bits) (h bits)) in omega (arith, b);
-}
+IsWide-some vars P = grind (arith, nodes-bounded vars)

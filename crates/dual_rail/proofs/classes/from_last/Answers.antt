@@ -6,10 +6,7 @@ use Rattle.dual_rail.proofs.ClassLemmas.{AreClassesBack-end, AreClassesBack-more
 use Rattle.dual_rail.proofs.classes.from_last.Goals as goal
 
 pub loop-back-init : goal.loop-back-init
-loop-back-init c = record {
-  long = search rules;
-  classes = rw c.in_ok-push.ensures.items (rw c.in_ok-classes.ensures.items (AreClassesBack-end c.args.rows.now c.args.pins c.of.result c.requires.width (search rules)));
-}
+loop-back-init c = grind (arith, AreClassesBack-end c.args.rows.now c.args.pins c.of.result c.requires.width)
 
 pub classes_before-requires-clause-rests : goal.classes_before-requires-clause-rests
 classes_before-requires-clause-rests c =
@@ -19,7 +16,5 @@ classes_before-requires-clause-rests c =
     subst (AreClasses c.args.rows.now (c.args.pins - 1 - c.loop-back.back + 1)) (sym (c.items.ensures ∙ read)) (subst (λ p. AreClasses c.args.rows.now p (get_or c.loop-back.classes.items c.loop-back.back [])) next here)
 
 pub loop-back-preserved : goal.loop-back-preserved
-loop-back-preserved c = record {
-  long = omega (arith, ap length c.in_ok-push-2.ensures.items, length_push c.loop-back.classes.items c.of-in-loop-back.result, c.loop-back.invariant.long);
-  classes = rw c.in_ok-push-2.ensures.items (AreClassesBack-more c.args.rows.now c.args.pins c.loop-back.classes.items c.of-in-loop-back.result c.loop-back.back c.loop-back.invariant.long c.loop-back.invariant.classes (rw c.of-in-loop-back.ensures c.in_ok-numbers.ensures));
-}
+loop-back-preserved c =
+    grind (arith, length_push c.loop-back.classes.items c.of-in-loop-back.result, AreClassesBack-more c.args.rows.now c.args.pins c.loop-back.classes.items c.of-in-loop-back.result c.loop-back.back c.loop-back.invariant.long c.loop-back.invariant.classes)

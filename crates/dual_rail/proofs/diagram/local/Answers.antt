@@ -5,19 +5,13 @@ use Rattle.dual_rail.proofs.LocalLemmas.{local-size, local-most, local-full, loc
 use Rattle.dual_rail.proofs.diagram.local.Goals as goal
 
 pub returns-in_err-top-clause-full : goal.returns-in_err-top-clause-full
-returns-in_err-top-clause-full c is_full =
-    let refused = ap {A = StoreFault} Err (sym (rw is_full at c.from_residual.ensures.1)) in
-    let limit = ap (λ (a : Arena). a.limit) c.in-Ok.ensures in
-    let past = local-full c.args.cover.now c.in-Ok.store c.expand_cover-expanded.new.store (ap (λ (a : Arena). a.vars) c.in-Ok.ensures ∙ c.pins-pins.ensures.pins) (ap (λ (a : Arena). a.entries) c.in-Ok.ensures) c.laws.ensures c.expand_cover-expanded.ensures.keeps c.expand_cover-expanded.ensures.parts (c.in_err-top.ensures.full refused) in
-    omega (arith, past, limit)
+returns-in_err-top-clause-full c is_full = grind (arith, local-full c.args.cover.now c.in-Ok.store c.expand_cover-expanded.new.store)
 
 pub invariant_of-result : goal.invariant_of-result
-invariant_of-result c =
-    local-is c.args.cover.now c.in-Ok.store c.expand_cover-expanded.new.store (ap (λ (a : Arena). a.vars) c.in-Ok.ensures ∙ c.pins-pins.ensures.pins) (ap (λ (a : Arena). a.entries) c.in-Ok.ensures) c.laws.ensures c.expand_cover-expanded.ensures.keeps c.expand_cover-expanded.ensures.parts c.in_ok-top.top c.in_ok-top.ensures.node c.in_ok-top.ensures.function c.pins-pins.result c.pins-pins.ensures.pins
+invariant_of-result c = grind (arith, local-is c.args.cover.now c.in-Ok.store c.expand_cover-expanded.new.store)
 
 pub returns-clause-diagram : goal.returns-clause-diagram
-returns-clause-diagram c =
-    local-of c.args.cover.now c.in-Ok.store c.expand_cover-expanded.new.store (ap (λ (a : Arena). a.vars) c.in-Ok.ensures ∙ c.pins-pins.ensures.pins) (ap (λ (a : Arena). a.entries) c.in-Ok.ensures) c.laws.ensures c.expand_cover-expanded.ensures.keeps c.expand_cover-expanded.ensures.parts c.in_ok-top.top c.in_ok-top.ensures.node c.in_ok-top.ensures.function c.pins-pins.result c.pins-pins.ensures.pins
+returns-clause-diagram c = grind arith
 
 pub returns-clause-size : goal.returns-clause-size
 returns-clause-size c = local-size c.args.cover.now c.in-Ok.store c.expand_cover-expanded.new.store (ap (λ (a : Arena). a.vars) c.in-Ok.ensures ∙ c.pins-pins.ensures.pins) (ap (λ (a : Arena). a.entries) c.in-Ok.ensures) c.laws.ensures c.expand_cover-expanded.ensures.keeps c.expand_cover-expanded.ensures.parts

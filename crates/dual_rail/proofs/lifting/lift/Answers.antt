@@ -17,12 +17,7 @@ step c = within_then c.loop-position.invariant.grows (within_moved (λ w bounds.
 pub loop-position-init : goal.loop-position-init
 loop-position-init c =
     let items : c.in-Ok.table.items ≡ base_rails = c.in-Ok.ensures.items ∙ ap (λ (r : Rails). r ∷ []) (ap₂ (λ n m. record { one = n; zero = m }) c.rails_of.ensures.one c.rails_of.ensures.zero) in
-    record {
-      grows = nothing_grown;
-      long = ap length items;
-      table = subst (IsTable c.args.local.now c.args.d.now c.args.pins.now) (sym items) (base-table c.args.local.now c.args.d.now c.args.pins.now);
-      within = omega arith;
-    }
+    grind (arith, nothing_grown, base-table c.args.local.now c.args.d.now c.args.pins.now)
 
 pub loop-position-preserved : goal.loop-position-preserved
 loop-position-preserved c =
@@ -47,15 +42,11 @@ returns-clause-value c bits = IsLift-exact (top_lift c) bits ∙ ap (exact (func
 
 pub returns-clause-cover : goal.returns-clause-cover
 returns-clause-cover c cover is bits =
-    IsLift-exact (top_lift c) bits ∙ ap (exact (function c.args.local.now)) (values_of-kept c.loop-position.invariant.grows.keeps c.args.pins.now c.requires.rails bits)
-    ∙ exact-alike (function c.args.local.now) (value cover) (values_of c.args.d.now c.args.pins.now bits) (λ bs len. is.function bs (len ∙ length-values c.args.d.now c.args.pins.now bits ∙ c.requires.pins ∙ is.pins))
+    grind (arith, IsLift-exact (top_lift c) bits, top_lift c, values_of-kept c.loop-position.invariant.grows.keeps c.args.pins.now c.requires.rails bits, exact-alike (function c.args.local.now) (value cover) (values_of c.args.d.now c.args.pins.now bits), length-values c.args.d.now c.args.pins.now bits)
 
 -- the cover's function has a node for each entry
 sized : (c : After-count-position-end) → c.count-position-end.result ≤ local_size c.args.local.now
-sized c =
-    let count : c.count-position-end.result ≡ length c.args.local.now.store.entries = c.count-position-end.ensures.count ∙ ap (λ (u : Arena). length u.entries) c.store-store.ensures.store in
-    let size : length c.args.local.now.store.entries ≤ local_size c.args.local.now = local-count c.args.local.now (subst IsLawful c.store-store.ensures.store c.laws.ensures) c.top-top.ensures.local in
-    omega (arith, count, size)
+sized c = grind (arith, local-count c.args.local.now)
 
 pub returns-clause-grows : goal.returns-clause-grows
 returns-clause-grows c = within_more (omega (arith, sized ((goal.at.returns-clause-grows c).After-count-position-end), c.loop-position.invariant.within)) (within_answered c.loop-position.invariant.grows)
