@@ -62,22 +62,18 @@ listed-skip marks n gates unmarked are = record {
 
 pub listed-push : (marks : List Bool) (n : ℕ) (gates : List ℕ) → is_marked marks n ≡ true → ListsMarked marks n gates → ListsMarked marks (n + 1) (gates ++ n ∷ [])
 listed-push marks n gates marked are =
-    let long = length_push gates n in
     record {
       rise = λ i j l jl. elim (cases_lt j (length gates)) [
         | inl low ↦
-            let r = are.rise i j l low in
             let a = get_or_append_left gates (n ∷ []) 0 i (omega (arith, l, low)) in
-            let b = get_or_append_left gates (n ∷ []) 0 j low in
-            omega (arith, r, a, b)
+            omega (arith, are.rise i j l low, a, get_or_append_left gates (n ∷ []) 0 j low)
         | inr high ↦
-            let at : length gates ≡ j = omega (arith, jl, long, high) in
+            let at : length gates ≡ j = omega (arith, length_push gates n) in
             let b = get_or_push gates n 0 j (omega (arith, at)) in
             let il : i < length gates = omega (arith, l, at) in
-            let a = get_or_append_left gates (n ∷ []) 0 i il in
             let h = (are.each (gate_in gates i)).0 (i, il, get_or_default gates i (gate_in gates i) 0 il) in
             let low = h.0 in
-            omega (arith, a, b, low)
+            omega (arith, get_or_append_left gates (n ∷ []) 0 i il, b)
       ];
       each = λ m. (
         λ c. elim (Contains-push_cases gates n m c) [

@@ -17,9 +17,8 @@ use Rattle.isolation.proofs.LoopLemmas.{fixed-up}
 wire-known : (net : Parts) (gates : List ℕ) (v : List Trit) → AreDeterminedAt net gates v → (n : ℕ) → Contains gates n → n < length net.gates → (s : Sig) → Contains (gate_at net n).pins s → s.0 < count net →
     wire (fix net v) s ≢ X
 wire-known net gates v is n among reader s pin inside x =
-    let w = is.width in
     elim (cases_lt s.0 (first_gate net)) [
-      | inl low ↦ is.columns s.0 (omega (arith, low, w)) (sym (get_or_append_left v (fix_gates net v) X s.0 (omega (arith, low, w))) ∙ x)
+      | inl low ↦ is.columns s.0 (omega (arith, is.width)) (sym (get_or_append_left v (fix_gates net v) X s.0 (omega (arith, is.width))) ∙ x)
       | inr high ↦
           let feeds : Feeds net (gate_of net s) n = record {
             source = omega (arith, inside, high);
@@ -66,12 +65,10 @@ module _ (net : Parts) (blocks : Blocks) (loops : Loops) (valid : IsNetlist net)
       let alone = settled.alone in
       let us = known-inputs alone.outside alone.read in
       let wide : length us.0 ≡ first_gate alone.small = sym (length-map us.0 bit) ∙ ap length us.1 ∙ length-map alone.outside (wire (fix net v)) ∙ sym (first-small net alone.outside (block_at blocks b).gates alone.small alone.valid alone.is) in
-      let g = alone.is.size in
-      let l = has.1 in
       subst (λ (n : ℕ). CutsAreFixed net loops v n k) at
       (fixed-up net alone.outside (block_at blocks b).gates alone.small alone.valid alone.is (block-whole net blocks are b within) loops (loops_of alone.small) loops_are (loops_exist alone.small) v is.width
       has.0 k has.1
-      (subst (λ (xs : List Trit). CutsAreFixed alone.small (loops_of alone.small) xs has.0 k) us.1 (settled.sweeps us.0 wide has.0 (omega (arith, g, l)))))
+      (subst (λ (xs : List Trit). CutsAreFixed alone.small (loops_of alone.small) xs has.0 k) us.1 (settled.sweeps us.0 wide has.0 (omega (arith, alone.is.size, has.1)))))
 
   -- and one is needed, since the cut wires begin at X
   one-needed : (n : ℕ) → CutsAreFixed net loops v a n → 1 ≤ n

@@ -100,9 +100,8 @@ module _ (net : Parts) (valid : IsNetlist net) (blocks : Blocks) (are : AreBlock
             inside : (g : ℕ) → g < length net.gates → s ≡ gate_sig net g → home_of blocks g ≡ home_of blocks n → Contains (map (gate_sig net) (block_at blocks (home_of blocks n)).gates) s
             inside g gl e home =
                 let c : Contains (block_at blocks (home_of blocks n)).gates g = subst (λ (p : ℕ). Contains (block_at blocks p).gates g) home (home_gate net blocks are g gl) in
-                let l = c.1 in
                 let len = length-map (block_at blocks (home_of blocks n)).gates (gate_sig net) in
-                (c.0, omega (arith, l, len), get_or-map (gate_sig net) (block_at blocks (home_of blocks n)).gates c.0 g s c.1 ∙ ap (gate_sig net) c.2 ∙ sym e)
+                (c.0, omega (arith, c.1, len), get_or-map (gate_sig net) (block_at blocks (home_of blocks n)).gates c.0 g s c.1 ∙ ap (gate_sig net) c.2 ∙ sym e)
 
   by_blocks : (b n : ℕ) → n < length net.gates → home_of blocks n < b → Clear n → value_in (fix_gates net (bits v)) n ≢ X
   by_blocks zero n nl low clear = absurd (omega (arith, low))

@@ -38,13 +38,10 @@ module _ (net : Parts) (blocks : Blocks) (cut : Cut) (are : AreBlocksOf net bloc
       let w : List Bool = by_variable layout u in
       let rails : List Rails = map (rails_under a) solved.rails in
       let all : values_of a rails w ≡ fix net (bits u) = is.values w ∙ ap (fix net) (laid u wide) in
-      let len = ap length all in
       let l1 = length-map rails (λ r. value_of a r w) in
-      let l2 = length-append (bits u) (fix_gates net (bits u)) in
       let l3 = length-map u bit in
-      let l4 = length-fix net (loops_of net) (bits u) in
       let none : Rails = record { one = record { number = 0 }; zero = record { number = 0 } } in
-      let inside : first_gate net + n < length rails = omega (arith, len, l1, l2, l3, l4, wide, less) in
+      let inside : first_gate net + n < length rails = omega (arith, ap length all, l1, length-append (bits u) (fix_gates net (bits u)), l3, length-fix net (loops_of net) (bits u)) in
       known (first_gate net + n) none inside w
       (sym (get_or-map (λ r. value_of a r w) rails (first_gate net + n) none X inside)
       ∙ ap (λ (xs : List Trit). get_or xs (first_gate net + n) X) all
@@ -76,8 +73,7 @@ module _ (net : Parts) (blocks : Blocks) (cut : Cut) (are : AreBlocksOf net bloc
         | inl loop ↦
             let one = found.least n less loop in
             let h = subst (λ (t : List Trit). CutsAreFixed net (loops_by blocks cut) t n (count_at counts (home_of blocks n))) (laid u wide) (one.enough (by_variable layout u) (everywhere (by_variable layout u))) in
-            let home = are.home n less in
-            let small : count_at counts (home_of blocks n) ≤ most = greatest (home_of blocks n) 0 (omega (arith, home, width)) in
+            let small : count_at counts (home_of blocks n) ≤ most = greatest (home_of blocks n) 0 (omega (arith, are.home n less)) in
             subst (CutsAreFixed net (loops_by blocks cut) (bits u) n) (let e : (most - count_at counts (home_of blocks n)) + count_at counts (home_of blocks n) ≡ most = omega (arith, small) in e)
             (stay_fixed (loops_by blocks cut) (blocks_tell_loops net blocks cut are cut_is) u wide n (count_at counts (home_of blocks n)) (most - count_at counts (home_of blocks n)) h)
         | inr plain ↦
@@ -106,9 +102,3 @@ settles-is net gates small k valid is settled = record {
   alone = record { outside = is.outside; small = small; valid = valid; is = is.is; read = is.read; determined = settled.determined };
   sweeps = settled.sweeps;
 }
-
--- and what is found of it
-pub settles-found : {E : Type 0} (net : Parts) (gates : List ℕ) (small : Parts) (budget : ℕ) (made : Result (Option ℕ) E) → IsNetlist small → IsLoopNetlist net gates small → IfOk made (λ found. IfSome found (IsSettledIn small)) → IfOk made (λ found. IfSome found (SettleInSweeps net gates))
-settles-found net gates small budget (Ok None) valid is settled = tt
-settles-found net gates small budget (Ok (Some k)) valid is settled = settles-is net gates small k valid is settled
-settles-found net gates small budget (Err fault) valid is settled = tt

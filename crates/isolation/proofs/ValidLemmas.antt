@@ -34,9 +34,8 @@ module _ (net : Parts) (gates : List ℕ) (outside : List Sig) (gates_in : All (
 
   gate-at : (k : ℕ) → length outside ≤ k → k < length (origins net outside gates) → get_or (origins net outside gates) k (signal 0) ≡ gate_sig net (gate_in gates (k - length outside))
   gate-at k high within =
-      let s = size in
       get_or-append_right outside (map (gate_sig net) gates) (length outside) k (signal 0) refl high
-      ∙ get_or-map (gate_sig net) gates (k - length outside) 0 (signal 0) (omega (arith, s, high, within))
+      ∙ get_or-map (gate_sig net) gates (k - length outside) 0 (signal 0) (omega (arith, size))
 
   wire-at : (k : ℕ) → k < length outside → get_or (origins net outside gates) k (signal 0) ≡ get_or outside k (signal 0)
   wire-at k low = get_or_append_left outside (map (gate_sig net) gates) (signal 0) k low
@@ -54,15 +53,13 @@ module _ (net : Parts) (gates : List ℕ) (outside : List Sig) (gates_in : All (
   origin-once i j less within same = elim (cases_lt j (length outside)) [
     | inl low ↦ once i j less low (sym (wire-at i (omega (arith, less, low))) ∙ same ∙ wire-at j low)
     | inr high ↦
-        let s = size in
-        let inside : j - length outside < length gates = omega (arith, s, high, within) in
+        let inside : j - length outside < length gates = omega (arith, size) in
         elim (cases_lt i (length outside)) [
           | inl low ↦
               let wire : Sig = get_or outside i (signal 0) in
-              let len = length-map gates (gate_sig net) in
               apart (get_or outside i (signal 0)) (i, low, get_or_default outside i (get_or outside i (signal 0)) (signal 0) low) (
                 j - length outside,
-                omega (arith, inside, len),
+                omega (arith, length-map gates (gate_sig net)),
                 get_or-map (gate_sig net) gates (j - length outside) 0 (get_or outside i (signal 0)) inside ∙ sym (gate-at j high within) ∙ sym same ∙ wire-at i low,
               )
           | inr later ↦
@@ -86,8 +83,7 @@ module _ (net : Parts) (gates : List ℕ) (outside : List Sig) (gates_in : All (
   below q any =
       let c : Contains (map (λ (s : Sig). s.0) (origins net outside gates)) q = Contains-from_any {eq = eqb} eqb-true q (map (λ (s : Sig). s.0) (origins net outside gates)) any in
       let len = length-map (origins net outside gates) (λ (s : Sig). s.0) in
-      let l = c.1 in
-      let inside : c.0 < length (origins net outside gates) = omega (arith, l, len) in
+      let inside : c.0 < length (origins net outside gates) = omega (arith, c.1, len) in
       let is : (get_or (origins net outside gates) c.0 (signal 0)).0 ≡ q = sym (number-at c.0 q inside) ∙ c.2 in
       subst (λ (n : ℕ). n < count net) is (origin-within c.0 inside)
 
@@ -96,19 +92,17 @@ module _ (net : Parts) (gates : List ℕ) (outside : List Sig) (gates_in : All (
   few =
       let most = length-le_from_distinct_below (map (λ (s : Sig). s.0) (origins net outside gates)) (count net) distinct below in
       let len = length-map (origins net outside gates) (λ (s : Sig). s.0) in
-      let s = size in
-      omega (arith, most, len, s)
+      omega (arith, most, len, size)
 
   -- ---- their names
 
   module _ (valid : IsNetlist net) where
     names-size : length (signal_names net) ≡ count net
     names-size =
-        let a = length-append net.inputs (driven_names net) in
         let b = length-append (map (λ (l : Latch). l.name) net.latches) (map (λ (g : Gate). g.name) net.gates) in
         let c = length-map net.latches (λ (l : Latch). l.name) in
         let d = length-map net.gates (λ (g : Gate). g.name) in
-        omega (arith, a, b, c, d)
+        omega (arith, length-append net.inputs (driven_names net), b, c, d)
 
     names-apart : (a b : ℕ) → a < count net → b < count net → a ≢ b → bytes_eq (get_or (signal_names net) a []) (get_or (signal_names net) b []) ≡ false
     names-apart a b al bl ne = elim (cases_lt a b) [
@@ -125,9 +119,8 @@ module _ (net : Parts) (gates : List ℕ) (outside : List Sig) (gates_in : All (
 
     names-once : IsDistinct bytes_eq (map (name_at net) (origins net outside gates))
     names-once =
-        let len = length-map (origins net outside gates) (name_at net) in
         IsDistinct-from_apart bytes_eq (map (name_at net) (origins net outside gates)) (λ i j d less within.
-        let inside : j < length (origins net outside gates) = omega (arith, within, len) in
+        let inside : j < length (origins net outside gates) = omega (arith, length-map (origins net outside gates) (name_at net)) in
         let early : i < length (origins net outside gates) = omega (arith, less, inside) in
         ap₂ bytes_eq (name-of i d early) (name-of j d inside)
         ∙ names-apart (get_or (origins net outside gates) i (signal 0)).0 (get_or (origins net outside gates) j (signal 0)).0 (origin-within i early) (origin-within j inside)
@@ -135,8 +128,7 @@ module _ (net : Parts) (gates : List ℕ) (outside : List Sig) (gates_in : All (
 
     names-blif : All IsBlifName (map (name_at net) (origins net outside gates))
     names-blif k d within =
-        let len = length-map (origins net outside gates) (name_at net) in
-        let inside : k < length (origins net outside gates) = omega (arith, within, len) in
+        let inside : k < length (origins net outside gates) = omega (arith, length-map (origins net outside gates) (name_at net)) in
         subst IsBlifName (sym (name-of k d inside)) (valid.names (get_or (origins net outside gates) k (signal 0)).0 [] (let n = names-size in let o = origin-within k inside in omega (arith, n, o)))
 
     gate-name : (g : ℕ) → g < length net.gates → name_at net (gate_sig net g) ≡ (gate_at net g).name
@@ -152,11 +144,9 @@ module _ (net : Parts) (gates : List ℕ) (outside : List Sig) (gates_in : All (
       gate-names : map (λ (g : Gate). g.name) small.gates ≡ map (name_at net) (map (gate_sig net) gates)
       gate-names =
           let a = length-map small.gates (λ (g : Gate). g.name) in
-          let b = length-map (map (gate_sig net) gates) (name_at net) in
           let d = length-map gates (gate_sig net) in
-          let z = is.size in
-          ext_get_or [] (map (λ (g : Gate). g.name) small.gates) (map (name_at net) (map (gate_sig net) gates)) (omega (arith, a, b, d, z)) (λ k less.
-          let inside : k < length gates = omega (arith, less, a, z) in
+          ext_get_or [] (map (λ (g : Gate). g.name) small.gates) (map (name_at net) (map (gate_sig net) gates)) (omega (arith, a, length-map (map (gate_sig net) gates) (name_at net), d, is.size)) (λ k less.
+          let inside : k < length gates = omega (arith, a, is.size) in
           get_or-map (λ (g : Gate). g.name) small.gates k no_gate [] (omega (arith, less, a))
           ∙ named.copies k inside
           ∙ sym (gate-name (gate_in gates k) (gates_in k 0 inside))
@@ -171,10 +161,7 @@ module _ (net : Parts) (gates : List ℕ) (outside : List Sig) (gates_in : All (
 
       count-is : count small ≡ length outside + length gates
       count-is =
-          let i = is.inputs in
-          let l = is.latches in
-          let z = is.size in
-          omega (arith, i, l, z)
+          omega (arith, is.inputs, is.latches, is.size)
 
       none-in : {T : Type 0} (P : T → Type 0) (xs : List T) → xs ≡ [] → All P xs
       none-in P xs none k d less = let e = ap length none in absurd (omega (arith, e, less))
@@ -183,18 +170,14 @@ module _ (net : Parts) (gates : List ℕ) (outside : List Sig) (gates_in : All (
       excerpt-valid = record {
         fits = (let f = few in let c = count-is in let n = valid.fits in omega (arith, f, c, n));
         pins = λ k d less i e within.
-            let z = is.size in
-            let c = count-is in
-            let n = size in
             let at : get_or small.gates k d ≡ gate_at small k = get_or_default small.gates k d no_gate less in
-            let p = named.pins k (omega (arith, z, less)) i e (subst (λ (g : Gate). i < length g.pins) at within) in
+            let p = named.pins k (omega (arith, is.size)) i e (subst (λ (g : Gate). i < length g.pins) at within) in
             let same : (get_or (get_or small.gates k d).pins i e).0 ≡ (get_or (gate_at small k).pins i e).0 = ap (λ (g : Gate). (get_or g.pins i e).0) at in
-            omega (arith, p, c, n, same);
+            omega (arith, p, count-is, size);
         sources = none-in (λ (l : Latch). IsSignal small l.from) small.latches named.latches;
         outputs = none-in (IsSignal small) small.outputs named.outputs;
         pin_counts = λ k d less.
-            let z = is.size in
-            let inside : k < length gates = omega (arith, z, less) in
+            let inside : k < length gates = omega (arith, is.size) in
             subst (λ (g : Gate). length g.pins ≡ g.cover.pins) (get_or_default small.gates k no_gate d less)
             (sym (length-map (gate_at small k).pins (origin (origins net outside gates)))
             ∙ ap length (is.pins k inside)

@@ -77,25 +77,6 @@ fn outside_of(
     Ok(outside)
 }
 
-/// The place of a signal among the wires outside.
-fn place_outside(outside: &IndexSet<Sig>, signal: Sig) -> Option<usize>
-    ensures place { IfSome result (IsPlaceOf outside.now.keys signal) }
-    ensures some { Contains outside.now.keys signal → IsSome result }
-{
-    outside.get_index_of(&signal)
-}
-
-/// The place of a gate among these.
-fn place_among(gates: &[u32], gate: u32) -> Option<usize>
-    ensures place { IfSome result (IsPlaceOf gates.now gate) }
-    ensures some { Rise gates.now → Contains gates.now gate → IsSome result }
-{
-    match gates.binary_search(&gate) {
-        Ok(place) => Some(place),
-        Err(_) => None,
-    }
-}
-
 /// The place of a gate's signal behind the wires outside.
 fn place_inside(net: &Netlist, gates: &[u32], outside: &IndexSet<Sig>, signal: Sig) -> Option<usize>
     requires { IsSignal net.now signal }
@@ -103,8 +84,10 @@ fn place_inside(net: &Netlist, gates: &[u32], outside: &IndexSet<Sig>, signal: S
     ensures some { Rise gates.now → Contains (map (sig_of net.now) gates.now) signal → IsSome result }
 {
     let gate = net.driver(signal)?;
-    let place = place_among(gates, gate)?;
-    Some(place + outside.len())
+    match gates.binary_search(&gate) {
+        Ok(place) => Some(place + outside.len()),
+        Err(_) => None,
+    }
 }
 
 /// The place of a signal among the wires outside and then the gates.
@@ -113,7 +96,7 @@ fn place_of(net: &Netlist, gates: &[u32], outside: &IndexSet<Sig>, signal: Sig) 
     ensures place { IfSome result (IsPlaceOf (origins net.now outside.now.keys gates.now) signal) }
     ensures some { Rise gates.now → IsAmong net.now gates.now outside.now.keys signal → IsSome result }
 {
-    match place_outside(outside, signal) {
+    match outside.get_index_of(&signal) {
         Some(place) => Some(place),
         None => place_inside(net, gates, outside, signal),
     }

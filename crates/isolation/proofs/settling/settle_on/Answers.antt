@@ -31,14 +31,10 @@ pub settled_sweeps-requires : goal.settled_sweeps-requires
 settled_sweeps-requires c = solved c
 
 pub returns-clause-settled : goal.returns-clause-settled
-returns-clause-settled c =
-    subst (λ (net : Parts). IfOk c.settled_sweeps.result (λ found. IfSome found (IsSettledIn net))) c.net-net.ensures.net
-    (c.settled_sweeps.ensures.settled (solved (goal.at.returns-clause-settled c).After-solved-2-1))
+returns-clause-settled c = rw c.net-net.ensures.net at (c.settled_sweeps.ensures.settled (solved (goal.at.returns-clause-settled c).After-solved-2-1))
 
 pub returns-clause-unknown : goal.returns-clause-unknown
-returns-clause-unknown c =
-    subst (λ (net : Parts). IfOk c.settled_sweeps.result (λ found. IfNone found (HasUnknown net))) c.net-net.ensures.net
-    (c.settled_sweeps.ensures.unknown (solved (goal.at.returns-clause-unknown c).After-solved-2-1))
+returns-clause-unknown c = rw c.net-net.ensures.net at (c.settled_sweeps.ensures.unknown (solved (goal.at.returns-clause-unknown c).After-solved-2-1))
 
 pub returns-clause-limit : goal.returns-clause-limit
 returns-clause-limit c =
