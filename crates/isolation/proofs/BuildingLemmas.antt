@@ -1,6 +1,6 @@
 -- A small netlist while it is made.
-use Rattle.std.proofs.Common.{◌≡◌, inl, inr, ℕ, ◌+◌, ◌-◌, ◌<◌, ◌≤◌, Bool, true, false, List, [], ◌∷◌, ◌++◌, length, map, take, get_or, if◌then◌else◌, eqb, Option, Some, None, Result, Ok, Err, IfOk, IsSome, refl, sym, ap, ap₂, ◌∙◌, subst, arith, Contains, true≢false, zero, suc}
-use Rattle.isolation.proofs.Common.{cases_Bool, cases_lt, eqb-true, eq-eqb, get_or-map, get_or_default, get_or_append_left, get_or-append_right, length-map, length-append, map-append, All, list_any, IfSome, Sig, Gate, Parts, IsNetlist, count, signal, no_gate, gate_at, gate_sig, Blocks, AreBlocksOf, block_at, home_of, first_gate, gate_home, home_gate, origins, origin, gate_in, IsExcerpt, AreClosed, AreCopies, AreNumbersOf, IsLoopNetlist}
+use Rattle.std.proofs.Common.{◌≡◌, inl, inr, ℕ, ◌+◌, ◌-◌, ◌<◌, ◌≤◌, false, List, [], ◌∷◌, ◌++◌, length, map, take, get_or, if◌then◌else◌, eqb, Option, Some, None, Result, Ok, Err, IfOk, IsSome, refl, sym, ap, ap₂, ◌∙◌, subst, arith, Contains, true≢false}
+use Rattle.isolation.proofs.Common.{cases_Bool, cases_lt, eqb-true, eq-eqb, get_or-map, get_or_default, get_or_append_left, length-map, map-append, All, list_any, IfSome, Sig, Gate, Parts, IsNetlist, count, signal, no_gate, gate_at, gate_sig, Blocks, AreBlocksOf, block_at, home_of, first_gate, gate_home, home_gate, origins, origin, gate_in, IsExcerpt, AreClosed, AreCopies, AreNumbersOf, IsLoopNetlist}
 use Rattle.std.proofs.lemmas.List.{get_or_push, length_push, take_more, take_all}
 use Rattle.std.proofs.lemmas.List.Elements.{Contains-append_left, Contains-push, Contains-push_cases, All-push}
 use Rattle.std.specs.List.{position}
@@ -10,34 +10,41 @@ use Rattle.std.proofs.lemmas.List.Sorted.{searched}
 use Rattle.std.proofs.lemmas.List.Folds.{list_any_at}
 use Rattle.std.proofs.lemmas.List.Quantifiers.{position-Some}
 use Rattle.std.proofs.lemmas.Map.Views.{Contains-from_any}
+use Rattle.cyc_base.proofs.ListLemmas.{Contains-map}
 use Rattle.netlist.proofs.Decisions.{none_found}
+use Rattle.isolation.proofs.OriginLemmas.{origins-size, origin-wire, origin-gate}
 use Rattle.loops.specs.Placing.{Rise}
 use Rattle.isolation.specs.Excerpts.{IsRead, AreOnce}
 use Rattle.isolation.specs.Building.{IsOutside, AreOutside, AreWires, IsAmong, AddWires, AreWiresOf, IsCopyOf, IsPlaceOf}
+
+-- a gate is where its signal is
+pub gate_there : (net : Parts) (gates : List ℕ) (s : Sig) → Contains (map (gate_sig net) gates) s → (first_gate net ≤ s.0) × Contains gates (s.0 - first_gate net)
+gate_there net gates s c =
+    let low : c.0 < length gates = omega (arith, c.1, length-map gates (gate_sig net)) in
+    let at : gate_sig net (get_or gates c.0 0) ≡ s = sym (get_or-map (gate_sig net) gates c.0 0 s low) ∙ c.2 in
+    let n = ap (λ (r : Sig). r.0) at in (
+      omega (arith, n),
+      (c.0, low, get_or_default gates c.0 (s.0 - first_gate net) 0 low ∙ omega (arith, n)),
+    )
+
+-- and back
+pub there_gate : (net : Parts) (gates : List ℕ) (s : Sig) → first_gate net ≤ s.0 → Contains gates (s.0 - first_gate net) → Contains (map (gate_sig net) gates) s
+there_gate net gates s above c =
+    let same : first_gate net + (s.0 - first_gate net) ≡ s.0 = omega (arith, above) in
+    subst (λ (t : Sig). Contains (map (gate_sig net) gates) t) (ap signal same) (Contains-map (gate_sig net) gates (s.0 - first_gate net) c)
 
 -- a gate of a block, by its signal
 pub inside_block : (net : Parts) (blocks : Blocks) → AreBlocksOf net blocks → (place : ℕ) (s : Sig) → place < length blocks.list → Contains (map (gate_sig net) (block_at blocks place).gates) s →
     (first_gate net ≤ s.0) × (home_of blocks (s.0 - first_gate net) ≡ place)
 inside_block net blocks are place s inside c =
-    let gates = (block_at blocks place).gates in
-    let low : c.0 < length gates = omega (arith, c.1, length-map gates (gate_sig net)) in
-    let is : gate_sig net (get_or gates c.0 0) ≡ s = sym (get_or-map (gate_sig net) gates c.0 0 s low) ∙ c.2 in
-    let n = ap (λ (r : Sig). r.0) is in
-    let h = gate_home net blocks are place (get_or gates c.0 0) inside (c.0, low, get_or_default gates c.0 (get_or gates c.0 0) 0 low) in
-    (omega (arith, n), ap (home_of blocks) (let m : s.0 - first_gate net ≡ get_or gates c.0 0 = omega (arith, n) in m) ∙ h.1)
+    let there = gate_there net (block_at blocks place).gates s c in
+    (there.0, (gate_home net blocks are place (s.0 - first_gate net) inside there.1).1)
 
--- and back
 pub block_inside : (net : Parts) (blocks : Blocks) → AreBlocksOf net blocks → (place : ℕ) (s : Sig) → s.0 < count net → first_gate net ≤ s.0 → home_of blocks (s.0 - first_gate net) ≡ place →
     Contains (map (gate_sig net) (block_at blocks place).gates) s
 block_inside net blocks are place s within above home =
-    let c : Contains (block_at blocks place).gates (s.0 - first_gate net) = subst (λ (p : ℕ). Contains (block_at blocks p).gates (s.0 - first_gate net)) home (home_gate net blocks are (s.0 - first_gate net) (omega (arith, within, above))) in
-    let len = length-map (block_at blocks place).gates (gate_sig net) in (
-      c.0,
-      omega (arith, c.1, len),
-      get_or-map (gate_sig net) (block_at blocks place).gates c.0 (s.0 - first_gate net) s c.1
-          ∙ ap (gate_sig net) c.2
-          ∙ ap signal (let m : first_gate net + (s.0 - first_gate net) ≡ s.0 = omega (arith, above) in m),
-    )
+    there_gate net (block_at blocks place).gates s above
+    (subst (λ (p : ℕ). Contains (block_at blocks p).gates (s.0 - first_gate net)) home (home_gate net blocks are (s.0 - first_gate net) (omega (arith, within, above))))
 
 -- one more wire outside
 pub outside_more : (net : Parts) (gates : List ℕ) (outside : List Sig) (s : Sig) → AreOutside net gates outside → IsOutside net gates s → AreOutside net gates (outside ++ s ∷ [])
@@ -57,14 +64,6 @@ outside_within net valid gates within outside are k d less =
     let b = valid.pins (gate_in gates r.place) no_gate (within r.place r.within) r.pin.0 (get_or outside k d) r.pin.1 in
     let e = ap (λ (q : Sig). q.0) r.pin.2 in
     omega (arith, b, e)
-
-pub origin_gate : (net : Parts) (outside : List Sig) (gates : List ℕ) (place number : ℕ) (s : Sig) → place < length gates → first_gate net ≤ s.0 → get_or gates place 0 ≡ s.0 - first_gate net → number ≡ length outside + place →
-    origin (origins net outside gates) (signal number) ≡ s
-origin_gate net outside gates place number s less above is at =
-    get_or-append_right outside (map (gate_sig net) gates) (length outside) number (signal 0) refl (omega (arith, at))
-    ∙ ap (λ (n : ℕ). get_or (map (gate_sig net) gates) n (signal 0)) (let m : number - length outside ≡ place = omega (arith, at) in m)
-    ∙ get_or-map (gate_sig net) gates place 0 (signal 0) less
-    ∙ ap signal (let m : first_gate net + get_or gates place 0 ≡ s.0 = omega (arith, is, above) in m)
 
 -- the netlist of a loop
 pub loop_is : (net : Parts) (gates : List ℕ) (outside : List Sig) (small : Parts) → AreWires net gates outside → IsExcerpt net outside gates small → IsLoopNetlist net gates small
@@ -192,28 +191,21 @@ found_some xs s (Some k) is c = refl
 
 -- a signal by its place: a wire outside, or a gate
 pub place_outside : (net : Parts) (outside : List Sig) (gates : List ℕ) (s : Sig) (place : ℕ) → IsPlaceOf outside s place → IsPlaceOf (origins net outside gates) s place
-place_outside net outside gates s place p =
-    record { within = omega (arith, p.within, length-append outside (map (gate_sig net) gates)); is = get_or_append_left outside (map (gate_sig net) gates) s place p.within ∙ p.is }
+place_outside net outside gates s place p = record {
+  within = omega (arith, p.within, origins-size net outside gates);
+  is = origin-wire net outside gates place s p.within ∙ p.is;
+}
 
 pub place_gate : (net : Parts) (outside : List Sig) (gates : List ℕ) (s : Sig) (gate place number : ℕ) → s ≡ gate_sig net gate → IsPlaceOf gates gate place → number ≡ place + length outside → IsPlaceOf (origins net outside gates) s number
 place_gate net outside gates s gate place number is p at =
-    let inside : number < length (origins net outside gates) = omega (arith, p.within, length-append outside (map (gate_sig net) gates), length-map gates (gate_sig net)) in
-    let n = ap (λ (q : Sig). q.0) is in
+    let inside : number < length (origins net outside gates) = omega (arith, p.within, at, origins-size net outside gates) in
     record {
       within = inside;
       is = get_or_default (origins net outside gates) number s (signal 0) inside
-          ∙ origin_gate net outside gates place number s p.within (omega (arith, n)) (get_or_default gates place 0 gate p.within ∙ p.is ∙ omega (arith, n)) (omega (arith, at));
+          ∙ origin-gate net outside gates number place p.within (omega (arith, at))
+          ∙ ap (gate_sig net) (get_or_default gates place 0 gate p.within ∙ p.is)
+          ∙ sym is;
     }
-
--- a gate is where its signal is
-pub gate_there : (net : Parts) (gates : List ℕ) (s : Sig) → Contains (map (gate_sig net) gates) s → (first_gate net ≤ s.0) × Contains gates (s.0 - first_gate net)
-gate_there net gates s c =
-    let low : c.0 < length gates = omega (arith, c.1, length-map gates (gate_sig net)) in
-    let at : gate_sig net (get_or gates c.0 0) ≡ s = sym (get_or-map (gate_sig net) gates c.0 0 s low) ∙ c.2 in
-    let n = ap (λ (r : Sig). r.0) at in (
-      omega (arith, n),
-      (c.0, low, get_or_default gates c.0 (s.0 - first_gate net) 0 low ∙ omega (arith, n)),
-    )
 
 -- the numbers of more pins
 pub numbers_none : (net : Parts) (outside : List Sig) (gates : List ℕ) (pins : List Sig) → AreNumbersOf (origins net outside gates) (take 0 pins) []

@@ -72,8 +72,7 @@ listed-push marks n gates marked are =
             let b = get_or_push gates n 0 j (omega (arith, at)) in
             let il : i < length gates = omega (arith, l, at) in
             let h = (are.each (gate_in gates i)).0 (i, il, get_or_default gates i (gate_in gates i) 0 il) in
-            let low = h.0 in
-            omega (arith, get_or_append_left gates (n ∷ []) 0 i il, b)
+            omega (arith, h.0, get_or_append_left gates (n ∷ []) 0 i il, b)
       ];
       each = λ m. (
         λ c. elim (Contains-push_cases gates n m c) [

@@ -1,6 +1,6 @@
 -- The loops of an excerpt, their cut wires and their sweeps are those of the whole.
 use Rattle.std.proofs.Common.{◌≡◌, inl, inr, ℕ, zero, suc, ◌+◌, ◌-◌, ◌<◌, ◌≤◌, leb, Bool, true, false, ◌&&◌, if◌then◌else◌, List, [], ◌∷◌, length, map, get_or, refl, sym, ap, ap₂, ◌∙◌, subst, arith}
-use Rattle.isolation.proofs.Common.{cases_lt, cases_eq, and_parts, get_or-map, get_or_default, get_or_append_left, get_or-append_right, get_or-replicate, length-map, length-append, map-map, range_with_len, Sig, Trit, X, ext, Cover, Parts, IsNetlist, signal, gate_at, gate_sig, wire, fix, fix_gates, Feeds, Loops, AreLoopsOf, first_gate, gate_of, value_in, sweeps, CutsAreFixed, same_within, leads-trans, origins, origin, inputs_in, IsExcerpt}
+use Rattle.isolation.proofs.Common.{cases_lt, cases_eq, and_parts, get_or-map, get_or_default, get_or_append_left, get_or-append_right, get_or-replicate, length-map, map-map, range_with_len, Sig, Trit, X, ext, Cover, Parts, IsNetlist, signal, gate_at, gate_sig, wire, fix, fix_gates, Feeds, Loops, AreLoopsOf, first_gate, gate_of, value_in, sweeps, CutsAreFixed, same_within, leads-trans, origins, origin, inputs_in, IsExcerpt}
 use Rattle.std.proofs.lemmas.Bool.{leb-true, le-leb, lt-leb}
 use Rattle.std.specs.List.{AllByRecursion}
 use Rattle.cyc_base.proofs.ListLemmas.{all_map, all_weaker}
@@ -14,6 +14,7 @@ use Rattle.loops.proofs.Sweeps.{sweep_each, cut_values_agree}
 use Rattle.loops.proofs.Unique.{sweep_is_the_one}
 use Rattle.loops.proofs.Walks.{leads-any, on_walk}
 use Rattle.isolation.specs.Excerpts.{AreWhole}
+use Rattle.isolation.proofs.OriginLemmas.{origins-size, origin-wire, origin-gate}
 use Rattle.isolation.proofs.ExcerptLemmas.{first-small, pin-within, gate_wire}
 use Rattle.isolation.proofs.KeptLemmas.{fix-kept}
 
@@ -65,17 +66,8 @@ module _ (net : Parts) (outside : List Sig) (gates : List ℕ) (small : Parts) (
   abbrev all : List Sig
   all = origins net outside gates
 
-  length-all : length all ≡ length outside + size
-  length-all = length-append outside (map (gate_sig net) gates) ∙ ap (λ (n : ℕ). length outside + n) (length-map gates (gate_sig net))
-
   origin-input : (s : Sig) (d : Sig) → s.0 < length outside → origin all s ≡ get_or outside s.0 d
-  origin-input s d low = get_or_append_left outside (map (gate_sig net) gates) (signal 0) s.0 low ∙ get_or_default outside s.0 (signal 0) d low
-
-  origin-gate : (s : Sig) (q : ℕ) → q < size → s.0 ≡ length outside + q → origin all s ≡ gate_sig net (at q)
-  origin-gate s q l e =
-      get_or-append_right outside (map (gate_sig net) gates) (length outside) s.0 (signal 0) refl (omega (arith, e))
-      ∙ ap (λ (n : ℕ). get_or (map (gate_sig net) gates) n (signal 0)) (let m : s.0 - length outside ≡ q = omega (arith, e) in m)
-      ∙ get_or-map (gate_sig net) gates q 0 (signal 0) l
+  origin-input s d low = origin-wire net outside gates s.0 (signal 0) low ∙ get_or_default outside s.0 (signal 0) d low
 
   -- a wire outside is no gate of the block
   outside-apart : (s : Sig) (q : ℕ) → s.0 < length outside → q < size → origin all s ≡ gate_sig net (at q) → ⊥
@@ -100,7 +92,7 @@ module _ (net : Parts) (outside : List Sig) (gates : List ℕ) (small : Parts) (
   pin-source : (j k : ℕ) (d : Sig) → j < size → k < length (gate_at small j).pins → Source (length outside) size (get_or (gate_at small j).pins k d)
   pin-source j k d jl kl =
       let w = pin-within net outside gates small valid is j k d jl kl in
-      source_of (length outside) size (get_or (gate_at small j).pins k d) (omega (arith, w, length-all))
+      source_of (length outside) size (get_or (gate_at small j).pins k d) (omega (arith, w, origins-size net outside gates))
 
   feeds-down : (i j : ℕ) → i < size → j < size → Feeds net (at i) (at j) → Feeds small i j
   feeds-down i j il jl f =
@@ -117,7 +109,7 @@ module _ (net : Parts) (outside : List Sig) (gates : List ℕ) (small : Parts) (
       by : (s : Sig) → origin all s ≡ gate_sig net (at i) → Source (length outside) size s → s ≡ gate_sig small i
       by s o (at_input low) = absurd (outside-apart s i low il o)
       by s o (at_gate q ql e) =
-          let n = ap (λ (r : Sig). r.0) (sym (origin-gate s q ql e) ∙ o) in
+          let n = ap (λ (r : Sig). r.0) (sym (origin-gate net outside gates s.0 q ql e) ∙ o) in
           let same : q ≡ i = at-once q i ql il (omega (arith, n)) in
           sig_is s (first_gate small + i) (omega (arith, first-is))
 
@@ -129,7 +121,7 @@ module _ (net : Parts) (outside : List Sig) (gates : List ℕ) (small : Parts) (
       record {
         source = whole.within i il;
         reader = whole.within j jl;
-        pin = (f.pin.0, (let l = f.pin.1 in let e = pins-size j jl in omega (arith, l, e)), sym (pin-is j k (gate_sig small i) (gate_sig net (at i)) jl f.pin.1) ∙ origin-gate s i il (omega (arith, n, first-is)));
+        pin = (f.pin.0, (let l = f.pin.1 in let e = pins-size j jl in omega (arith, l, e)), sym (pin-is j k (gate_sig small i) (gate_sig net (at i)) jl f.pin.1) ∙ origin-gate net outside gates s.0 i il (omega (arith, n, first-is)));
       }
 
   -- ---- walks
@@ -241,7 +233,7 @@ module _ (net : Parts) (outside : List Sig) (gates : List ℕ) (small : Parts) (
       -- a pin reads the same
       read-same : (c s : List Trit) (c' s' : List Trit) → Agree c' c → Agree s' s → (i : ℕ) (p : Sig) → i < size → Source (length outside) size p → pin_in small two inputs c' s' i p ≡ pin_in net one v c s (at i) (origin all p)
       read-same c s c' s' ca sa i p il (at_gate q ql e) =
-          let o = origin-gate p q ql e in
+          let o = origin-gate net outside gates p.0 q ql e in
           let gn : gate_of small p ≡ q = omega (arith, first-is) in
           let g2 : gate_of net (gate_sig net (at q)) ≡ at q = omega arith in
           rw (o, le-leb (first_gate small) p.0 (omega (arith, first-is)), gn, loop-same i q il ql, cut-same q ql, ca q ql, sa q ql, le-leb (first_gate net) (gate_sig net (at q)).0 (omega arith), g2)

@@ -1,6 +1,7 @@
 -- Loops that are settled by themselves, in the whole netlist.
 use Rattle.std.proofs.Common.{◌≡◌, ◌≢◌, inl, inr, ℕ, zero, suc, ◌<◌, Bool, true, false, List, length, map, get_or, refl, sym, ap, ◌∙◌, subst, arith, Contains, true≢false}
 use Rattle.netlist.proofs.FixpointLemmas.{get_or-fix}
+use Rattle.cyc_base.proofs.ListLemmas.{Contains-map}
 use Rattle.cyc_base.proofs.OrderLemmas.{bit-known}
 use Rattle.isolation.proofs.Common.{cases_lt, cases_eq, cases_Bool, get_or-map, get_or_default, get_or_append_left, length-map, Sig, X, bit, bits, ext, Parts, IsNetlist, count, signal, no_gate, gate_at, gate_sig, wire, fix, fix_gates, Feeds, Blocks, AreBlocksOf, block_at, home_of, first_gate, gate_of, value_in, wire_of_gate, leads-trans, gate_home, home_gate, gate_in, IsUpstream}
 use Rattle.cover_logic.specs.Covers.{value}
@@ -100,8 +101,7 @@ module _ (net : Parts) (valid : IsNetlist net) (blocks : Blocks) (are : AreBlock
             inside : (g : ℕ) → g < length net.gates → s ≡ gate_sig net g → home_of blocks g ≡ home_of blocks n → Contains (map (gate_sig net) (block_at blocks (home_of blocks n)).gates) s
             inside g gl e home =
                 let c : Contains (block_at blocks (home_of blocks n)).gates g = subst (λ (p : ℕ). Contains (block_at blocks p).gates g) home (home_gate net blocks are g gl) in
-                let len = length-map (block_at blocks (home_of blocks n)).gates (gate_sig net) in
-                (c.0, omega (arith, c.1, len), get_or-map (gate_sig net) (block_at blocks (home_of blocks n)).gates c.0 g s c.1 ∙ ap (gate_sig net) c.2 ∙ sym e)
+                subst (Contains (map (gate_sig net) (block_at blocks (home_of blocks n)).gates)) (sym e) (Contains-map (gate_sig net) (block_at blocks (home_of blocks n)).gates g c)
 
   by_blocks : (b n : ℕ) → n < length net.gates → home_of blocks n < b → Clear n → value_in (fix_gates net (bits v)) n ≢ X
   by_blocks zero n nl low clear = absurd (omega (arith, low))

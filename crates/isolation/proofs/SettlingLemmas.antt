@@ -1,7 +1,7 @@
 -- What the solution of a small netlist on rails shows.
-use Rattle.std.proofs.Common.{◌≡◌, inl, inr, ℕ, zero, suc, ◌+◌, ◌-◌, ◌<◌, ◌≤◌, Bool, true, false, ◌&&◌, List, [], ◌∷◌, length, map, filter, get_or, Option, Some, None, Result, Ok, Err, IfOk, refl, sym, ap, ap₂, ◌∙◌, subst, arith, true≢false}
+use Rattle.std.proofs.Common.{◌≡◌, inl, inr, ℕ, zero, suc, ◌+◌, ◌-◌, ◌<◌, ◌≤◌, Bool, true, false, ◌&&◌, List, [], ◌∷◌, length, map, filter, get_or, refl, sym, ap, ap₂, ◌∙◌, subst, arith, true≢false}
 use Rattle.std.proofs.Math.Path.{fun_ext}
-use Rattle.isolation.proofs.Common.{cases_Bool, and_parts, get_or-map, get_or-append_right, length-map, length-append, IfSome, All, range_with_len, Node, Arena, den, Trit, X, bit, bits, Rails, value_of, values_of, Parts, IsNetlist, fix, fix_gates, Blocks, AreBlocksOf, block_at, home_of, Loops, AreLoopsOf, loops_of, first_gate, value_in, sweeps, CutsAreFixed, loops_exist, rails_under, Vectors, IsLoopNetlist, AreKnown, IsSolvedNetlist}
+use Rattle.isolation.proofs.Common.{cases_Bool, and_parts, get_or-map, get_or-append_right, length-map, length-append, All, range_with_len, Node, Arena, den, Trit, X, bit, bits, Rails, value_of, values_of, Parts, IsNetlist, fix, fix_gates, Blocks, AreBlocksOf, block_at, home_of, Loops, AreLoopsOf, loops_of, first_gate, value_in, sweeps, CutsAreFixed, loops_exist, rails_under, Vectors, IsLoopNetlist, AreKnown, IsSolvedNetlist}
 use Rattle.bdd_ops.specs.Least.{by_variable}
 use Rattle.loops.specs.declared.structure.Cut.{Cut}
 use Rattle.loops.specs.Cuts.{IsCutOf, loops_by, in_one_loop, is_cut}
@@ -58,11 +58,10 @@ module _ (net : Parts) (blocks : Blocks) (cut : Cut) (are : AreBlocksOf net bloc
   -- a gate that is in no loop has no cut wires
   no_cuts : (n : ℕ) → (block_at blocks (home_of blocks n)).looped ≡ false → (xs : List ℕ) → filter (λ m. in_one_loop blocks n m && is_cut cut.wires m) xs ≡ []
   no_cuts n plain [] = refl
-  no_cuts n plain (m ∷ xs) = by (in_one_loop blocks n m && is_cut cut.wires m) refl (no_cuts n plain xs)
-    where
-      by : (b : Bool) → (in_one_loop blocks n m && is_cut cut.wires m) ≡ b → filter (λ m. in_one_loop blocks n m && is_cut cut.wires m) xs ≡ [] → filter (λ m. in_one_loop blocks n m && is_cut cut.wires m) (m ∷ xs) ≡ []
-      by true is rest = absurd (true≢false (sym (told_parts net blocks are n m (and_parts (in_one_loop blocks n m) (is_cut cut.wires m) is).0).looped ∙ plain))
-      by false is rest = rw is rest
+  no_cuts n plain (m ∷ xs) = elim (cases_Bool (in_one_loop blocks n m && is_cut cut.wires m)) [
+    | inl is ↦ absurd (true≢false (sym (told_parts net blocks are n m (and_parts (in_one_loop blocks n m) (is_cut cut.wires m) is).0).looped ∙ plain))
+    | inr is ↦ rw is (no_cuts n plain xs)
+  ]
 
   -- the greatest count is enough for each loop
   pub sweeps-are : (a : Arena) (counts : SweepCounts) (care : Node) (most : ℕ) → length counts.per_block ≡ length blocks.list → CountSweeps net blocks cut a v care counts → ((v : List Bool) → den a care v ≡ true) → All (λ n. n ≤ most) counts.per_block →

@@ -1,6 +1,6 @@
 -- The parts of an excerpt make a netlist.
 use Rattle.std.proofs.Common.{◌≡◌, ◌≢◌, inl, inr, ◌⊎◌, ℕ, ◌+◌, ◌-◌, ◌<◌, ◌≤◌, true, false, List, [], ◌∷◌, ◌++◌, length, map, get_or, eqb, Some, None, refl, sym, ap, ap₂, ◌∙◌, subst, arith, Contains, take, slice_get}
-use Rattle.isolation.proofs.Common.{cases_lt, eqb-true, ext_get_or, get_or-map, get_or_default, get_or_append_left, get_or-append_right, length-map, length-append, map-append, All, list_any, Sig, Gate, Parts, IsNetlist, count, gate_at, gate_sig, no_gate, signal, first_gate, origins, origin, gate_in, IsExcerpt, AreClosed, AreCopies, name_at}
+use Rattle.isolation.proofs.Common.{cases_lt, eqb-true, ext_get_or, get_or-map, get_or_default, get_or-append_right, length-map, length-append, map-append, All, list_any, Sig, Gate, Parts, IsNetlist, count, gate_at, gate_sig, no_gate, signal, first_gate, origins, origin, gate_in, IsExcerpt, AreClosed, AreCopies, name_at}
 use Rattle.std.proofs.lemmas.Bool.{ne_eqb}
 use Rattle.std.proofs.lemmas.Cmp.{nat_list_eq_equiv}
 use Rattle.std.proofs.lemmas.List.{take_more}
@@ -19,6 +19,7 @@ use Rattle.netlist.proofs.Validity.{no_fault_of_netlist}
 use Rattle.netlist.specs.Netlists.{IsSignal, driven_names, sig_eq, signal_names}
 use Rattle.loops.specs.Placing.{Rise}
 use Rattle.isolation.specs.Excerpts.{AreOnce}
+use Rattle.isolation.proofs.OriginLemmas.{origins-size, origin-wire, origin-gate}
 use Rattle.isolation.specs.Building.{AreApart, AreNumerable, IsNamedBy}
 
 none-twice : IsDistinct sig_eq []
@@ -29,38 +30,30 @@ none-twice = tt
 
 module _ (net : Parts) (gates : List ℕ) (outside : List Sig) (gates_in : All (λ gate. gate < length net.gates) gates) (outside_in : All (λ s. s.0 < count net) outside)
     (apart : AreApart net gates outside) (rise : Rise gates) (once : AreOnce outside) where
-  size : length (origins net outside gates) ≡ length outside + length gates
-  size = length-append outside (map (gate_sig net) gates) ∙ ap (λ (n : ℕ). length outside + n) (length-map gates (gate_sig net))
-
   gate-at : (k : ℕ) → length outside ≤ k → k < length (origins net outside gates) → get_or (origins net outside gates) k (signal 0) ≡ gate_sig net (gate_in gates (k - length outside))
-  gate-at k high within =
-      get_or-append_right outside (map (gate_sig net) gates) (length outside) k (signal 0) refl high
-      ∙ get_or-map (gate_sig net) gates (k - length outside) 0 (signal 0) (omega (arith, size))
-
-  wire-at : (k : ℕ) → k < length outside → get_or (origins net outside gates) k (signal 0) ≡ get_or outside k (signal 0)
-  wire-at k low = get_or_append_left outside (map (gate_sig net) gates) (signal 0) k low
+  gate-at k high within = origin-gate net outside gates k (k - length outside) (omega (arith, origins-size net outside gates)) (omega (arith, high))
 
   origin-within : (k : ℕ) → k < length (origins net outside gates) → (get_or (origins net outside gates) k (signal 0)).0 < count net
   origin-within k within = elim (cases_lt k (length outside)) [
-    | inl low ↦ subst (λ (s : Sig). s.0 < count net) (sym (wire-at k low)) (outside_in k (signal 0) low)
+    | inl low ↦ subst (λ (s : Sig). s.0 < count net) (sym (origin-wire net outside gates k (signal 0) low)) (outside_in k (signal 0) low)
     | inr high ↦
-        let s = size in
+        let s = origins-size net outside gates in
         let g = gates_in (k - length outside) 0 (omega (arith, s, high, within)) in
         subst (λ (s : Sig). s.0 < count net) (sym (gate-at k high within)) (omega (arith, g))
   ]
 
   origin-once : (i j : ℕ) → i < j → j < length (origins net outside gates) → get_or (origins net outside gates) i (signal 0) ≢ get_or (origins net outside gates) j (signal 0)
   origin-once i j less within same = elim (cases_lt j (length outside)) [
-    | inl low ↦ once i j less low (sym (wire-at i (omega (arith, less, low))) ∙ same ∙ wire-at j low)
+    | inl low ↦ once i j less low (sym (origin-wire net outside gates i (signal 0) (omega (arith, less, low))) ∙ same ∙ origin-wire net outside gates j (signal 0) low)
     | inr high ↦
-        let inside : j - length outside < length gates = omega (arith, size) in
+        let inside : j - length outside < length gates = omega (arith, origins-size net outside gates) in
         elim (cases_lt i (length outside)) [
           | inl low ↦
               let wire : Sig = get_or outside i (signal 0) in
               apart (get_or outside i (signal 0)) (i, low, get_or_default outside i (get_or outside i (signal 0)) (signal 0) low) (
                 j - length outside,
                 omega (arith, length-map gates (gate_sig net)),
-                get_or-map (gate_sig net) gates (j - length outside) 0 (get_or outside i (signal 0)) inside ∙ sym (gate-at j high within) ∙ sym same ∙ wire-at i low,
+                get_or-map (gate_sig net) gates (j - length outside) 0 (get_or outside i (signal 0)) inside ∙ sym (gate-at j high within) ∙ sym same ∙ origin-wire net outside gates i (signal 0) low,
               )
           | inr later ↦
               let e = ap (λ (r : Sig). r.0) (sym (gate-at i later (omega (arith, less, within))) ∙ same ∙ gate-at j high within) in
@@ -92,7 +85,7 @@ module _ (net : Parts) (gates : List ℕ) (outside : List Sig) (gates_in : All (
   few =
       let most = length-le_from_distinct_below (map (λ (s : Sig). s.0) (origins net outside gates)) (count net) distinct below in
       let len = length-map (origins net outside gates) (λ (s : Sig). s.0) in
-      omega (arith, most, len, size)
+      omega (arith, most, len, origins-size net outside gates)
 
   -- ---- their names
 
@@ -173,7 +166,7 @@ module _ (net : Parts) (gates : List ℕ) (outside : List Sig) (gates_in : All (
             let at : get_or small.gates k d ≡ gate_at small k = get_or_default small.gates k d no_gate less in
             let p = named.pins k (omega (arith, is.size)) i e (subst (λ (g : Gate). i < length g.pins) at within) in
             let same : (get_or (get_or small.gates k d).pins i e).0 ≡ (get_or (gate_at small k).pins i e).0 = ap (λ (g : Gate). (get_or g.pins i e).0) at in
-            omega (arith, p, count-is, size);
+            omega (arith, p, count-is, origins-size net outside gates);
         sources = none-in (λ (l : Latch). IsSignal small l.from) small.latches named.latches;
         outputs = none-in (IsSignal small) small.outputs named.outputs;
         pin_counts = λ k d less.

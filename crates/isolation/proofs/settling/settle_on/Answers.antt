@@ -1,11 +1,9 @@
 use Rattle.std.proofs.Common.{◌≡◌, ◌∙◌, ◌+◌, ◌*◌, ◌<◌, ℕ, ap, length, sym, subst, arith}
-use Rattle.std.specs.Prelude.{IfOk, IfNone}
-use Rattle.isolation.proofs.Common.{AddsWithin, IfSome, IsSolvedNetlist, IsWide, IsLaid, Parts, first_gate}
+use Rattle.isolation.proofs.Common.{AddsWithin, IsSolvedNetlist, IsWide, IsLaid, Parts, first_gate}
 use Rattle.bdd_store.proofs.GrowthLemmas.{adds_then, adds_moved, adds_more, adds_caused, adds_refused}
 use Rattle.loops.specs.Looped.{IsLooped}
 use Rattle.fixpoint.specs.Working.{HasLargeCover, effort}
-use Rattle.isolation.specs.Settling.{IsSettledIn, settling_cost}
-use Rattle.isolation.specs.Unsettled.{HasUnknown}
+use Rattle.isolation.specs.Settling.{settling_cost}
 use Rattle.isolation.proofs.SettlingLemmas.{handed-out}
 use Rattle.isolation.proofs.WidthLemmas.{solved-is, solution-adds}
 use Rattle.isolation.proofs.settling.settle_on.Goals as goal
@@ -54,12 +52,12 @@ returns-in_err-given-clause-adds c =
 
 pub returns-in_err-solved-clause-adds : goal.returns-in_err-solved-clause-adds
 returns-in_err-solved-clause-adds c =
-    subst (λ (net : Parts). AddsWithin c.from_residual-in_err-solved.result c.args.d.now c.solve.new.d (HasLargeCover net) (IsWide c.args.d.now.vars (IsLaid net)) (settling_cost net)) c.net-net.ensures.net
+    rw (← c.net-net.ensures.net)
     (adds_more {n = settling_cost c.net-net.result.now} (omega arith) (adds_refused c.in_err-solved.was c.from_residual-in_err-solved.ensures.1 (solution (goal.at.returns-in_err-solved-clause-adds c).After-solve)))
 
 pub returns-clause-adds : goal.returns-clause-adds
 returns-clause-adds c =
-    subst (λ (net : Parts). AddsWithin c.settled_sweeps.result c.args.d.now c.settled_sweeps.new.d (HasLargeCover net) (IsWide c.args.d.now.vars (IsLaid net)) (settling_cost net)) c.net-net.ensures.net
+    rw (← c.net-net.ensures.net)
     (adds_more {n = settling_cost c.net-net.result.now} (omega arith)
     (adds_then (c.in_ok-solved.ensures.roots.limit ∙ c.kept_columns.ensures.limit) (solution (goal.at.returns-clause-adds c).After-solve)
     (adds_caused (λ (none : ⊥). absurd none)
