@@ -1,6 +1,6 @@
 -- A small netlist while it is made.
 use Rattle.std.proofs.Common.{◌≡◌, inl, inr, ℕ, ◌+◌, ◌-◌, ◌<◌, ◌≤◌, false, List, [], ◌∷◌, ◌++◌, length, map, take, get_or, if◌then◌else◌, eqb, Option, Some, None, Result, Ok, Err, IfOk, IsSome, refl, sym, ap, ap₂, ◌∙◌, subst, arith, Contains, true≢false}
-use Rattle.isolation.proofs.Common.{cases_Bool, cases_lt, eqb-true, eq-eqb, get_or-map, get_or_default, get_or_append_left, length-map, map-append, All, list_any, IfSome, Sig, Gate, Parts, IsNetlist, count, signal, no_gate, gate_at, gate_sig, Blocks, AreBlocksOf, block_at, home_of, first_gate, gate_home, home_gate, origins, origin, gate_in, IsExcerpt, AreClosed, AreCopies, AreNumbersOf, IsLoopNetlist}
+use Rattle.isolation.proofs.Common.{cases_Bool, cases_lt, eqb-true, eq-eqb, get_or-map, get_or_default, get_or_append_left, length-map, map-append, All, list_any, IfSome, Sig, Gate, Parts, IsNetlist, count, signal, no_gate, gate_at, gate_sig, Blocks, AreBlocksOf, block_at, home_of, first_gate, gate_home, home_gate, origins, origin, gate_in, IsExcerpt, AreClosed, AreCopies, AreNumbersOf, IsLoopNetlist, Contains-get_or}
 use Rattle.std.proofs.lemmas.List.{get_or_push, length_push, take_more, take_all}
 use Rattle.std.proofs.lemmas.List.Elements.{Contains-append_left, Contains-push, Contains-push_cases, All-push}
 use Rattle.std.specs.List.{position}
@@ -59,7 +59,7 @@ pub outside_within : (net : Parts) → IsNetlist net → (gates : List ℕ) → 
     (k : ℕ) (d : Sig) → k < length outside → (get_or outside k d).0 < count net
 outside_within net valid gates within outside are k d less =
     let s : Sig = get_or outside k d in
-    let one = are (get_or outside k d) (k, less, get_or_default outside k (get_or outside k d) d less) in
+    let one = are (get_or outside k d) (Contains-get_or outside k d less) in
     let r = one.read in
     let b = valid.pins (gate_in gates r.place) no_gate (within r.place r.within) r.pin.0 (get_or outside k d) r.pin.1 in
     let e = ap (λ (q : Sig). q.0) r.pin.2 in
@@ -157,7 +157,7 @@ pub pin_at : (net : Parts) (block gates : List ℕ) (k d : ℕ) (pins : List Sig
 pin_at net block gates k d pins same less are i e within = record {
   place = k;
   within = omega (arith, ap length same);
-  pin = subst (λ xs. Contains xs (get_or pins i e)) (sym (pins_at net block gates k d pins same less are)) (i, within, get_or_default pins i (get_or pins i e) e within);
+  pin = subst (λ xs. Contains xs (get_or pins i e)) (sym (pins_at net block gates k d pins same less are)) (Contains-get_or pins i e within);
 }
 
 pub wires_all : (net : Parts) (block gates : List ℕ) (k : ℕ) (outside : List Sig) → gates ≡ block → length gates ≤ k → AreWiresOf net block k outside → AreWiresOf net block (length block) outside
@@ -167,7 +167,7 @@ wires_all net block gates k outside same all is = record { wires = is.wires; all
 pub read_all : (net : Parts) (gates : List ℕ) (outside : List Sig) (k d : ℕ) → k < length gates → AreClosed net gates outside → All (IsAmong net gates outside) (gate_at net (get_or gates k d)).pins
 read_all net gates outside k d less closed =
     subst (λ (n : ℕ). All (IsAmong net gates outside) (gate_at net n).pins) (get_or_default gates k 0 d less)
-    (λ j f inside. closed.read k less (get_or (gate_at net (gate_in gates k)).pins j f) (j, inside, get_or_default (gate_at net (gate_in gates k)).pins j (get_or (gate_at net (gate_in gates k)).pins j f) f inside))
+    (λ j f inside. closed.read k less (get_or (gate_at net (gate_in gates k)).pins j f) (Contains-get_or (gate_at net (gate_in gates k)).pins j f inside))
 
 -- an option that is both some and none
 pub not_there : {X : Type 0} {o : Option X} → ((x : X) → o ≡ Some x → ⊥) → IsSome o → ⊥

@@ -1,6 +1,6 @@
 -- Excerpts whose inputs are the columns, and lists of marked gates.
 use Rattle.std.proofs.Common.{◌≡◌, inl, inr, ℕ, ◌+◌, ◌<◌, Bool, true, false, List, [], ◌∷◌, ◌++◌, length, sym, ap, ◌∙◌, subst, arith, Contains, true≢false}
-use Rattle.isolation.proofs.Common.{cases_lt, get_or-map, get_or_default, get_or_append_left, length-map, ext_get_or, range_with_len, Trit, X, bit, bits, signal, wire, fix, fix_gates, first_gate, value_in, gate_in, inputs_in}
+use Rattle.isolation.proofs.Common.{cases_lt, get_or-map, get_or_default, get_or_append_left, length-map, ext_get_or, range_with_len, Trit, X, bit, bits, signal, wire, fix, fix_gates, first_gate, value_in, gate_in, inputs_in, Contains-get_or}
 use Rattle.std.proofs.lemmas.List.{get_or_push, length_push}
 use Rattle.std.proofs.lemmas.List.Elements.{Contains-append_left, Contains-push, Contains-push_cases}
 use Rattle.std.proofs.lemmas.List.FromFn.{length-range_with_len, get_or-range_with_len}
@@ -71,7 +71,7 @@ listed-push marks n gates marked are =
             let at : length gates ≡ j = omega (arith, length_push gates n) in
             let b = get_or_push gates n 0 j (omega (arith, at)) in
             let il : i < length gates = omega (arith, l, at) in
-            let h = (are.each (gate_in gates i)).0 (i, il, get_or_default gates i (gate_in gates i) 0 il) in
+            let h = (are.each (gate_in gates i)).0 (Contains-get_or gates i 0 il) in
             omega (arith, h.0, get_or_append_left gates (n ∷ []) 0 i il, b)
       ];
       each = λ m. (

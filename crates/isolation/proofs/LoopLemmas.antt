@@ -1,9 +1,9 @@
 -- The loops of an excerpt, their cut wires and their sweeps are those of the whole.
-use Rattle.std.proofs.Common.{◌≡◌, inl, inr, ℕ, zero, suc, ◌+◌, ◌-◌, ◌<◌, ◌≤◌, leb, Bool, true, false, ◌&&◌, if◌then◌else◌, List, [], ◌∷◌, length, map, get_or, refl, sym, ap, ap₂, ◌∙◌, subst, arith}
-use Rattle.isolation.proofs.Common.{cases_lt, cases_eq, and_parts, get_or-map, get_or_default, get_or_append_left, get_or-append_right, get_or-replicate, length-map, map-map, range_with_len, Sig, Trit, X, ext, Cover, Parts, IsNetlist, signal, gate_at, gate_sig, wire, fix, fix_gates, Feeds, Loops, AreLoopsOf, first_gate, gate_of, value_in, sweeps, CutsAreFixed, same_within, leads-trans, origins, origin, inputs_in, IsExcerpt}
+use Rattle.std.proofs.Common.{◌≡◌, inl, inr, ℕ, zero, suc, ◌+◌, ◌-◌, ◌<◌, ◌≤◌, leb, Bool, true, false, ◌&&◌, if◌then◌else◌, List, [], ◌∷◌, length, map, get_or, refl, sym, ap, ap₂, ◌∙◌, subst, arith, Contains}
+use Rattle.isolation.proofs.Common.{cases_lt, cases_eq, and_parts, get_or-map, get_or_default, get_or_append_left, get_or-append_right, get_or-replicate, length-map, map-map, range_with_len, Sig, Trit, X, ext, Cover, Parts, IsNetlist, signal, gate_at, gate_sig, wire, fix, fix_gates, Feeds, Loops, AreLoopsOf, first_gate, gate_of, value_in, sweeps, CutsAreFixed, same_within, leads-trans, origins, origin, inputs_in, IsExcerpt, Contains-get_or}
 use Rattle.std.proofs.lemmas.Bool.{leb-true, le-leb, lt-leb}
 use Rattle.std.specs.List.{AllByRecursion}
-use Rattle.cyc_base.proofs.ListLemmas.{all_map, all_weaker}
+use Rattle.cyc_base.proofs.ListLemmas.{all_map, all_weaker, Contains-map}
 use Rattle.cyc_base.proofs.TruthLemmas.{same_truth}
 use Rattle.netlist.specs.Walks.{Walk}
 use Rattle.loops.specs.Cuts.{MayPass}
@@ -72,9 +72,8 @@ module _ (net : Parts) (outside : List Sig) (gates : List ℕ) (small : Parts) (
   -- a wire outside is no gate of the block
   outside-apart : (s : Sig) (q : ℕ) → s.0 < length outside → q < size → origin all s ≡ gate_sig net (at q) → ⊥
   outside-apart s q low l e =
-      let here : get_or outside s.0 s ≡ gate_sig net (at q) = sym (origin-input s s low) ∙ e in
-      is.apart (get_or outside s.0 s) (s.0, low, get_or_default outside s.0 (get_or outside s.0 s) s low)
-      (q, omega (arith, length-map gates (gate_sig net)), get_or-map (gate_sig net) gates q 0 (get_or outside s.0 s) l ∙ sym here)
+      is.apart (get_or outside s.0 s) (Contains-get_or outside s.0 s low)
+      (subst (Contains (map (gate_sig net) gates)) (sym e ∙ origin-input s s low) (Contains-map (gate_sig net) gates (at q) (Contains-get_or gates q 0 l)))
 
   first-is : first_gate small ≡ length outside
   first-is = first-small net outside gates small valid is
@@ -289,7 +288,7 @@ module _ (net : Parts) (outside : List Sig) (gates : List ℕ) (small : Parts) (
           map_agree (value_in (sweeps net one v k)) (value_in (fix_gates net v)) (cuts_of net one (at i))
           (λ j d jl.
           let n = get_or (cuts_of net one (at i)) j d in
-          let kept = Contains-filter_from (λ m. one.same (at i) m && one.cut m) (range_with_len 0 (length net.gates)) (get_or (cuts_of net one (at i)) j d) (j, jl, get_or_default (cuts_of net one (at i)) j (get_or (cuts_of net one (at i)) j d) d jl) in
+          let kept = Contains-filter_from (λ m. one.same (at i) m && one.cut m) (range_with_len 0 (length net.gates)) (get_or (cuts_of net one (at i)) j d) (Contains-get_or (cuts_of net one (at i)) j d jl) in
           let parts = and_parts (one.same (at i) n) (one.cut n) kept.0 in
           let h = in-loop i n il ((one_is.same (at i) n).0 parts.0) in
           subst (λ (m : ℕ). value_in (sweeps net one v k) m ≡ value_in (fix_gates net v) m) h.found
@@ -302,7 +301,7 @@ module _ (net : Parts) (outside : List Sig) (gates : List ℕ) (small : Parts) (
           map_agree (value_in (sweeps small two inputs k)) (value_in (fix_gates small inputs)) (cuts_of small two i)
           (λ j d jl.
           let n = get_or (cuts_of small two i) j d in
-          let kept = Contains-filter_from (λ m. two.same i m && two.cut m) (range_with_len 0 (length small.gates)) (get_or (cuts_of small two i) j d) (j, jl, get_or_default (cuts_of small two i) j (get_or (cuts_of small two i) j d) d jl) in
+          let kept = Contains-filter_from (λ m. two.same i m && two.cut m) (range_with_len 0 (length small.gates)) (get_or (cuts_of small two i) j d) (Contains-get_or (cuts_of small two i) j d jl) in
           let parts = and_parts (two.same i n) (two.cut n) kept.0 in
           let nl = small-within n (same_within small two two_is i n parts.0) in
           sweeps-same k n nl

@@ -2,7 +2,7 @@
 use Rattle.std.proofs.Common.{◌≡◌, inl, inr, ◌⊎◌, ◌↔◌, ℕ, zero, suc, ◌+◌, ◌<◌, ◌≤◌, Bool, true, false, List, [], ◌∷◌, length, get_or, replicate, Option, Some, None, refl, sym, ap, ◌∙◌, subst, arith, Contains, true≢false}
 use Rattle.std.proofs.Math.ListN.{set}
 use Rattle.std.specs.Prelude.{IfNone}
-use Rattle.isolation.proofs.Common.{cases_lt, cases_eq, get_or_default, Sig, Parts, IsNetlist, no_gate, gate_at, gate_sig, Feeds, Blocks, AreBlocksOf, block_at, home_of, first_gate, gate_home, home_gate, gate_in, IsUpstream, AddMarks, IsNearOne, AreMarkedFrom}
+use Rattle.isolation.proofs.Common.{cases_lt, cases_eq, get_or_default, Sig, Parts, IsNetlist, no_gate, gate_at, gate_sig, Feeds, Blocks, AreBlocksOf, block_at, home_of, first_gate, gate_home, home_gate, gate_in, IsUpstream, AddMarks, IsNearOne, AreMarkedFrom, Contains-get_or}
 use Rattle.std.proofs.lemmas.List.{get_or-set_same, get_or-set_other, length-set}
 use Rattle.loops.proofs.Walks.{leads-step}
 use Rattle.isolation.specs.Cones.{is_marked, AreUpstreamMarks, IsConeOf, IsOnPin, IsNear, IsWithMark}
@@ -156,7 +156,7 @@ module _ (net : Parts) (blocks : Blocks) (are : AreBlocksOf net blocks) (old : L
       member n c = gate_home net blocks are b n less (subst (λ (xs : List ℕ). Contains xs n) same c)
 
       at : (place : ℕ) → place < length gates → (gate_in gates place < length net.gates) × (home_of blocks (gate_in gates place) ≡ b)
-      at place l = member (gate_in gates place) (place, l, get_or_default gates place (gate_in gates place) 0 l)
+      at place l = member (gate_in gates place) (Contains-get_or gates place 0 l)
 
       near-low : (n : ℕ) → IsNearOne net gates (length gates) n → home_of blocks n ≤ b
       near-low n near = by near.near

@@ -1,6 +1,7 @@
 -- The parts of an excerpt make a netlist.
 use Rattle.std.proofs.Common.{◌≡◌, ◌≢◌, inl, inr, ◌⊎◌, ℕ, ◌+◌, ◌-◌, ◌<◌, ◌≤◌, true, false, List, [], ◌∷◌, ◌++◌, length, map, get_or, eqb, Some, None, refl, sym, ap, ap₂, ◌∙◌, subst, arith, Contains, take, slice_get}
-use Rattle.isolation.proofs.Common.{cases_lt, eqb-true, ext_get_or, get_or-map, get_or_default, get_or-append_right, length-map, length-append, map-append, All, list_any, Sig, Gate, Parts, IsNetlist, count, gate_at, gate_sig, no_gate, signal, first_gate, origins, origin, gate_in, IsExcerpt, AreClosed, AreCopies, name_at}
+use Rattle.isolation.proofs.Common.{cases_lt, eqb-true, ext_get_or, get_or-map, get_or_default, get_or-append_right, length-map, length-append, map-append, All, list_any, Sig, Gate, Parts, IsNetlist, count, gate_at, gate_sig, no_gate, signal, first_gate, origins, origin, gate_in, IsExcerpt, AreClosed, AreCopies, name_at, Contains-get_or}
+use Rattle.cyc_base.proofs.ListLemmas.{Contains-map}
 use Rattle.std.proofs.lemmas.Bool.{ne_eqb}
 use Rattle.std.proofs.lemmas.Cmp.{nat_list_eq_equiv}
 use Rattle.std.proofs.lemmas.List.{take_more}
@@ -49,12 +50,8 @@ module _ (net : Parts) (gates : List ℕ) (outside : List Sig) (gates_in : All (
         let inside : j - length outside < length gates = omega (arith, origins-size net outside gates) in
         elim (cases_lt i (length outside)) [
           | inl low ↦
-              let wire : Sig = get_or outside i (signal 0) in
-              apart (get_or outside i (signal 0)) (i, low, get_or_default outside i (get_or outside i (signal 0)) (signal 0) low) (
-                j - length outside,
-                omega (arith, length-map gates (gate_sig net)),
-                get_or-map (gate_sig net) gates (j - length outside) 0 (get_or outside i (signal 0)) inside ∙ sym (gate-at j high within) ∙ sym same ∙ origin-wire net outside gates i (signal 0) low,
-              )
+              apart (get_or outside i (signal 0)) (Contains-get_or outside i (signal 0) low)
+              (subst (Contains (map (gate_sig net) gates)) (sym (gate-at j high within) ∙ sym same ∙ origin-wire net outside gates i (signal 0) low) (Contains-map (gate_sig net) gates (gate_in gates (j - length outside)) (Contains-get_or gates (j - length outside) 0 inside)))
           | inr later ↦
               let e = ap (λ (r : Sig). r.0) (sym (gate-at i later (omega (arith, less, within))) ∙ same ∙ gate-at j high within) in
               let r = rise (i - length outside) (j - length outside) (omega (arith, less, later, high)) inside in

@@ -2,7 +2,7 @@
 -- constants.
 use Rattle.std.proofs.Common.{◌≡◌, inl, inr, ℕ, zero, suc, ◌+◌, ◌<◌, ◌≤◌, Bool, true, false, ◌&&◌, ◌⊎◌, List, [], length, filter, get_or, sym, ap, ◌∙◌, arith, Contains}
 use Rattle.std.proofs.Math.Path.{fun_ext}
-use Rattle.isolation.proofs.Common.{and_parts, get_or-map, get_or_default, get_or-replicate, length-map, All, range_with_len, Node, Arena, den, Trit, X, bit, bits, Rails, AreRailsOf, value_of, values_of, Parts, Blocks, AreBlocksOf, block_at, AreLoopsOf, Loops, loops_of, first_gate, value_in, sweeps, loops_exist, same_within, Vectors}
+use Rattle.isolation.proofs.Common.{and_parts, get_or-map, get_or_default, get_or-replicate, length-map, All, range_with_len, Node, Arena, den, Trit, X, bit, bits, Rails, AreRailsOf, value_of, values_of, Parts, Blocks, AreBlocksOf, block_at, AreLoopsOf, Loops, loops_of, first_gate, value_in, sweeps, loops_exist, same_within, Vectors, Contains-get_or}
 use Rattle.std.proofs.lemmas.List.Elements.{All-contains}
 use Rattle.cyc_base.proofs.TruthLemmas.{same_truth}
 use Rattle.bdd_ops.specs.Operations.{bit_at}
@@ -112,9 +112,7 @@ module _ (net : Parts) (points : Vectors) (a : Arena) (blocks : Blocks) (cut : C
   gate = get_or (block_at blocks loop.block).gates 0 0
 
   gate-there : Contains (block_at blocks loop.block).gates (get_or (block_at blocks loop.block).gates 0 0)
-  gate-there =
-      let filled = are.filled loop.block steps.block.within in
-      (0, filled, get_or_default (block_at blocks loop.block).gates 0 (get_or (block_at blocks loop.block).gates 0 0) 0 filled)
+  gate-there = Contains-get_or (block_at blocks loop.block).gates 0 0 (are.filled loop.block steps.block.within)
 
   -- the numbers of the step and of the rail in it
   abbrev step : ℕ
@@ -142,9 +140,7 @@ module _ (net : Parts) (points : Vectors) (a : Arena) (blocks : Blocks) (cut : C
   wire = get_or (cuts_of net (loops_of net) gate) place 0
 
   wire-there : Contains (cuts_of net (loops_of net) gate) (get_or (cuts_of net (loops_of net) gate) is.within.0 0)
-  wire-there =
-      let within : is.within.0 < length (cuts_of net (loops_of net) gate) = omega (arith, is.within.1, width) in
-      (is.within.0, within, get_or_default (cuts_of net (loops_of net) gate) is.within.0 (get_or (cuts_of net (loops_of net) gate) is.within.0 0) 0 within)
+  wire-there = Contains-get_or (cuts_of net (loops_of net) gate) is.within.0 0 (omega (arith, is.within.1, width))
 
   rail-value : (v : List Bool) → value_of a is.rails v ≡ value_in (sweeps net (loops_of net) (points v) step) wire
   rail-value v =
