@@ -251,17 +251,14 @@ hashed_is g a b sound in_a in_b apart =
     let x = pair_of a b in
     let is = entered_is g x sound pair.sound in
     let p = position_or_len (same_pair x) g.ands in
-    let at = is.place in
-    let high = pair.sound.earlier in
-    let low = pair.sound.greater in
     record {
       sound = is.sound;
       extends = is.extends;
       is_edge = omega (arith, is.within);
       grows = is.grows;
       value_is = λ v h.
-          den-and (hashed g x).graph p x v at (is.sound.each p x at) h
-          ∙ ap₂ (λ s t. s && t) (is.extends.keeps x.greater v high h) (is.extends.keeps x.smaller v (omega arith) h)
+          den-and (hashed g x).graph p x v is.place (is.sound.each p x is.place) h
+          ∙ ap₂ (λ s t. s && t) (is.extends.keeps x.greater v pair.sound.earlier h) (is.extends.keeps x.smaller v (omega (arith, pair.sound.earlier, pair.sound.greater)) h)
           ∙ pair.value v;
     }
 

@@ -46,8 +46,7 @@ Lower graph ranks d n = (n < length graph) × (ranks.rank n < d)
 
 pub successors_lower : (graph : List (List ℕ)) (ranks : HasRanks graph) (d n : ℕ) → n < length graph → ranks.rank n ≤ d → All (Lower graph ranks d) (successors graph n)
 successors_lower graph ranks d n l low k x m =
-    let falls = ranks.falls n (get_or (successors graph n) k x) l (Contains-get_or (successors graph n) k x m) in
-    (ranks.nodes n l k x m, omega arith)
+    (ranks.nodes n l k x m, omega (arith, ranks.falls n (get_or (successors graph n) k x) l (Contains-get_or (successors graph n) k x m)))
 
 module _ (graph : List (List ℕ)) (ranks : HasRanks graph) where
   pub placed-depth : (d e n : ℕ) (before : List ℕ) → Lower graph ranks d n → Lower graph ranks e n → placed graph d before n ≡ placed graph e before n

@@ -104,8 +104,6 @@ den-and g i x v at sound is_vector =
     let all : values g.ands v ≡ fold with_value (with_value vs x) back =
     ap (λ ands. values ands v) split ∙ values-append front (x ∷ back) v in
     let one = length_push vs (edge_value vs x.greater && edge_value vs x.smaller) in
-    let high = sound.earlier in
-    let low = sound.greater in
     let kept : (e : Edge) → variable e < length vs → edge_value (values g.ands v) e ≡ edge_value vs e =
     λ e h. ap (λ ws. edge_value ws e) all ∙ edge_value_kept vs (x ∷ back) e h in
     edge_value-to (values g.ands v) (first_and g + i)

@@ -19,9 +19,8 @@ next_is : (c : After-add_gate) → with_gate c.args.net.now (record { graph = c.
 next_is c =
     let gates = c.args.gates.now in
     let k = c.loop-number.number-index in
-    let l = c.loop-number-test.true in
     ap (λ (b : Building). with_gate c.args.net.now b (get_or gates k 0)) c.loop-number.invariant.made
-    ∙ building_next c.args.net.now gates k (get_or gates k 0) (omega arith) (get_or_default gates k 0 (get_or gates k 0) (omega arith))
+    ∙ building_next c.args.net.now gates k (get_or gates k 0) c.loop-number-test.true (get_or_default gates k 0 (get_or gates k 0) c.loop-number-test.true)
 
 pub returns-in_err-add_gate-clause-builds : goal.returns-in_err-add_gate-clause-builds
 returns-in_err-add_gate-clause-builds c =
