@@ -137,21 +137,6 @@ fn numbers_of(
     Ok(Some(numbers))
 }
 
-/// A gate as the small netlist has it, reading these numbers.
-fn copy_with(from: &Gate, pins: Vec<Sig>) -> Result<Gate, AllocError>
-    ensures name { IfOk result (λ made. made.name ≡ from.now.name) }
-    ensures cover { IfOk result (λ made. made.cover ≡ from.now.cover) }
-    ensures pins { IfOk result (λ made. made.pins ≡ pins.items) }
-{
-    let name = from.name.copy()?;
-    let cover = from.cover.copy()?;
-    Ok(Gate {
-        name,
-        pins: Items::of(pins),
-        cover,
-    })
-}
-
 /// A gate as the small netlist has it.
 fn copy_gate(
     alloc: Global,
@@ -168,7 +153,11 @@ fn copy_gate(
     let Some(pins) = numbers_of(alloc, net, gates, outside, from.pins.items())? else {
         return Ok(None);
     };
-    Ok(Some(copy_with(from, pins)?))
+    Ok(Some(Gate {
+        name: from.name.copy()?,
+        pins: Items::of(pins),
+        cover: from.cover.copy()?,
+    }))
 }
 
 /// The gates as the small netlist has them.
@@ -205,25 +194,6 @@ fn names_of(alloc: Global, net: &Netlist, signals: &[Sig]) -> Result<Vec<Name>, 
     Ok(names)
 }
 
-/// The parts of a netlist without latches and outputs.
-fn parts_of(alloc: Global, name: Name, inputs: Vec<Name>, gates: Vec<Gate>) -> Parts
-    ensures name { result.name ≡ name }
-    ensures inputs { result.inputs ≡ inputs.items }
-    ensures clock { result.clock ≡ None }
-    ensures latches { result.latches ≡ [] }
-    ensures gates { result.gates ≡ gates.items }
-    ensures outputs { result.outputs ≡ [] }
-{
-    Parts {
-        name,
-        inputs: Items::of(inputs),
-        clock: None,
-        latches: Items::of(Vec::new(alloc)),
-        gates: Items::of(gates),
-        outputs: Items::of(Vec::new(alloc)),
-    }
-}
-
 /// The parts of the small netlist of these gates, whose inputs are these wires outside of them.
 fn excerpt_parts(
     alloc: Global,
@@ -244,7 +214,14 @@ fn excerpt_parts(
         return Ok(None);
     };
     let inputs = names_of(alloc, net, outside.as_slice())?;
-    Ok(Some(parts_of(alloc, name.copy()?, inputs, copies)))
+    Ok(Some(Parts {
+        name: name.copy()?,
+        inputs: Items::of(inputs),
+        clock: None,
+        latches: Items::of(Vec::new(alloc)),
+        gates: Items::of(copies),
+        outputs: Items::of(Vec::new(alloc)),
+    }))
 }
 
 /// The netlist of these parts, if they make one.

@@ -91,8 +91,7 @@ fn is_determined(alloc: Global, d: &mut Diagrams, solved: &[KeptRails]) -> Resul
     ensures grows { GrowsWithin result d.old d.new NoOtherCause (BoundsKnown d.old (map (rails_under d.old) solved.now)) (length solved.now) }
 {
     let rails = rails_of(alloc, d, solved)?;
-    let known = are_known(d, &rails)?;
-    Ok(known)
+    are_known(d, &rails)
 }
 
 /// The greatest number of sweeps that a loop of a solved netlist needs.
