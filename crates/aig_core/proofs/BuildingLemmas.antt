@@ -1,36 +1,31 @@
 -- The edges of the gates that are built have the values of the netlist's fixpoint.
-use Rattle.std.proofs.Common.{◌≡◌, inl, inr, ℕ, ◌+◌, ◌-◌, ◌<◌, ◌≤◌, ◌||◌, Bool, true, false, if◌then◌else◌, List, [], ◌∷◌, ◌++◌, length, get_or, set, take, drop, map, fold, filter, slice_get, Some, All, refl, sym, ap, ap₂, subst, ◌∙◌, arith}
-use Rattle.std.specs.Prelude.{nat_eq, nat_le}
-use Rattle.std.specs.List.{list_any}
-use Rattle.std.proofs.lemmas.Bool.{cases_lt, cases_eq, lt-ltb, le-ltb, le-leb, ne_eqb, false≢true}
-use Rattle.std.proofs.lemmas.List.{append-nil, append_assoc, length-map, length-append, length-replicate, length-set, get_or_append_left, get_or-append_right, get_or-set_same, get_or-set_other, take-append-drop, map-append, get_or-append-add}
-use Rattle.std.proofs.lemmas.List.Sums.{fold-append, fold_more}
-use Rattle.std.proofs.lemmas.List.Folds.{list_any-append}
-use Rattle.std.proofs.lemmas.List.Elements.{All-nil, All-cons, All-head, All-tail, All-map, All-append, All-get_or, All-set, All-replicate, filter-append}
+use Rattle.std.proofs.Common.{◌≡◌, inl, inr, ℕ, ◌+◌, ◌-◌, ◌<◌, ◌≤◌, Bool, true, false, if◌then◌else◌, List, [], ◌∷◌, ◌++◌, length, get_or, set, take, map, fold, filter, slice_get, Some, All, refl, sym, ap, ap₂, subst, ◌∙◌, arith, true≢false}
+use Rattle.aig_core.proofs.Common.{nat_eq, list_any, cases_Bool, append-nil, append_assoc, get_or_append_left, All-nil, All-cons, All-head, All-tail, Sig, Latch, no_gate, IsSignal, numbers_from, gate_graph, IsGateOrder, Edge, And, Graph, edge, edge_to, IsEdge, den, IsSound, Building, signal_edge, building, HasEdges}
+use Rattle.std.specs.Prelude.{nat_le}
+use Rattle.std.proofs.lemmas.Bool.{cases_lt, cases_eq, lt-ltb, le-ltb, le-leb, false≢true}
+use Rattle.std.proofs.lemmas.List.{length-map, length-append, length-replicate, length-set, get_or-append_right, get_or-set_same, get_or-set_other, map-append, get_or-append-add}
+use Rattle.std.proofs.lemmas.List.Sums.{fold_more}
+use Rattle.std.proofs.lemmas.List.Elements.{All-map, All-append, All-get_or, All-set, All-replicate, filter-append}
 use Rattle.std.proofs.lemmas.Option.{none-some}
-use Rattle.cyc_base.specs.declared.sig.Sig.{Sig}
 use Rattle.cyc_base.specs.declared.trit.Trit.TheVariants.{X}
 use Rattle.cyc_base.specs.Values.{bit, bits}
+use Rattle.cyc_base.proofs.ListLemmas.{map-map}
 use Rattle.cyc_base.proofs.OrderLemmas.{bits-at}
 use Rattle.cover_logic.specs.Covers.{value}
 use Rattle.cover_logic.specs.Extensions.{ext}
 use Rattle.cover_logic.proofs.ExtensionLemmas.{ext_at_bits}
-use Rattle.netlist.specs.declared.parts.Latch.{Latch}
 use Rattle.netlist.specs.declared.parts.Parts.{Parts}
-use Rattle.netlist.specs.Netlists.{gate_at, no_gate, IsSignal, IsNetlist}
-use Rattle.netlist.specs.Orders.{numbers_from, gate_graph, IsGateOrder}
+use Rattle.netlist.specs.Netlists.{gate_at, IsNetlist}
 use Rattle.netlist.specs.Fixpoint.{wire, fix_gates, fix}
 use Rattle.netlist.proofs.FixpointLemmas.{get_or-fix}
 use Rattle.netlist.proofs.GraphLemmas.{length-gate_graph}
-use Rattle.aig_core.specs.declared.edge.Edge.{Edge}
-use Rattle.aig_core.specs.declared.edge.And.{And}
-use Rattle.aig_core.specs.Graphs.{Graph, empty, edge, edge_to, IsEdge, den}
-use Rattle.aig_core.specs.Soundness.{IsSound}
-use Rattle.aig_core.specs.Building.{columns, needed_signals, build_order, Building, signal_edge, gate_made, with_gate, nothing_built, building, built}
-use Rattle.aig_core.specs.Answers.{HasEdges, HasValues, FitsNetlist}
+use Rattle.aig_core.specs.Graphs.{empty}
+use Rattle.aig_core.specs.Building.{columns, needed_signals, build_order, gate_made, with_gate, nothing_built, built}
+use Rattle.aig_core.specs.Answers.{HasValues, FitsNetlist}
 use Rattle.aig_core.proofs.GraphLemmas.{den-column}
 use Rattle.aig_core.proofs.ConjunctionLemmas.{IsMade}
-use Rattle.aig_core.proofs.CoverLemmas.{edges_kept, cover_is, cover-grows}
+use Rattle.aig_core.proofs.CoverLemmas.{edges_kept, cover_is, cover-grows, fold-first}
+use Rattle.aig_core.proofs.DepthLemmas.{among_others}
 use Rattle.aig_core.proofs.OrderLemmas.{AllAmong, AllFollow, postorder_is, numbers_within, gate_successors, gate_ranks}
 
 -- ---- the number of ANDs
@@ -38,20 +33,9 @@ use Rattle.aig_core.proofs.OrderLemmas.{AllAmong, AllFollow, postorder_is, numbe
 pub gate-grows : (net : Parts) (b : Building) (n : ℕ) → length b.graph.ands ≤ length (with_gate net b n).graph.ands
 gate-grows net b n = cover-grows b.graph (map (signal_edge net b.edges) (gate_at net n).pins) (gate_at net n).cover
 
-gates-grow : (net : Parts) (b : Building) (gates : List ℕ) → length b.graph.ands ≤ length (fold (with_gate net) b gates).graph.ands
-gates-grow net b [] = omega arith
-gates-grow net b (n ∷ rest) =
-    let one = gate-grows net b n in
-    let others = gates-grow net (with_gate net b n) rest in
-    omega (arith, one, others)
-
 pub building-grows : (net : Parts) (gates : List ℕ) (n : ℕ) → length (building net (take n gates)).graph.ands ≤ length (building net gates).graph.ands
 unfolding building
-building-grows net gates n =
-    let split : fold (with_gate net) (nothing_built net) gates ≡ fold (with_gate net) (fold (with_gate net) (nothing_built net) (take n gates)) (drop n gates) =
-    ap (fold (with_gate net) (nothing_built net)) (sym (take-append-drop n gates)) ∙ fold-append (with_gate net) (nothing_built net) (take n gates) (drop n gates) in
-    let grows = gates-grow net (fold (with_gate net) (nothing_built net) (take n gates)) (drop n gates) in
-    omega (arith, ap (λ (b : Building). length b.graph.ands) split, grows)
+building-grows net gates n = fold-first (with_gate net) (λ b. length b.graph.ands) (gate-grows net) (nothing_built net) gates n
 
 pub building-none : (net : Parts) → building net [] ≡ nothing_built net
 unfolding building
@@ -95,8 +79,7 @@ wire-column net v s width l =
 
 wire-gate : (net : Parts) (v : List Bool) (s : Sig) → length v ≡ columns net → columns net ≤ s.0 → wire (fix net (bits v)) s ≡ get_or (fix_gates net (bits v)) (s.0 - columns net) X
 wire-gate net v s width m =
-    let len = length-map v bit in
-    get_or-append_right (bits v) (fix_gates net (bits v)) (columns net) s.0 X (omega arith) m
+    get_or-append_right (bits v) (fix_gates net (bits v)) (columns net) s.0 X (omega (arith, length-map v bit)) m
 
 pub signal_value : (net : Parts) (gates : List ℕ) (b : Building) (v : List Bool) (s : Sig) → AreBuilt net gates b → IsSignal net s
     → (columns net ≤ s.0 → list_any (nat_eq (s.0 - columns net)) gates ≡ true) → length v ≡ columns net
@@ -111,28 +94,16 @@ signal_value net gates b v s are signal among width = elim (cases_lt s.0 (column
       ∙ sym (wire-gate net v s width m)
 ]
 
--- a gate among signals is among their numbers
-among_numbers : (net : Parts) (gates : List ℕ) (s : Sig) (rest : List Sig) → AllAmong gates (numbers_from (columns net) (s ∷ rest)) → columns net ≤ s.0 → list_any (nat_eq (s.0 - columns net)) gates ≡ true
-among_numbers net gates s rest all m =
-    let P : List ℕ → Type 0 = λ ns. AllAmong gates ns in
-    let e : numbers_from (columns net) (s ∷ rest) ≡ (s.0 - columns net) ∷ numbers_from (columns net) rest = rw (le-leb (columns net) s.0 m) refl in
-    All-head (λ n. list_any (nat_eq n) gates ≡ true) (s.0 - columns net) (numbers_from (columns net) rest) (subst P e all)
-
-among_rest : (net : Parts) (gates : List ℕ) (s : Sig) (rest : List Sig) → AllAmong gates (numbers_from (columns net) (s ∷ rest)) → AllAmong gates (numbers_from (columns net) rest)
-among_rest net gates s rest all = by (nat_le (columns net) s.0) refl
-  where
-    P : List ℕ → Type 0
-    P ns = AllAmong gates ns
-
-    by : (t : Bool) → nat_le (columns net) s.0 ≡ t → AllAmong gates (numbers_from (columns net) rest)
-    by true e =
-        let is : numbers_from (columns net) (s ∷ rest) ≡ (s.0 - columns net) ∷ numbers_from (columns net) rest = rw e refl in
-        let Q : List ℕ → Type 0 = λ ns. AllAmong gates ns in
-        All-tail (λ n. list_any (nat_eq n) gates ≡ true) (s.0 - columns net) (numbers_from (columns net) rest) (subst Q is all)
-    by false e =
-        let is : numbers_from (columns net) (s ∷ rest) ≡ numbers_from (columns net) rest = rw e refl in
-        let Q : List ℕ → Type 0 = λ ns. AllAmong gates ns in
-        subst Q is all
+-- a gate among signals is among their numbers, and so are those of the rest
+among_numbers : (net : Parts) (gates : List ℕ) (s : Sig) (rest : List Sig) → AllAmong gates (numbers_from (columns net) (s ∷ rest))
+    → (columns net ≤ s.0 → list_any (nat_eq (s.0 - columns net)) gates ≡ true) × AllAmong gates (numbers_from (columns net) rest)
+among_numbers net gates s rest all = elim (cases_Bool (nat_le (columns net) s.0)) [
+  | inl above ↦
+      let among : AllAmong gates ((s.0 - columns net) ∷ numbers_from (columns net) rest) = rw above at all in
+      let test = λ (n : ℕ). list_any (nat_eq n) gates ≡ true in
+      (λ m. All-head test (s.0 - columns net) (numbers_from (columns net) rest) among, All-tail test (s.0 - columns net) (numbers_from (columns net) rest) among)
+  | inr below ↦ (λ m. absurd (true≢false (sym (le-leb (columns net) s.0 m) ∙ below)), rw below at all)
+]
 
 pub signals_values : (net : Parts) (gates : List ℕ) (b : Building) (v : List Bool) (signals : List Sig) → AreBuilt net gates b → All (IsSignal net) signals
     → AllAmong gates (numbers_from (columns net) signals) → length v ≡ columns net
@@ -140,8 +111,8 @@ pub signals_values : (net : Parts) (gates : List ℕ) (b : Building) (v : List B
 signals_values net gates b v [] are all among width = refl
 signals_values net gates b v (s ∷ rest) are all among width =
     ap₂ (λ x xs. x ∷ xs)
-    (signal_value net gates b v s are (All-head (IsSignal net) s rest all) (among_numbers net gates s rest among) width)
-    (signals_values net gates b v rest are (All-tail (IsSignal net) s rest all) (among_rest net gates s rest among) width)
+    (signal_value net gates b v s are (All-head (IsSignal net) s rest all) (among_numbers net gates s rest among).0 width)
+    (signals_values net gates b v rest are (All-tail (IsSignal net) s rest all) (among_numbers net gates s rest among).1 width)
 
 -- ---- one more gate
 
@@ -174,17 +145,12 @@ gate_built net gates b n valid are l among =
             ∙ ap (ext (gate_at net n).cover) (signals_values net gates b v (gate_at net n).pins are (valid.pins n no_gate l) among width)
             ∙ sym (get_or-fix net (bits v) n l))
         | inr ne ↦
-            let before : list_any (nat_eq m) gates ≡ true =
-            sym (list_any-append (nat_eq m) gates (n ∷ []) ∙ ap (λ t. list_any (nat_eq m) gates || (t || false)) (ne_eqb m n ne) ∙ or_false (list_any (nat_eq m) gates)) ∙ there in
+            let before : list_any (nat_eq m) gates ≡ true = sym (among_others gates m n ne) ∙ there in
             ap (λ x. bit (den made.graph x v)) (get_or-set_other b.edges n m made.edge (edge 0) ne)
             ∙ ap bit (is.extends.keeps (get_or b.edges m (edge 0)) v (All-get_or (IsEdge b.graph) b.edges m (edge 0) (omega (arith, are.has.width)) are.has.all) (omega (arith, are.has.inputs, are.has.latches)))
             ∙ are.values m v k before width
       ];
     }
-  where
-    or_false : (t : Bool) → (t || (false || false)) ≡ t
-    or_false true = refl
-    or_false false = refl
 
 pub nothing_is_built : (net : Parts) → AreBuilt net [] (nothing_built net)
 nothing_is_built net = record {
@@ -202,20 +168,13 @@ nothing_is_built net = record {
     none i x at = absurd (none-some x at)
 
 gates_built : (net : Parts) (seen rest : List ℕ) (b : Building) → IsNetlist net → AreBuilt net seen b → AllFollow (gate_graph net) seen rest → AreBuilt net (seen ++ rest) (fold (with_gate net) b rest)
-gates_built net seen [] b valid are follow = let P : List ℕ → Type 0 = λ gates. AreBuilt net gates b in subst P (sym (append-nil seen)) are
+gates_built net seen [] b valid are follow = rw append-nil are
 gates_built net seen (n ∷ rest) b valid are follow =
-    let size = length-gate_graph net in
-    let l : n < length net.gates = omega (arith, follow.0) in
-    let Q : List ℕ → Type 0 = λ ns. AllAmong seen ns in
-    let one = gate_built net seen b n valid are l (subst Q (gate_successors net n l) follow.1) in
-    let P : List ℕ → Type 0 = λ gates. AreBuilt net gates (fold (with_gate net) (with_gate net b n) rest) in
-    subst P (append_assoc seen (n ∷ []) rest) (gates_built net (seen ++ n ∷ []) rest (with_gate net b n) valid one follow.2)
+    let l : n < length net.gates = omega (arith, length-gate_graph net, follow.0) in
+    let one = gate_built net seen b n valid are l (rw (gate_successors net n l) at follow.1) in
+    rw (← append_assoc seen (n ∷ []) rest) (gates_built net (seen ++ n ∷ []) rest (with_gate net b n) valid one follow.2)
 
 -- ---- the whole netlist
-
-pub map-map : {A B C : Type 0} (xs : List A) (f : A → B) (h : B → C) → map h (map f xs) ≡ map (λ x. h (f x)) xs
-map-map {A} {B} {C} [] f h = refl
-map-map {A} {B} {C} (x ∷ xs) f h = ap (λ ys. h (f x) ∷ ys) (map-map xs f h)
 
 pub sources_are : (net : Parts) → IsNetlist net → All (IsSignal net) (map (λ (latch : Latch). latch.from) net.latches)
 sources_are net valid = All-map (IsSignal net) (λ (latch : Latch). latch.from) net.latches valid.sources
@@ -236,9 +195,7 @@ all_right P xs ys h k d l = subst P (get_or-append-add xs ys k d) (h (length xs 
 
 pub needed_in_graph : (net : Parts) → IsNetlist net → All (λ n. n < length (gate_graph net)) (numbers_from (columns net) (needed_signals net))
 needed_in_graph net valid k d l =
-    let size = length-gate_graph net in
-    let low = needed_within net valid k d l in
-    omega (arith, low)
+    omega (arith, length-gate_graph net, needed_within net valid k d l)
 
 order_within : (graph : List (List ℕ)) (count : ℕ) (seen nodes : List ℕ) → length graph ≡ count → AllFollow graph seen nodes → All (λ n. n < count) nodes
 order_within graph count seen [] size h = All-nil (λ n. n < count)
@@ -259,8 +216,7 @@ unfolding building
 whole_built net order valid is =
     let ranks = gate_ranks net order valid is in
     let placed = postorder_is (gate_graph net) ranks (numbers_from (columns net) (needed_signals net)) (needed_in_graph net valid) in
-    let P : List ℕ → Type 0 = λ ns. AllAmong (build_order net) ns in
-    let all = subst P (numbers-append (columns net) net.outputs (map (λ (latch : Latch). latch.from) net.latches)) placed.all in
+    let all = subst (λ (ns : List ℕ). AllAmong (build_order net) ns) (numbers-append (columns net) net.outputs (map (λ (latch : Latch). latch.from) net.latches)) placed.all in
     let among = λ (n : ℕ). list_any (nat_eq n) (build_order net) ≡ true in
     record {
       are = gates_built net [] (build_order net) (nothing_built net) valid (nothing_is_built net) placed.order;
@@ -275,9 +231,9 @@ built_has_values net order valid is =
     record {
       outputs = λ v width. signals_values net (build_order net) b v net.outputs whole.are valid.outputs whole.outputs width;
       nexts = λ v width.
-          ap (λ es. bits (map (λ e. den b.graph e v) es)) (sym (map-map net.latches (λ (latch : Latch). latch.from) (signal_edge net b.edges)))
+          ap (λ es. bits (map (λ e. den b.graph e v) es)) (sym (map-map (signal_edge net b.edges) (λ (latch : Latch). latch.from) net.latches))
           ∙ signals_values net (build_order net) b v (map (λ (latch : Latch). latch.from) net.latches) whole.are (sources_are net valid) whole.nexts width
-          ∙ map-map net.latches (λ (latch : Latch). latch.from) (wire (fix net (bits v)));
+          ∙ map-map (wire (fix net (bits v))) (λ (latch : Latch). latch.from) net.latches;
     }
 
 pub built_fits : (net : Parts) (order : List ℕ) → IsNetlist net → IsGateOrder net order → FitsNetlist net (built net)

@@ -1,18 +1,14 @@
 -- The conjunction of two edges is a sound graph's edge, with the value of the conjunction.
-use Rattle.std.proofs.Common.{◌≡◌, ◌≢◌, ◌⊎◌, inl, inr, ℕ, ◌+◌, ◌%◌, ◌<◌, ◌≤◌, ◌==◌, ◌&&◌, ◌||◌, Bool, true, false, not, leb, if◌then◌else◌, List, [], ◌∷◌, ◌++◌, length, get_or, slice_get, Option, Some, None, MatchOption, refl, sym, ap, ap₂, subst, ◌∙◌, arith, length-append, true≢false}
-use Rattle.std.specs.List.{list_any, position_or_len}
+use Rattle.std.proofs.Common.{◌≡◌, ◌≢◌, ◌⊎◌, inl, inr, ℕ, zero, suc, ◌+◌, ◌<◌, ◌≤◌, ◌==◌, ◌&&◌, ◌||◌, Bool, true, false, not, leb, if◌then◌else◌, List, [], ◌∷◌, ◌++◌, length, get_or, slice_get, Option, Some, None, MatchOption, refl, sym, ap, ap₂, subst, ◌∙◌, arith, true≢false}
+use Rattle.aig_core.proofs.Common.{list_any, position_or_len, cases_Bool, eq-eqb, append-nil, length_push, slice_get_within, get_or_from_slice_get, Edge, And, Graph, with_ands, first_and, edge, complement, IsEdge, den, IsSound, IsVector, Extends, Made, simple_and, pair_of, same_pair, entered, hashed, conjunction, found}
 use Rattle.std.specs.Option.{option_map_or}
-use Rattle.std.proofs.lemmas.Bool.{cases_Bool, cases_lt, eqb-true, eqb-false, leb-true, leb-false, and_parts}
-use Rattle.std.proofs.lemmas.List.{append-nil, length_push, get_or_push, get_or_append_left}
-use Rattle.std.proofs.lemmas.Option.{slice_get-get_or, slice_get_within, get_or_from_slice_get}
-use Rattle.std.proofs.lemmas.List.Sums.{passes_at_first, position_or_len_is}
-use Rattle.std.proofs.lemmas.List.Folds.{list_any_at}
+use Rattle.std.proofs.lemmas.Bool.{cases_lt, eqb-true, eqb-false, false_from_ne_true, leb-true, leb-false, and_parts}
+use Rattle.std.proofs.lemmas.Option.{slice_get-get_or, same_Some}
+use Rattle.std.proofs.lemmas.List.Sums.{fails_before_first, passes_at_first, position_or_len_is}
+use Rattle.std.proofs.lemmas.List.Folds.{list_any_at, list_any_none}
 use Rattle.cyc_base.proofs.TruthLemmas.{and_comm, and_with_true}
-use Rattle.aig_core.specs.declared.edge.Edge.{Edge}
-use Rattle.aig_core.specs.declared.edge.And.{And}
-use Rattle.aig_core.specs.Graphs.{Graph, with_ands, first_and, variables, edge, complement, IsEdge, den}
-use Rattle.aig_core.specs.Soundness.{IsSoundAnd, IsSound, IsVector, Extends}
-use Rattle.aig_core.specs.Conjunctions.{Made, simple_and, pair_of, same_pair, entered, hashed, conjunction, found}
+use Rattle.aig_core.specs.Graphs.{variables}
+use Rattle.aig_core.specs.Soundness.{IsSoundAnd}
 use Rattle.aig_core.proofs.GraphLemmas.{den-complement, den-constant, den-and, extended}
 
 pub same_edge : (a b : Edge) → a.0 ≡ b.0 → a ≡ b
@@ -61,25 +57,17 @@ zero_is_edge : (g : Graph) → IsEdge g (edge 0)
 zero_is_edge g = omega arith
 
 module _ (a b : Edge) where
+  none : ((g : Graph) (v : List Bool) → (den g a v && den g b v) ≡ false) → IsSimple a b (edge 0)
+  none never = record { edge_of = λ g _ _. zero_is_edge g; value = λ g v. den-constant g v ∙ sym (never g v) }
+
   zero_left : a.0 ≡ 0 → IsSimple a b (edge 0)
-  zero_left h = record {
-    edge_of = λ g _ _. zero_is_edge g;
-    value = λ g v. den-constant g v ∙ ap (λ x. x && den g b v) (sym (den-zero g a v h));
-  }
+  zero_left h = none (λ g v. ap (λ x. x && den g b v) (den-zero g a v h))
 
   zero_right : b.0 ≡ 0 → IsSimple a b (edge 0)
-  zero_right h = record {
-    edge_of = λ g _ _. zero_is_edge g;
-    value = λ g v. den-constant g v ∙ and_false (den g a v) ∙ ap (λ x. den g a v && x) (sym (den-zero g b v h));
-  }
+  zero_right h = none (λ g v. ap (λ x. den g a v && x) (den-zero g b v h) ∙ sym (and_false (den g a v)))
 
   opposites : a.0 ≡ (complement b).0 → IsSimple a b (edge 0)
-  opposites h = record {
-    edge_of = λ g _ _. zero_is_edge g;
-    value = λ g v.
-        den-constant g v ∙ and_opposite (den g b v)
-        ∙ ap (λ x. x && den g b v) (sym (ap (λ x. den g x v) (same_edge a (complement b) h) ∙ den-complement g b v));
-  }
+  opposites h = none (λ g v. ap (λ x. den g x v && den g b v) (same_edge a (complement b) h) ∙ ap (λ x. x && den g b v) (den-complement g b v) ∙ sym (and_opposite (den g b v)))
 
   one_left : a.0 ≡ 1 → IsSimple a b b
   one_left h = record { edge_of = λ g _ k. k; value = λ g v. ap (λ x. x && den g b v) (sym (den-one g a v h)) }
@@ -118,8 +106,7 @@ module _ (a b : Edge) where
 -- ---- an AND that is made or found
 
 opposite_back : (a b : Edge) → b.0 ≡ (complement a).0 → a.0 ≡ (complement b).0
-opposite_back a b h =
-    elim (cases_lt (a.0 % 2) 1) [ inl low ↦ omega (arith, h) | inr high ↦ omega (arith, h) ]
+opposite_back a b h = omega arith
 
 -- the pair of edges that are apart
 pub record IsPair (g : Graph) (a b : Edge) (x : And) : Type 0 where
@@ -132,19 +119,14 @@ pair_is g a b in_a in_b apart = by (leb b.0 a.0) refl
     by : (t : Bool) → leb b.0 a.0 ≡ t → IsPair g a b (if t then record { greater = a; smaller = b } else record { greater = b; smaller = a })
     by true e =
         let le = leb-true b.0 a.0 e in
-        let other = apart.equal in
-        let one = apart.b_one in
-        let zero_b = apart.b_zero in
         record {
-          sound = record { earlier = in_a; greater = omega arith; constant = omega arith; apart = apart.complements };
+          sound = record { earlier = in_a; greater = omega (arith, apart.equal); constant = omega (arith, apart.b_zero, apart.b_one); apart = apart.complements };
           value = λ v. refl;
         }
     by false e =
         let lt = leb-false b.0 a.0 e in
-        let one = apart.a_one in
-        let zero_a = apart.a_zero in
         record {
-          sound = record { earlier = in_b; greater = omega arith; constant = omega arith; apart = λ h. apart.complements (opposite_back a b h) };
+          sound = record { earlier = in_b; greater = omega arith; constant = omega (arith, apart.a_zero, apart.a_one); apart = λ h. apart.complements (opposite_back a b h) };
           value = λ v. and_comm (den g b v) (den g a v);
         }
 
@@ -152,11 +134,11 @@ pair_is g a b in_a in_b apart = by (leb b.0 a.0) refl
 none_passes : (ands : List And) (x : And) → list_any (same_pair x) ands ≡ false → position_or_len (same_pair x) ands ≡ length ands
 none_passes ands x none =
     position_or_len_is (same_pair x) ands (length ands) x (omega arith)
-    (λ k l. elim (cases_Bool (same_pair x (get_or ands k x))) [
-      | inl t ↦ absurd (true≢false (sym (list_any_at (same_pair x) ands k x l t) ∙ none))
-      | inr f ↦ f
-    ])
+    (λ k l. false_from_ne_true _ (λ t. true≢false (sym (list_any_at (same_pair x) ands k x l t) ∙ none)))
     (λ l. absurd (omega (arith, l)))
+
+pub Extends-refl : (g : Graph) → Extends g g
+Extends-refl g = subst (λ ands. Extends g (with_ands g ands)) (append-nil g.ands) (extended g [])
 
 -- what is known of the ANDs after one was entered, at its place
 pub record IsEntered (g : Graph) (x : And) : Type 0 where
@@ -168,41 +150,29 @@ pub record IsEntered (g : Graph) (x : And) : Type 0 where
   pub grows : length g.ands ≤ length (entered g.ands x)
 
 pub any_place : {T : Type 0} (p : T → Bool) (xs : List T) → list_any p xs ≡ true → position_or_len p xs < length xs
-any_place {T} p [] h = absurd (true≢false (sym h))
-any_place {T} p (y ∷ ys) h = by (p y) refl (λ e. any_place p ys (sym (ap (λ t. t || list_any p ys) e) ∙ h))
-  where
-    by : (t : Bool) → p y ≡ t → (p y ≡ false → position_or_len p ys < length ys) → position_or_len p (y ∷ ys) < length (y ∷ ys)
-    by true e rest = rw e (omega arith)
-    by false e rest = rw e (let l = rest e in omega (arith, l))
-
-slice_get-left : (xs ys : List And) (p : ℕ) → p < length xs → slice_get (xs ++ ys) p ≡ slice_get xs p
-slice_get-left [] ys p h = absurd (omega arith)
-slice_get-left (x ∷ xs) ys p h =
-    let longer : p < length ((x ∷ xs) ++ ys) = omega (arith, length-append (x ∷ xs) ys) in
-    slice_get-get_or ((x ∷ xs) ++ ys) p x longer ∙ ap Some (get_or_append_left (x ∷ xs) ys x p h) ∙ sym (slice_get-get_or (x ∷ xs) p x h)
+any_place p xs h = elim (cases_lt (position_or_len p xs) (length xs)) [
+  | inl inside ↦ inside
+  | inr past ↦ absurd (true≢false (sym h ∙ list_any_none p xs (λ k d l. fails_before_first p xs k d (omega arith))))
+]
 
 -- an AND of a longer list is there already or is the last
 read_push : (xs : List And) (x y : And) (p : ℕ) → slice_get (xs ++ x ∷ []) p ≡ Some y → (slice_get xs p ≡ Some y) ⊎ ((p ≡ length xs) × (y ≡ x))
-read_push xs x y p at = elim (cases_lt p (length xs)) [
-  | inl l ↦ inl (sym (slice_get-left xs (x ∷ []) p l) ∙ at)
-  | inr g ↦
-      let within : p < length (xs ++ x ∷ []) = slice_get_within (xs ++ x ∷ []) p y at in
-      let last : p ≡ length xs = omega (arith, length_push xs x) in
-      inr (last, sym (get_or_from_slice_get (xs ++ x ∷ []) p y x at) ∙ get_or_push xs x x p (sym last))
-]
+read_push [] x y (suc p) at = absurd (cc)
+read_push [] x y zero at = inr (refl, sym (same_Some x y at))
+read_push (z ∷ xs) x y zero at = inl at
+read_push (z ∷ xs) x y (suc p) at = elim (read_push xs x y p at) [ inl there ↦ inl there | inr last ↦ inr (ap suc last.0, last.1) ]
+
+slice_get-last : (xs : List And) (x : And) → slice_get (xs ++ x ∷ []) (length xs) ≡ Some x
+slice_get-last [] x = refl
+slice_get-last (y ∷ xs) x = slice_get-last xs x
 
 -- the AND itself isn't among those that none of passes
 absent : (ands : List And) (x : And) (p : ℕ) → list_any (same_pair x) ands ≡ false → slice_get ands p ≡ Some x → ⊥
 absent ands x p none at =
     let within = slice_get_within ands p x at in
     let is = get_or_from_slice_get ands p x x at in
-    true≢false (sym (list_any_at (same_pair x) ands p x within (ap (same_pair x) is ∙ same_itself)) ∙ none)
-  where
-    eqb-refl : (n : ℕ) → (n == n) ≡ true
-    eqb-refl n = elim (cases_Bool (n == n)) [ inl t ↦ t | inr f ↦ absurd (eqb-false n n f refl) ]
-
-    same_itself : same_pair x x ≡ true
-    same_itself = ap₂ (λ b c. b && c) (eqb-refl x.greater.0) (eqb-refl x.smaller.0)
+    let itself : same_pair x x ≡ true = ap₂ (λ b c. b && c) (eq-eqb x.greater.0 x.greater.0 refl) (eq-eqb x.smaller.0 x.smaller.0 refl) in
+    true≢false (sym (list_any_at (same_pair x) ands p x within (ap (same_pair x) is ∙ itself)) ∙ none)
 
 pushed_sound : (g : Graph) (x : And) → IsSound g → IsSoundAnd (variables g) x → list_any (same_pair x) g.ands ≡ false → IsSound (with_ands g (g.ands ++ x ∷ []))
 pushed_sound g x sound here none = record {
@@ -231,9 +201,9 @@ entered_is g x sound here = elim (cases_Bool (list_any (same_pair x) g.ands)) [
       let is : slice_get g.ands p ≡ Some x =
       slice_get-get_or g.ands p x l ∙ ap Some (sym (same_and x (get_or g.ands p x) (passes_at_first (same_pair x) g.ands x l))) in
       record {
-        sound = subst (λ ands. IsSound (with_ands g ands)) (sym old) sound;
-        extends = subst (λ ands. Extends g (with_ands g ands)) (append-nil g.ands ∙ sym old) (extended g []);
-        place = ap (λ ands. slice_get ands p) old ∙ is;
+        sound = rw old sound;
+        extends = rw old (Extends-refl g);
+        place = rw old is;
         within = omega (arith, ap length old, l);
         earlier = omega (arith, l);
         grows = omega (arith, ap length old);
@@ -244,9 +214,9 @@ entered_is g x sound here = elim (cases_Bool (list_any (same_pair x) g.ands)) [
       let last : p ≡ length g.ands = none_passes g.ands x f in
       let longer = length_push g.ands x in
       record {
-        sound = subst (λ ands. IsSound (with_ands g ands)) (sym new) (pushed_sound g x sound here f);
-        extends = subst (λ ands. Extends g (with_ands g ands)) (sym new) (extended g (x ∷ []));
-        place = ap (λ ands. slice_get ands p) new ∙ slice_get-get_or (g.ands ++ x ∷ []) p x (omega arith) ∙ ap Some (get_or_push g.ands x x p (sym last));
+        sound = rw new (pushed_sound g x sound here f);
+        extends = rw new (extended g (x ∷ []));
+        place = rw (new, last) (slice_get-last g.ands x);
         within = omega (arith, ap length new);
         earlier = omega arith;
         grows = omega (arith, ap length new);
@@ -262,10 +232,14 @@ pub record IsMade (old : Graph) (made : Made) (value : List Bool → Bool) : Typ
   pub grows : length old.ands ≤ length made.graph.ands
   pub value_is : (v : List Bool) → IsVector old v → den made.graph made.edge v ≡ value v
 
+-- the value in other words
+pub made_alike : {g : Graph} {made : Made} {f : List Bool → Bool} (h : List Bool → Bool) → IsMade g made f → ((v : List Bool) → IsVector g v → f v ≡ h v) → IsMade g made h
+made_alike h is same = record { sound = is.sound; extends = is.extends; is_edge = is.is_edge; grows = is.grows; value_is = λ v k. is.value_is v k ∙ same v k }
+
 pub found_is : (g : Graph) (e : Edge) → IsSound g → IsEdge g e → IsMade g (found g e) (λ v. den g e v)
 found_is g e sound is_edge = record {
   sound = sound;
-  extends = subst (λ ands. Extends g (with_ands g ands)) (append-nil g.ands) (extended g []);
+  extends = Extends-refl g;
   is_edge = is_edge;
   grows = omega arith;
   value_is = λ v h. refl;
@@ -277,17 +251,14 @@ hashed_is g a b sound in_a in_b apart =
     let x = pair_of a b in
     let is = entered_is g x sound pair.sound in
     let p = position_or_len (same_pair x) g.ands in
-    let at = is.place in
-    let high = pair.sound.earlier in
-    let low = pair.sound.greater in
     record {
       sound = is.sound;
       extends = is.extends;
       is_edge = omega (arith, is.within);
       grows = is.grows;
       value_is = λ v h.
-          den-and (hashed g x).graph p x v at (is.sound.each p x at) h
-          ∙ ap₂ (λ s t. s && t) (is.extends.keeps x.greater v high h) (is.extends.keeps x.smaller v (omega arith) h)
+          den-and (hashed g x).graph p x v is.place (is.sound.each p x is.place) h
+          ∙ ap₂ (λ s t. s && t) (is.extends.keeps x.greater v pair.sound.earlier h) (is.extends.keeps x.smaller v (omega (arith, pair.sound.earlier, pair.sound.greater)) h)
           ∙ pair.value v;
     }
 
@@ -297,9 +268,7 @@ conjunction_is g a b sound in_a in_b = by (simple_and a b) (simple_cases a b)
   where
     by : (o : Option Edge) → MatchOption o (AreApart a b) (IsSimple a b) → IsMade g (option_map_or (found g) o (hashed g (pair_of a b))) (λ v. den g a v && den g b v)
     by None apart = hashed_is g a b sound in_a in_b apart
-    by (Some e) simple =
-        let is = found_is g e sound (simple.edge_of g in_a in_b) in
-        record { sound = is.sound; extends = is.extends; is_edge = is.is_edge; grows = is.grows; value_is = λ v h. simple.value g v }
+    by (Some e) simple = made_alike (λ v. den g a v && den g b v) (found_is g e sound (simple.edge_of g in_a in_b)) (λ v h. simple.value g v)
 
 pub conjunction-some : (g : Graph) (a b e : Edge) → simple_and a b ≡ Some e → conjunction g a b ≡ found g e
 unfolding conjunction
@@ -310,7 +279,7 @@ unfolding conjunction
 conjunction-none g a b h = rw h refl
 
 pub apart_at : (a b : Edge) → simple_and a b ≡ None → AreApart a b
-apart_at a b h = let C : Option Edge → Type 0 = λ o. MatchOption o (AreApart a b) (IsSimple a b) in subst C h (simple_cases a b)
+apart_at a b h = rw h at (simple_cases a b)
 
 pub simple_at : (a b e : Edge) → simple_and a b ≡ Some e → IsSimple a b e
-simple_at a b e h = let C : Option Edge → Type 0 = λ o. MatchOption o (AreApart a b) (IsSimple a b) in subst C h (simple_cases a b)
+simple_at a b e h = rw h at (simple_cases a b)

@@ -1,26 +1,23 @@
 -- The edge of a cover has its value, and no AND is ever taken away.
-use Rattle.std.proofs.Common.{◌≡◌, ℕ, ◌+◌, ◌<◌, ◌≤◌, ◌&&◌, ◌||◌, Bool, true, false, not, if◌then◌else◌, List, [], ◌∷◌, ◌++◌, length, get_or, take, drop, min, fold, map, All, refl, sym, ap, ap₂, subst, ◌∙◌, arith, length-append}
-use Rattle.std.specs.List.{list_any, list_all, zip}
+use Rattle.std.proofs.Common.{◌≡◌, ℕ, ◌+◌, ◌<◌, ◌≤◌, ◌&&◌, ◌||◌, Bool, true, false, not, if◌then◌else◌, List, [], ◌∷◌, ◌++◌, length, get_or, take, drop, min, fold, map, All, refl, sym, ap, ap₂, ◌∙◌, arith, length-append}
+use Rattle.aig_core.proofs.Common.{list_any, zip, append_assoc, length_push, take-append-drop, fold-append, All-head, All-tail, All-cons, Edge, And, Graph, with_ands, complement, IsEdge, den, IsSound, IsVector, Extends, Made, found, constant, simple_and, pair_of, same_pair, entered, hashed, conjunction, row_made, with_row}
+use Rattle.std.specs.List.{list_all}
 use Rattle.std.specs.Option.{option_map_or}
 use Rattle.std.specs.declared.option.Option.{Option}
 use Rattle.std.specs.Prelude.{Some, None}
-use Rattle.std.proofs.lemmas.List.{append_assoc, append-nil, length_push, take-append-drop, take_all}
-use Rattle.std.proofs.lemmas.List.Sums.{fold-append, fold_more}
+use Rattle.std.proofs.lemmas.List.{take_all}
+use Rattle.std.proofs.lemmas.List.Sums.{fold_more}
 use Rattle.std.proofs.lemmas.Slice.Zip.{length-zip, get_or-zip}
-use Rattle.std.proofs.lemmas.List.Elements.{All-head, All-tail, All-cons, All-weaker}
+use Rattle.std.proofs.lemmas.List.Elements.{All-weaker}
 use Rattle.cyc_base.proofs.TruthLemmas.{and_with_true, and_assoc, or_assoc, or_with_false}
 use Rattle.cover_logic.specs.Covers.{Cover, allows, matches, some_row_matches, value_of_rows, value}
 use Rattle.cover_logic.specs.declared.row.Lit.{Lit}
 use Rattle.cover_logic.specs.declared.row.Lit.TheVariants.{Zero, One, Any}
 use Rattle.cover_logic.specs.declared.row.Row.{Row}
-use Rattle.aig_core.specs.declared.edge.Edge.{Edge}
-use Rattle.aig_core.specs.declared.edge.And.{And}
-use Rattle.aig_core.specs.Graphs.{Graph, with_ands, edge, complement, IsEdge, den}
-use Rattle.aig_core.specs.Soundness.{IsSound, IsVector, Extends}
-use Rattle.aig_core.specs.Conjunctions.{Made, found, constant, simple_and, pair_of, same_pair, entered, hashed, conjunction, disjunction, complemented}
-use Rattle.aig_core.specs.Covers.{with_pin, row_made, with_row, rows_made, in_plane, cover_made}
-use Rattle.aig_core.proofs.GraphLemmas.{den-complement, den-constant, extended, IsEdge-complement}
-use Rattle.aig_core.proofs.ConjunctionLemmas.{IsMade, conjunction_is, found_is, same_edge}
+use Rattle.aig_core.specs.Conjunctions.{disjunction, complemented}
+use Rattle.aig_core.specs.Covers.{with_pin, rows_made, in_plane, cover_made}
+use Rattle.aig_core.proofs.GraphLemmas.{den-complement, den-constant, IsEdge-complement}
+use Rattle.aig_core.proofs.ConjunctionLemmas.{IsMade, Extends-refl, conjunction_is, made_alike}
 
 -- ---- graphs that extend others
 
@@ -33,9 +30,6 @@ IsEdge-kept {old} {new} x e h = rw e.is (omega (arith, h, length-append old.ands
 pub edges_kept : {old new : Graph} (xs : List Edge) → Extends old new → All (IsEdge old) xs → All (IsEdge new) xs
 edges_kept {old} {new} xs e h = All-weaker (IsEdge old) (IsEdge new) (λ x k. IsEdge-kept x e k) xs h
 
-pub Extends-refl : (g : Graph) → Extends g g
-Extends-refl g = subst (λ ands. Extends g (with_ands g ands)) (append-nil g.ands) (extended g [])
-
 pub Extends-trans : {a b c : Graph} → Extends a b → Extends b c → Extends a c
 Extends-trans {a} {b} {c} e f = record {
   more = e.more ++ f.more;
@@ -45,12 +39,22 @@ Extends-trans {a} {b} {c} e f = record {
 
 -- ---- the number of ANDs
 
+-- calls that take nothing away, one after another
+pub fold-grows : {A B : Type 0} (f : B → A → B) (size : B → ℕ) → ((b : B) (a : A) → size b ≤ size (f b a)) → (b : B) (xs : List A) → size b ≤ size (fold f b xs)
+fold-grows f size grows b [] = omega arith
+fold-grows f size grows b (x ∷ xs) = omega (arith, grows b x, fold-grows f size grows (f b x) xs)
+
+-- and the first of them have made no more than all
+pub fold-first : {A B : Type 0} (f : B → A → B) (size : B → ℕ) → ((b : B) (a : A) → size b ≤ size (f b a)) → (b : B) (xs : List A) (n : ℕ) → size (fold f b (take n xs)) ≤ size (fold f b xs)
+fold-first f size grows b xs n =
+    let split : fold f b xs ≡ fold f (fold f b (take n xs)) (drop n xs) = ap (fold f b) (sym (take-append-drop n xs)) ∙ fold-append f b (take n xs) (drop n xs) in
+    omega (arith, ap size split, fold-grows f size grows (fold f b (take n xs)) (drop n xs))
+
+abbrev pub made_size : Made → ℕ
+made_size made = length made.graph.ands
+
 pub entered-grows : (ands : List And) (x : And) → length ands ≤ length (entered ands x)
-entered-grows ands x = by (list_any (same_pair x) ands)
-  where
-    by : (t : Bool) → length ands ≤ length (if t then ands else ands ++ x ∷ [])
-    by true = omega arith
-    by false = omega (arith, length_push ands x)
+entered-grows ands x = elim (list_any (same_pair x) ands) as (λ t. length ands ≤ length (if t then ands else ands ++ x ∷ [])) [ true ↦ omega arith | false ↦ omega (arith, length_push ands x) ]
 
 pub conjunction-grows : (g : Graph) (a b : Edge) → length g.ands ≤ length (conjunction g a b).graph.ands
 unfolding conjunction
@@ -68,30 +72,18 @@ with_pin-grows made pin Any = omega arith
 abbrev pub with_pair : Made → Edge × Lit → Made
 with_pair made pin = with_pin made pin.0 pin.1
 
-pub pins-grow : (made : Made) (pins : List (Edge × Lit)) → length made.graph.ands ≤ length (fold with_pair made pins).graph.ands
-pins-grow made [] = omega arith
-pins-grow made (p ∷ ps) =
-    let one = with_pin-grows made p.0 p.1 in
-    let rest = pins-grow (with_pair made p) ps in
-    omega arith
+pub with_pair-grows : (made : Made) (pin : Edge × Lit) → made_size made ≤ made_size (with_pair made pin)
+with_pair-grows made pin = with_pin-grows made pin.0 pin.1
 
 pub row-grows : (g : Graph) (pins : List Edge) (lits : List Lit) → length g.ands ≤ length (row_made g pins lits).graph.ands
 unfolding row_made
-row-grows g pins lits = pins-grow (found g (constant true)) (zip pins lits)
+row-grows g pins lits = fold-grows with_pair made_size with_pair-grows (found g (constant true)) (zip pins lits)
 
 pub with_row-grows : (pins : List Edge) (made : Made) (row : Row) → length made.graph.ands ≤ length (with_row pins made row).graph.ands
 with_row-grows pins made row =
     let next = row_made made.graph pins row.lits in
-    let first = row-grows made.graph pins row.lits in
     let last = conjunction-grows next.graph (complement made.edge) (complement next.edge) in
-    omega (arith, first, last)
-
-pub rows-grow : (pins : List Edge) (made : Made) (rows : List Row) → length made.graph.ands ≤ length (fold (with_row pins) made rows).graph.ands
-rows-grow pins made [] = omega arith
-rows-grow pins made (r ∷ rs) =
-    let one = with_row-grows pins made r in
-    let rest = rows-grow pins (with_row pins made r) rs in
-    omega arith
+    omega (arith, row-grows made.graph pins row.lits, last)
 
 pub in_plane-graph : (plane : Bool) (rows : List Row) (made : Made) → (in_plane plane rows made).graph ≡ made.graph
 in_plane-graph true rows made = refl
@@ -101,8 +93,7 @@ in_plane-graph false (row ∷ rows) made = refl
 pub cover-grows : (g : Graph) (pins : List Edge) (cover : Cover) → length g.ands ≤ length (cover_made g pins cover).graph.ands
 unfolding rows_made
 cover-grows g pins cover =
-    let rows = rows-grow pins (found g (constant false)) cover.rows in
-    omega (arith, rows, ap (λ (h : Graph). length h.ands) (in_plane-graph cover.plane cover.rows (rows_made g pins cover.rows)))
+    omega (arith, fold-grows (with_row pins) made_size (with_row-grows pins) (found g (constant false)) cover.rows, ap (λ (h : Graph). length h.ands) (in_plane-graph cover.plane cover.rows (rows_made g pins cover.rows)))
 
 -- ---- values
 
@@ -125,21 +116,18 @@ complemented_is {g} {made} {f} is = record {
   value_is = λ v k. den-complement made.graph made.edge v ∙ ap not (is.value_is v k);
 }
 
-pub constant_is : (g : Graph) (b : Bool) → IsSound g → IsMade g (found g (constant b)) (λ v. b)
-constant_is g true sound = record {
-  sound = sound;
-  extends = Extends-refl g;
-  is_edge = omega arith;
-  grows = omega arith;
-  value_is = λ v k. ap (λ x. den g x v) (same_edge (edge 1) (complement (edge 0)) refl) ∙ den-complement g (edge 0) v ∙ ap not (den-constant g v);
-}
-constant_is g false sound = record {
+false_is : (g : Graph) → IsSound g → IsMade g (found g (constant false)) (λ v. false)
+false_is g sound = record {
   sound = sound;
   extends = Extends-refl g;
   is_edge = omega arith;
   grows = omega arith;
   value_is = λ v k. den-constant g v;
 }
+
+pub constant_is : (g : Graph) (b : Bool) → IsSound g → IsMade g (found g (constant b)) (λ v. b)
+constant_is g true sound = complemented_is (false_is g sound)
+constant_is g false sound = false_is g sound
 
 pub de_morgan : (a b : Bool) → not (not a && not b) ≡ (a || b)
 de_morgan true b = refl
@@ -157,26 +145,17 @@ with_pin_is {g} {made} {f} pin One is in_g =
     made_then (λ v. f v && den g pin v) is
     (conjunction_is made.graph made.edge pin is.sound is.is_edge pin_kept)
     (λ v k. ap₂ (λ a b. a && b) (is.value_is v k) (is.extends.keeps pin v in_g k))
-with_pin_is {g} {made} {f} pin Any is in_g =
-    made_then (λ v. f v && true) is (found_is made.graph made.edge is.sound is.is_edge)
-    (λ v k. is.value_is v k ∙ and_with_true (f v))
+with_pin_is {g} {made} {f} pin Any is in_g = made_alike (λ v. f v && true) is (λ v k. and_with_true (f v))
 
 abbrev pub pin_allows : Graph → List Bool → Edge × Lit → Bool
 pin_allows g v pin = allows pin.1 (den g pin.0 v)
 
 pins_are : (g : Graph) (pins : List (Edge × Lit)) (made : Made) (f : List Bool → Bool) → IsMade g made f → All (λ (p : Edge × Lit). IsEdge g p.0) pins → IsMade g (fold with_pair made pins) (λ v. f v && list_all (pin_allows g v) pins)
-pins_are g [] made f is in_g =
-    made_then (λ v. f v && true) is (found_is made.graph made.edge is.sound is.is_edge) (λ v k. is.value_is v k ∙ and_with_true (f v))
+pins_are g [] made f is in_g = made_alike (λ v. f v && true) is (λ v k. and_with_true (f v))
 pins_are g (p ∷ ps) made f is in_g =
     let one = with_pin_is p.0 p.1 is (All-head (λ (q : Edge × Lit). IsEdge g q.0) p ps in_g) in
     let rest = pins_are g ps (with_pair made p) (λ v. f v && pin_allows g v p) one (All-tail (λ (q : Edge × Lit). IsEdge g q.0) p ps in_g) in
-    record {
-      sound = rest.sound;
-      extends = rest.extends;
-      is_edge = rest.is_edge;
-      grows = rest.grows;
-      value_is = λ v k. rest.value_is v k ∙ and_assoc (f v) (pin_allows g v p) (list_all (pin_allows g v) ps);
-    }
+    made_alike (λ v. f v && list_all (pin_allows g v) (p ∷ ps)) rest (λ v k. and_assoc (f v) (pin_allows g v p) (list_all (pin_allows g v) ps))
 
 zip_edges : (g : Graph) (pins : List Edge) (lits : List Lit) → All (IsEdge g) pins → All (λ (p : Edge × Lit). IsEdge g p.0) (zip pins lits)
 zip_edges g [] lits h = λ k d l. absurd (omega (arith, l))
@@ -194,13 +173,7 @@ pub row_is : (g : Graph) (pins : List Edge) (lits : List Lit) → IsSound g → 
 unfolding row_made
 row_is g pins lits sound in_g =
     let is = pins_are g (zip pins lits) (found g (constant true)) (λ v. true) (constant_is g true sound) (zip_edges g pins lits in_g) in
-    record {
-      sound = is.sound;
-      extends = is.extends;
-      is_edge = is.is_edge;
-      grows = is.grows;
-      value_is = λ v k. is.value_is v k ∙ zip_matches g v pins lits;
-    }
+    made_alike (λ v. matches lits (map (λ e. den g e v) pins)) is (λ v k. zip_matches g v pins lits)
 
 kept_values : {old new : Graph} (v : List Bool) (pins : List Edge) → Extends old new → IsVector old v → All (IsEdge old) pins → map (λ e. den new e v) pins ≡ map (λ e. den old e v) pins
 kept_values {old} {new} v [] e k h = refl
@@ -221,17 +194,11 @@ with_row_is {g} {made} {f} pins row is in_g =
     (λ v k. ap₂ (λ a bs. a || matches row.lits bs) (is.value_is v k) (kept_values v pins is.extends k in_g))
 
 rows_are : (g : Graph) (pins : List Edge) (rows : List Row) (made : Made) (f : List Bool → Bool) → IsMade g made f → All (IsEdge g) pins → IsMade g (fold (with_row pins) made rows) (λ v. f v || some_row_matches rows (map (λ e. den g e v) pins))
-rows_are g pins [] made f is in_g =
-    made_then (λ v. f v || false) is (found_is made.graph made.edge is.sound is.is_edge) (λ v k. is.value_is v k ∙ or_with_false (f v))
+rows_are g pins [] made f is in_g = made_alike (λ v. f v || false) is (λ v k. or_with_false (f v))
 rows_are g pins (r ∷ rs) made f is in_g =
     let rest = rows_are g pins rs (with_row pins made r) (λ v. f v || matches r.lits (map (λ e. den g e v) pins)) (with_row_is pins r is in_g) in_g in
-    record {
-      sound = rest.sound;
-      extends = rest.extends;
-      is_edge = rest.is_edge;
-      grows = rest.grows;
-      value_is = λ v k. rest.value_is v k ∙ or_assoc (f v) (matches r.lits (map (λ e. den g e v) pins)) (some_row_matches rs (map (λ e. den g e v) pins));
-    }
+    made_alike (λ v. f v || some_row_matches (r ∷ rs) (map (λ e. den g e v) pins)) rest
+    (λ v k. or_assoc (f v) (matches r.lits (map (λ e. den g e v) pins)) (some_row_matches rs (map (λ e. den g e v) pins)))
 
 plane_is : {g : Graph} (plane : Bool) (rows : List Row) (made : Made) (bs : List Bool → List Bool) → IsMade g made (λ v. some_row_matches rows (bs v)) → IsMade g (in_plane plane rows made) (λ v. value_of_rows plane rows (bs v))
 plane_is {g} true rows made bs is = is
@@ -258,12 +225,7 @@ row_next start made pins lits k pin lit l m pin_is lit_is e =
 
 pub row_fault : (g : Graph) (pins : List Edge) (lits : List Lit) (n : ℕ) → length (fold with_pair (found g (constant true)) (take n (zip pins lits))).graph.ands ≤ length (row_made g pins lits).graph.ands
 unfolding row_made
-row_fault g pins lits n =
-    let start = found g (constant true) in
-    let split : fold with_pair start (zip pins lits) ≡ fold with_pair (fold with_pair start (take n (zip pins lits))) (drop n (zip pins lits)) =
-    ap (fold with_pair start) (sym (take-append-drop n (zip pins lits))) ∙ fold-append with_pair start (take n (zip pins lits)) (drop n (zip pins lits)) in
-    let grows = pins-grow (fold with_pair start (take n (zip pins lits))) (drop n (zip pins lits)) in
-    omega (arith, ap (λ (m : Made). length m.graph.ands) split)
+row_fault g pins lits n = fold-first with_pair made_size with_pair-grows (found g (constant true)) (zip pins lits) n
 
 pub row_all : (g : Graph) (pins : List Edge) (lits : List Lit) (n : ℕ) (made : Made) → n ≡ min (length pins) (length lits) → made ≡ fold with_pair (found g (constant true)) (take n (zip pins lits)) → made ≡ row_made g pins lits
 unfolding row_made
@@ -277,12 +239,7 @@ rows_next pins start made rows k row l row_is e =
 
 pub rows_fault : (g : Graph) (pins : List Edge) (rows : List Row) (n : ℕ) → length (fold (with_row pins) (found g (constant false)) (take n rows)).graph.ands ≤ length (rows_made g pins rows).graph.ands
 unfolding rows_made
-rows_fault g pins rows n =
-    let start = found g (constant false) in
-    let split : fold (with_row pins) start rows ≡ fold (with_row pins) (fold (with_row pins) start (take n rows)) (drop n rows) =
-    ap (fold (with_row pins) start) (sym (take-append-drop n rows)) ∙ fold-append (with_row pins) start (take n rows) (drop n rows) in
-    let grows = rows-grow pins (fold (with_row pins) start (take n rows)) (drop n rows) in
-    omega (arith, ap (λ (m : Made). length m.graph.ands) split)
+rows_fault g pins rows n = fold-first (with_row pins) made_size (with_row-grows pins) (found g (constant false)) rows n
 
 pub rows_all : (g : Graph) (pins : List Edge) (rows : List Row) (n : ℕ) (made : Made) → length rows ≤ n → made ≡ fold (with_row pins) (found g (constant false)) (take n rows) → made ≡ rows_made g pins rows
 unfolding rows_made

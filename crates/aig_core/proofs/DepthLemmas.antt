@@ -1,17 +1,16 @@
 -- In a graph without a loop a depth-first search needs no bound on its depth, and tasks lead to the same list.
-use Rattle.std.proofs.Common.{◌≡◌, inl, inr, ℕ, zero, suc, ◌+◌, ◌<◌, ◌≤◌, ◌||◌, Bool, true, false, if◌then◌else◌, List, [], ◌∷◌, ◌++◌, length, get_or, set, take, map, reverse, fold, All, refl, sym, ap, ap₂, subst, ◌∙◌, arith}
-use Rattle.std.specs.Prelude.{nat_eq}
-use Rattle.std.specs.List.{list_any, sum_by}
-use Rattle.std.proofs.lemmas.Bool.{cases_eq, eq-eqb, ne_eqb}
-use Rattle.std.proofs.lemmas.List.{append_assoc, reverse-append, map-append, get_or-set_same, get_or-set_other, length-set, map_more}
-use Rattle.std.proofs.lemmas.List.Sums.{fold-append, sum_by-cons, sum_by-append, sum_by_push}
-use Rattle.std.proofs.lemmas.List.Folds.{fold-map, list_any-append}
-use Rattle.std.proofs.lemmas.List.Elements.{All-head, All-tail, All-append, All-push, All-map, Contains-get_or}
-use Rattle.components.specs.Graphs.{successors}
-use Rattle.aig_core.specs.declared.depth.Task.{Task}
+use Rattle.std.proofs.Common.{◌≡◌, ◌≢◌, inl, inr, ℕ, zero, suc, ◌+◌, ◌<◌, ◌≤◌, ◌||◌, Bool, true, false, if◌then◌else◌, List, [], ◌∷◌, ◌++◌, length, get_or, set, take, map, reverse, fold, All, refl, sym, ap, ap₂, ◌∙◌, arith}
+use Rattle.aig_core.proofs.Common.{nat_eq, list_any, eq-eqb, append_assoc, fold-append, list_any-append, All-head, All-tail, successors, Task, HasRanks, visit, node_of, AreWithin, finished, HasMarks}
+use Rattle.std.specs.List.{sum_by}
+use Rattle.std.proofs.lemmas.Bool.{cases_eq, ne_eqb, or_right}
+use Rattle.std.proofs.lemmas.List.{reverse-append, reverse-reverse, map-append, get_or-set_same, get_or-set_other, length-set, map_more}
+use Rattle.std.proofs.lemmas.List.Sums.{sum_by-cons, sum_by-append, sum_by_push}
+use Rattle.std.proofs.lemmas.List.Folds.{fold-map}
+use Rattle.std.proofs.lemmas.List.Elements.{All-append, All-push, All-map, Contains-get_or}
+use Rattle.cyc_base.proofs.TruthLemmas.{or-false}
 use Rattle.aig_core.specs.declared.depth.Task.TheVariants.{Visit, Place}
-use Rattle.aig_core.specs.Depth.{placed, HasRanks}
-use Rattle.aig_core.specs.Tasks.{visit, node_of, AreWithin, done, finished, weight, task_weight, tasks_left, HasMarks, Advances}
+use Rattle.aig_core.specs.Depth.{placed}
+use Rattle.aig_core.specs.Tasks.{done, weight, task_weight, tasks_left, Advances}
 
 -- ---- folds and sums with equal steps
 
@@ -38,15 +37,7 @@ pub sum_by-reverse : {A : Type 0} (f : A → ℕ) (xs : List A) → sum_by f (re
 sum_by-reverse {A} f [] = refl
 sum_by-reverse {A} f (x ∷ xs) =
     let e = ap (sum_by f) (reverse-append (x ∷ []) xs) ∙ sum_by-append f (reverse xs) (x ∷ []) in
-    let rest = sum_by-reverse f xs in
-    let one = sum_by-cons f x [] in
-    let all = sum_by-cons f x xs in
-    omega (arith, e)
-
-reverse-reversed : {A : Type 0} (xs : List A) → reverse (reverse xs) ≡ xs
-reverse-reversed {A} [] = refl
-reverse-reversed {A} (x ∷ xs) =
-    ap reverse (reverse-append (x ∷ []) xs) ∙ reverse-append (reverse xs) (x ∷ []) ∙ ap (λ ys. x ∷ ys) (reverse-reversed xs)
+    omega (arith, sum_by-cons f x xs, sum_by-cons f x [], sum_by-reverse f xs, e)
 
 -- ---- the bound on the depth
 
@@ -55,8 +46,7 @@ Lower graph ranks d n = (n < length graph) × (ranks.rank n < d)
 
 pub successors_lower : (graph : List (List ℕ)) (ranks : HasRanks graph) (d n : ℕ) → n < length graph → ranks.rank n ≤ d → All (Lower graph ranks d) (successors graph n)
 successors_lower graph ranks d n l low k x m =
-    let falls = ranks.falls n (get_or (successors graph n) k x) l (Contains-get_or (successors graph n) k x m) in
-    (ranks.nodes n l k x m, omega arith)
+    (ranks.nodes n l k x m, omega (arith, ranks.falls n (get_or (successors graph n) k x) l (Contains-get_or (successors graph n) k x m)))
 
 module _ (graph : List (List ℕ)) (ranks : HasRanks graph) where
   pub placed-depth : (d e n : ℕ) (before : List ℕ) → Lower graph ranks d n → Lower graph ranks e n → placed graph d before n ≡ placed graph e before n
@@ -85,26 +75,13 @@ module _ (graph : List (List ℕ)) (ranks : HasRanks graph) where
 
   placed-opened : (g : ℕ) (before : List ℕ) (n : ℕ) → Lower graph ranks g n → list_any (nat_eq n) before ≡ false → placed graph g before n ≡ fold (placed graph g) before (successors graph n) ++ n ∷ []
   unfolding placed
-  placed-opened zero before n low new = absurd (omega (arith, low.1))
-  placed-opened (suc d) before n low new =
-      ap (λ t. if t then before else fold (placed graph d) before (successors graph n) ++ n ∷ []) new
-      ∙ ap (λ after. after ++ n ∷ [])
-      (fold_same (placed graph d) (placed graph (suc d)) (successors graph n) before
-      (λ k x l b.
-      let s = get_or (successors graph n) k x in
-      let lower = successors_lower graph ranks d n low.0 (omega (arith, low.1)) k x l in
-      placed-depth d (suc d) s b lower (lower.0, omega (arith, lower.1))))
+  placed-opened g before n low new =
+      placed-depth g (suc g) n before low (low.0, omega (arith, low.1))
+      ∙ ap (λ t. if t then before else fold (placed graph g) before (successors graph n) ++ n ∷ []) new
 
   weight-opened : (g n : ℕ) → Lower graph ranks g n → weight graph g n ≡ 2 + sum_by (weight graph g) (successors graph n)
   unfolding weight
-  weight-opened zero n low = absurd (omega (arith, low.1))
-  weight-opened (suc d) n low =
-      ap (λ s. 2 + s)
-      (sum_same (weight graph d) (weight graph (suc d)) (successors graph n)
-      (λ k x l.
-      let s = get_or (successors graph n) k x in
-      let lower = successors_lower graph ranks d n low.0 (omega (arith, low.1)) k x l in
-      weight-depth d (suc d) s lower (lower.0, omega (arith, lower.1))))
+  weight-opened g n low = weight-depth g (suc g) n low (low.0, omega (arith, low.1))
 
   pub placed-new : (before : List ℕ) (n : ℕ) → n < length graph → list_any (nat_eq n) before ≡ false → placed graph (length graph) before n ≡ fold (placed graph (length graph)) before (successors graph n) ++ n ∷ []
   placed-new before n l new = placed-opened (length graph) before n (l, ranks.within n l) new
@@ -137,7 +114,7 @@ pub finished_visits : (graph : List (List ℕ)) (before : List ℕ) (tasks : Lis
 finished_visits graph before tasks nodes =
     ap (fold (done graph) before)
     (reverse-append tasks (map visit (reverse nodes))
-    ∙ ap (λ xs. xs ++ reverse tasks) (sym (map-reverse visit (reverse nodes)) ∙ ap (map visit) (reverse-reversed nodes)))
+    ∙ ap (λ xs. xs ++ reverse tasks) (sym (map-reverse visit (reverse nodes)) ∙ ap (map visit) (reverse-reverse nodes)))
     ∙ fold-append (done graph) before (map visit nodes) (reverse tasks)
     ∙ ap (λ b. fold (done graph) b (reverse tasks)) (visits graph before nodes)
 
@@ -158,8 +135,7 @@ visits_more old tasks nodes k n l is e =
 reversed_within : (count : ℕ) (nodes : List ℕ) → All (λ n. n < count) nodes → All (λ n. n < count) (reverse nodes)
 reversed_within count [] h = h
 reversed_within count (x ∷ xs) h =
-    let P : List ℕ → Type 0 = λ ys. All (λ n. n < count) ys in
-    subst P (sym (reverse-append (x ∷ []) xs))
+    rw (reverse-append (x ∷ []) xs)
     (All-push (λ n. n < count) (reverse xs) x (reversed_within count xs (All-tail (λ n. n < count) x xs h)) (All-head (λ n. n < count) x xs h))
 
 pub visits_within : (count : ℕ) (tasks : List Task) (nodes : List ℕ) → AreWithin count tasks → All (λ n. n < count) nodes → AreWithin count (tasks ++ map visit (reverse nodes))
@@ -184,32 +160,24 @@ open_advances graph ranks before tasks n within l new = record {
       ∙ sym (finished_push graph before tasks (Visit n) ∙ ap (λ b. finished graph b tasks) (placed-new graph ranks before n l new));
   less =
       let visited = visits_left graph (tasks ++ Place n ∷ []) (successors graph n) in
-      let placing = tasks_push graph tasks (Place n) in
-      let visiting = tasks_push graph tasks (Visit n) in
-      let opened = weight-new graph ranks n l in
-      omega (arith, visited, placing, visiting, opened);
+      omega (arith, visited, tasks_push graph tasks (Place n), tasks_push graph tasks (Visit n), weight-new graph ranks n l);
   within = visits_within (length graph) (tasks ++ Place n ∷ []) (successors graph n) (All-push (λ (t : Task). node_of t < length graph) tasks (Place n) within l) (ranks.nodes n l);
 }
 
 -- ---- marks
 
-pub marked_more : (nodes : List ℕ) (marks : List Bool) (n : ℕ) → n < length marks → HasMarks nodes marks → HasMarks (nodes ++ n ∷ []) (set marks n true)
-marked_more nodes marks n l has k m =
-    let len = length-set marks n true in
-    elim (cases_eq k n) [
-      | inl e ↦
-          subst (λ i. get_or (set marks n true) i false ≡ list_any (nat_eq i) (nodes ++ n ∷ [])) (sym e)
-          (get_or-set_same marks n true false l ∙ sym (list_any-append (nat_eq n) nodes (n ∷ []) ∙ ap (λ t. list_any (nat_eq n) nodes || (t || false)) (eq-eqb n n refl) ∙ or_true (list_any (nat_eq n) nodes)))
-      | inr ne ↦
-          get_or-set_other marks n k true false ne
-          ∙ has k (omega arith)
-          ∙ sym (list_any-append (nat_eq k) nodes (n ∷ []) ∙ ap (λ t. list_any (nat_eq k) nodes || (t || false)) (ne_eqb k n ne) ∙ or_false (list_any (nat_eq k) nodes))
-    ]
-  where
-    or_true : (b : Bool) → (b || (true || false)) ≡ true
-    or_true true = refl
-    or_true false = refl
+-- a node is among these once it stands last, and each other one as before
+pub among_last : (nodes : List ℕ) (n : ℕ) → list_any (nat_eq n) (nodes ++ n ∷ []) ≡ true
+among_last nodes n =
+    list_any-append (nat_eq n) nodes (n ∷ [])
+    ∙ or_right (list_any (nat_eq n) nodes) (list_any (nat_eq n) (n ∷ [])) (ap (λ t. t || false) (eq-eqb n n refl))
 
-    or_false : (b : Bool) → (b || (false || false)) ≡ b
-    or_false true = refl
-    or_false false = refl
+pub among_others : (nodes : List ℕ) (k n : ℕ) → k ≢ n → list_any (nat_eq k) (nodes ++ n ∷ []) ≡ list_any (nat_eq k) nodes
+among_others nodes k n apart =
+    list_any-append (nat_eq k) nodes (n ∷ []) ∙ ap (λ t. list_any (nat_eq k) nodes || (t || false)) (ne_eqb k n apart) ∙ or-false (list_any (nat_eq k) nodes)
+
+pub marked_more : (nodes : List ℕ) (marks : List Bool) (n : ℕ) → n < length marks → HasMarks nodes marks → HasMarks (nodes ++ n ∷ []) (set marks n true)
+marked_more nodes marks n l has k m = elim (cases_eq k n) [
+  | inl e ↦ rw e (get_or-set_same marks n true false l ∙ sym (among_last nodes n))
+  | inr ne ↦ get_or-set_other marks n k true false ne ∙ has k (omega (arith, length-set marks n true)) ∙ sym (among_others nodes k n ne)
+]

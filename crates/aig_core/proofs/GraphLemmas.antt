@@ -1,18 +1,15 @@
 -- The denotation of edges: by cases on the variable, and kept where ANDs are added.
 use Rattle.std.proofs.Common.{◌≡◌, inl, inr, ℕ, suc, ◌+◌, ◌*◌, ◌/◌, ◌%◌, ◌<◌, ◌==◌, ◌&&◌, Bool, true, false, not, if◌then◌else◌, List, [], ◌∷◌, ◌++◌, length, get_or, take, drop, fold, slice_get, Some, refl, sym, ap, ap₂, ◌∙◌, arith}
-use Rattle.std.proofs.lemmas.List.{get_or_append_left, get_or_at, length_push, length-take-le, take-append-drop, drop_more}
-use Rattle.std.proofs.lemmas.List.Sums.{fold-append}
-use Rattle.std.proofs.lemmas.Option.{slice_get_within, get_or_from_slice_get}
+use Rattle.aig_core.proofs.Common.{get_or_append_left, length_push, take-append-drop, fold-append, slice_get_within, get_or_from_slice_get, Edge, And, Graph, with_ands, first_and, edge_to, complement, IsEdge, den, IsVector, Extends}
+use Rattle.std.proofs.lemmas.List.{get_or_at, length-take-le, drop_more}
 use Rattle.cyc_base.proofs.ListLemmas.{parity}
-use Rattle.aig_core.specs.declared.edge.Edge.{Edge}
-use Rattle.aig_core.specs.declared.edge.And.{And}
-use Rattle.aig_core.specs.Graphs.{Graph, with_ands, first_and, edge_to, variable, is_complement, complement, IsEdge, edge_value, with_value, values, den}
-use Rattle.aig_core.specs.Soundness.{IsSoundAnd, IsVector, Extends}
+use Rattle.aig_core.specs.Graphs.{variable, is_complement, edge_value, with_value, values}
+use Rattle.aig_core.specs.Soundness.{IsSoundAnd}
 
 -- ---- complements
 
 pub variable-complement : (e : Edge) → variable (complement e) ≡ variable e
-variable-complement e = elim (parity e.0) [ inl a ↦ omega (arith, a) | inr a ↦ omega (arith, a) ]
+variable-complement e = omega arith
 
 pub is_complement-complement : (e : Edge) → is_complement (complement e) ≡ not (is_complement e)
 is_complement-complement e = elim (parity e.0) [
@@ -31,7 +28,7 @@ edge_value-complement vs e =
     ∙ negated (is_complement e) (get_or vs (variable e) false)
 
 pub IsEdge-complement : (g : Graph) (e : Edge) → IsEdge g e → IsEdge g (complement e)
-IsEdge-complement g e h = elim (parity e.0) [ inl a ↦ omega (arith, a, h) | inr a ↦ omega (arith, a, h) ]
+IsEdge-complement g e h = omega arith
 
 pub edge_value-to : (vs : List Bool) (n : ℕ) → edge_value vs (edge_to n) ≡ get_or vs n false
 edge_value-to vs n =
@@ -44,9 +41,8 @@ edge_value-to vs n =
 pub length-values_from : (vs : List Bool) (ands : List And) → length (fold with_value vs ands) ≡ length vs + length ands
 length-values_from vs [] = omega arith
 length-values_from vs (x ∷ xs) =
-    let rest = length-values_from (with_value vs x) xs in
     let one = length_push vs (edge_value vs x.greater && edge_value vs x.smaller) in
-    omega arith
+    omega (arith, length-values_from (with_value vs x) xs)
 
 pub length-values : (ands : List And) (v : List Bool) → length (values ands v) ≡ 1 + length v + length ands
 length-values ands v = let e = length-values_from (false ∷ v) ands in omega arith
@@ -68,9 +64,8 @@ values-append ands more v = fold-append with_value (false ∷ v) ands more
 pub den_kept : (g : Graph) (more : List And) (e : Edge) (v : List Bool) → IsEdge g e → IsVector g v → den (with_ands g (g.ands ++ more)) e v ≡ den g e v
 unfolding den
 den_kept g more e v is_edge is_vector =
-    let len = length-values g.ands v in
     ap (λ vs. edge_value vs e) (values-append g.ands more v)
-    ∙ edge_value_kept (values g.ands v) more e (omega (arith, is_edge, is_vector))
+    ∙ edge_value_kept (values g.ands v) more e (omega (arith, length-values g.ands v, is_edge, is_vector))
 
 pub extended : (g : Graph) (more : List And) → Extends g (with_ands g (g.ands ++ more))
 extended g more = record { more = more; is = refl; keeps = λ e v h k. den_kept g more e v h k }
@@ -109,8 +104,6 @@ den-and g i x v at sound is_vector =
     let all : values g.ands v ≡ fold with_value (with_value vs x) back =
     ap (λ ands. values ands v) split ∙ values-append front (x ∷ back) v in
     let one = length_push vs (edge_value vs x.greater && edge_value vs x.smaller) in
-    let high = sound.earlier in
-    let low = sound.greater in
     let kept : (e : Edge) → variable e < length vs → edge_value (values g.ands v) e ≡ edge_value vs e =
     λ e h. ap (λ ws. edge_value ws e) all ∙ edge_value_kept vs (x ∷ back) e h in
     edge_value-to (values g.ands v) (first_and g + i)

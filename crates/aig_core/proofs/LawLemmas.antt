@@ -1,6 +1,6 @@
 -- What holds of each sound graph.
-use Rattle.aig_core.specs.Graphs.{Graph}
-use Rattle.aig_core.specs.Soundness.{IsSound, IsLawful}
+use Rattle.aig_core.proofs.Common.{Graph, IsSound}
+use Rattle.aig_core.specs.Soundness.{IsLawful}
 use Rattle.aig_core.proofs.GraphLemmas.{den-complement, den-constant, den-column, den-and}
 
 pub IsLawful-sound : (g : Graph) → IsSound g → IsLawful g

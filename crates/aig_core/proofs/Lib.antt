@@ -1,3 +1,4 @@
+pub mod Common
 pub mod GraphLemmas
 pub mod ConjunctionLemmas
 pub mod LawLemmas

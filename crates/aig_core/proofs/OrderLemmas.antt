@@ -1,23 +1,20 @@
 -- In the postorder of a graph without a loop each node follows its successors; and the graph of a netlist's gates is one.
-use Rattle.std.proofs.Common.{◌≡◌, ℕ, zero, suc, ◌-◌, ◌<◌, ◌||◌, Bool, true, false, if◌then◌else◌, List, [], ◌∷◌, ◌++◌, length, get_or, fold, All, refl, sym, ap, subst, ◌∙◌, arith}
-use Rattle.std.specs.Prelude.{nat_eq, nat_le}
-use Rattle.std.specs.List.{list_any, position_or_len}
-use Rattle.std.proofs.lemmas.Bool.{eq-eqb, eqb-true, or_right, leb-true}
-use Rattle.std.proofs.lemmas.List.{append-nil, append_assoc, get_or-map}
+use Rattle.std.proofs.Common.{◌≡◌, inl, inr, ℕ, zero, suc, ◌-◌, ◌<◌, ◌||◌, Bool, true, false, if◌then◌else◌, List, [], ◌∷◌, ◌++◌, length, get_or, fold, All, refl, sym, ap, subst, ◌∙◌, arith}
+use Rattle.aig_core.proofs.Common.{nat_eq, list_any, position_or_len, cases_Bool, eq-eqb, append-nil, append_assoc, list_any-append, All-nil, All-head, All-tail, All-cons, Sig, successors, no_gate, IsSignal, numbers_from, gate_graph, IsGateOrder, postorder, HasRanks}
+use Rattle.std.specs.Prelude.{nat_le}
+use Rattle.std.proofs.lemmas.Bool.{eqb-true, leb-true}
+use Rattle.std.proofs.lemmas.List.{get_or-map}
 use Rattle.std.proofs.lemmas.List.Sums.{passes_at_first}
-use Rattle.std.proofs.lemmas.List.Folds.{list_any-append, list_any_at}
-use Rattle.std.proofs.lemmas.List.Elements.{All-nil, All-head, All-tail, All-cons}
-use Rattle.cyc_base.specs.declared.sig.Sig.{Sig}
-use Rattle.components.specs.Graphs.{successors}
+use Rattle.std.proofs.lemmas.List.Folds.{list_any_at}
 use Rattle.netlist.specs.declared.parts.Parts.{Parts}
-use Rattle.netlist.specs.Netlists.{gate_at, no_gate, IsSignal, IsNetlist}
-use Rattle.netlist.specs.Orders.{numbers_from, gates_read, gate_graph, IsGateOrder}
+use Rattle.netlist.specs.Netlists.{gate_at, IsNetlist}
+use Rattle.netlist.specs.Orders.{gates_read}
 use Rattle.netlist.specs.Walks.{Feeds}
 use Rattle.netlist.proofs.GraphLemmas.{length-gate_graph, edge_feeds}
-use Rattle.aig_core.specs.Depth.{placed, postorder, HasRanks}
+use Rattle.aig_core.specs.Depth.{placed}
 use Rattle.aig_core.specs.Building.{columns}
 use Rattle.aig_core.proofs.ConjunctionLemmas.{any_place}
-use Rattle.aig_core.proofs.DepthLemmas.{Lower, successors_lower}
+use Rattle.aig_core.proofs.DepthLemmas.{Lower, successors_lower, among_last}
 
 abbrev pub AllAmong : List ℕ → List ℕ → Type 0
 AllAmong seen nodes = All (λ n. list_any (nat_eq n) seen ≡ true) nodes
@@ -34,11 +31,6 @@ AllFollow-push graph seen (m ∷ rest) n h l among =
 
 among_push : (seen : List ℕ) (m n : ℕ) → list_any (nat_eq m) seen ≡ true → list_any (nat_eq m) (seen ++ n ∷ []) ≡ true
 among_push seen m n h = list_any-append (nat_eq m) seen (n ∷ []) ∙ ap (λ t. t || list_any (nat_eq m) (n ∷ [])) h
-
-among_last : (seen : List ℕ) (n : ℕ) → list_any (nat_eq n) (seen ++ n ∷ []) ≡ true
-among_last seen n =
-    list_any-append (nat_eq n) seen (n ∷ [])
-    ∙ or_right (list_any (nat_eq n) seen) (list_any (nat_eq n) (n ∷ [])) (ap (λ t. t || false) (eq-eqb n n refl))
 
 -- what is known of the nodes after these were placed
 pub record ArePlaced (graph : List (List ℕ)) (before after nodes : List ℕ) : Type 0 where
@@ -91,14 +83,14 @@ module _ (graph : List (List ℕ)) (ranks : HasRanks graph) where
 
 pub numbers_within : (net : Parts) (signals : List Sig) → All (IsSignal net) signals → All (λ n. n < length net.gates) (numbers_from (columns net) signals)
 numbers_within net [] h = All-nil (λ n. n < length net.gates)
-numbers_within net (s ∷ rest) h = by (nat_le (columns net) s.0) refl (numbers_within net rest (All-tail (IsSignal net) s rest h))
-  where
-    by : (t : Bool) → nat_le (columns net) s.0 ≡ t → All (λ n. n < length net.gates) (numbers_from (columns net) rest) → All (λ n. n < length net.gates) (numbers_from (columns net) (s ∷ rest))
-    by true e others =
-        let low = leb-true (columns net) s.0 e in
-        let signal = All-head (IsSignal net) s rest h in
-        rw e (All-cons (λ n. n < length net.gates) (s.0 - columns net) (numbers_from (columns net) rest) (omega (arith, low, signal)) others)
-    by false e others = rw e others
+numbers_within net (s ∷ rest) h =
+    let others = numbers_within net rest (All-tail (IsSignal net) s rest h) in
+    elim (cases_Bool (nat_le (columns net) s.0)) [
+      | inl above ↦
+          let inside : s.0 - columns net < length net.gates = omega (arith, leb-true (columns net) s.0 above, All-head (IsSignal net) s rest h) in
+          rw above (All-cons (λ n. n < length net.gates) (s.0 - columns net) (numbers_from (columns net) rest) inside others)
+      | inr below ↦ rw below others
+    ]
 
 pub gate_successors : (net : Parts) (n : ℕ) → n < length net.gates → successors (gate_graph net) n ≡ numbers_from (columns net) (gate_at net n).pins
 gate_successors net n l = get_or-map (gates_read (columns net)) net.gates n no_gate [] l
@@ -113,15 +105,14 @@ gate_ranks net order valid is =
     sym (eqb-true a (get_or order (place a) 0) (passes_at_first (nat_eq a) order 0 (there a l))) in
     let nodes : (a : ℕ) → a < length (gate_graph net) → All (λ b. b < length (gate_graph net)) (successors (gate_graph net) a) = λ a l k d m.
     (let own : a < length net.gates = omega arith in
-    let within = numbers_within net (gate_at net a).pins (valid.pins a no_gate own) in
-    let P : List ℕ → Type 0 = λ xs. All (λ b. b < length net.gates) xs in
-    let low = subst P (sym (gate_successors net a own)) within k d m in omega (arith, low)) in
+    let within : All (λ b. b < length net.gates) (successors (gate_graph net) a) = rw (gate_successors net a own) (numbers_within net (gate_at net a).pins (valid.pins a no_gate own)) in
+    omega (arith, within k d m)) in
     record {
       rank = place;
       within = λ a l. (let own : a < length net.gates = omega arith in let t = there a own in let same = is.size in omega arith);
       falls = λ a b l listed.
           (let own : a < length net.gates = omega arith in
-          let target : b < length (gate_graph net) = (let P : ℕ → Type 0 = λ x. x < length (gate_graph net) in subst P listed.2 (nodes a l listed.0 b listed.1)) in
+          let target : b < length (gate_graph net) = rw listed.2 at (nodes a l listed.0 b listed.1) in
           let low : b < length net.gates = omega arith in
           let feeds = edge_feeds net b a (record { source = l; target = target; listed = listed }) in
           is.after (place b) (place a) (there b low) (there a own) (subst (λ x. Feeds net x (get_or order (place a) 0)) (sym (at b low)) (subst (λ y. Feeds net b y) (sym (at a own)) feeds)));

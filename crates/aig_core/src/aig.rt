@@ -53,10 +53,8 @@ fn enter(ands: &mut IndexSet<And>, and: And) -> Result<u32, AigFault>
     ensures unchanged { OnErr result (ands.new.keys ≡ ands.old.keys) }
 {
     if ands.len() < MAX_ANDS {
-        match ands.insert_full(and) {
-            Ok((place, _)) => Ok(place as u32),
-            Err(_) => Err(AigFault::Memory),
-        }
+        let (place, _) = ands.insert_full(and)?;
+        Ok(place as u32)
     } else {
         match ands.get_index_of(&and) {
             Some(place) => Ok(place as u32),

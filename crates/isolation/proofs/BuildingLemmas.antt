@@ -1,54 +1,57 @@
 -- A small netlist while it is made.
-use Rattle.std.proofs.Common.{◌≡◌, inl, inr, ℕ, ◌+◌, ◌-◌, ◌<◌, ◌≤◌, Bool, true, false, List, [], ◌∷◌, ◌++◌, length, map, take, get_or, if◌then◌else◌, eqb, Option, Some, None, Result, Ok, Err, IfOk, IsSome, refl, sym, ap, ap₂, ◌∙◌, subst, arith, Contains, true≢false, zero, suc}
-use Rattle.isolation.proofs.Common.{cases_lt, eqb-true, eq-eqb, get_or-map, get_or_default, get_or_append_left, get_or-append_right, length-map, length-append, map-append, All, list_any, IfSome, Sig, Gate, Parts, IsNetlist, count, signal, no_gate, gate_at, gate_sig, Blocks, AreBlocksOf, block_at, home_of, first_gate, gate_home, home_gate, origins, origin, gate_in, IsExcerpt, AreClosed, AreCopies, AreNumbersOf, IsLoopNetlist}
+use Rattle.std.proofs.Common.{◌≡◌, inl, inr, ℕ, ◌+◌, ◌-◌, ◌<◌, ◌≤◌, false, List, [], ◌∷◌, ◌++◌, length, map, take, get_or, if◌then◌else◌, eqb, Option, Some, None, Result, Ok, Err, IfOk, IsSome, refl, sym, ap, ap₂, ◌∙◌, subst, arith, Contains, true≢false}
+use Rattle.isolation.proofs.Common.{cases_Bool, cases_lt, eqb-true, eq-eqb, get_or-map, get_or_default, get_or_append_left, length-map, map-append, All, list_any, IfSome, Sig, Gate, Parts, IsNetlist, count, signal, no_gate, gate_at, gate_sig, Blocks, AreBlocksOf, block_at, home_of, first_gate, gate_home, home_gate, origins, origin, gate_in, IsExcerpt, AreClosed, AreCopies, AreNumbersOf, IsLoopNetlist, Contains-get_or}
 use Rattle.std.proofs.lemmas.List.{get_or_push, length_push, take_more, take_all}
 use Rattle.std.proofs.lemmas.List.Elements.{Contains-append_left, Contains-push, Contains-push_cases, All-push}
 use Rattle.std.specs.List.{position}
 use Rattle.std.specs.Ordering.{nat_cmp}
 use Rattle.std.specs.List.Sorted.{IsBinarySearchResult}
 use Rattle.std.proofs.lemmas.List.Sorted.{searched}
+use Rattle.std.proofs.lemmas.List.Folds.{list_any_at}
 use Rattle.std.proofs.lemmas.List.Quantifiers.{position-Some}
 use Rattle.std.proofs.lemmas.Map.Views.{Contains-from_any}
+use Rattle.cyc_base.proofs.ListLemmas.{Contains-map}
 use Rattle.netlist.proofs.Decisions.{none_found}
+use Rattle.isolation.proofs.OriginLemmas.{origins-size, origin-wire, origin-gate}
 use Rattle.loops.specs.Placing.{Rise}
 use Rattle.isolation.specs.Excerpts.{IsRead, AreOnce}
 use Rattle.isolation.specs.Building.{IsOutside, AreOutside, AreWires, IsAmong, AddWires, AreWiresOf, IsCopyOf, IsPlaceOf}
+
+-- a gate is where its signal is
+pub gate_there : (net : Parts) (gates : List ℕ) (s : Sig) → Contains (map (gate_sig net) gates) s → (first_gate net ≤ s.0) × Contains gates (s.0 - first_gate net)
+gate_there net gates s c =
+    let low : c.0 < length gates = omega (arith, c.1, length-map gates (gate_sig net)) in
+    let at : gate_sig net (get_or gates c.0 0) ≡ s = sym (get_or-map (gate_sig net) gates c.0 0 s low) ∙ c.2 in
+    let n = ap (λ (r : Sig). r.0) at in (
+      omega (arith, n),
+      (c.0, low, get_or_default gates c.0 (s.0 - first_gate net) 0 low ∙ omega (arith, n)),
+    )
+
+-- and back
+pub there_gate : (net : Parts) (gates : List ℕ) (s : Sig) → first_gate net ≤ s.0 → Contains gates (s.0 - first_gate net) → Contains (map (gate_sig net) gates) s
+there_gate net gates s above c =
+    let same : first_gate net + (s.0 - first_gate net) ≡ s.0 = omega (arith, above) in
+    subst (λ (t : Sig). Contains (map (gate_sig net) gates) t) (ap signal same) (Contains-map (gate_sig net) gates (s.0 - first_gate net) c)
 
 -- a gate of a block, by its signal
 pub inside_block : (net : Parts) (blocks : Blocks) → AreBlocksOf net blocks → (place : ℕ) (s : Sig) → place < length blocks.list → Contains (map (gate_sig net) (block_at blocks place).gates) s →
     (first_gate net ≤ s.0) × (home_of blocks (s.0 - first_gate net) ≡ place)
 inside_block net blocks are place s inside c =
-    let gates = (block_at blocks place).gates in
-    let l = c.1 in
-    let len = length-map gates (gate_sig net) in
-    let low : c.0 < length gates = omega (arith, l, len) in
-    let is : gate_sig net (get_or gates c.0 0) ≡ s = sym (get_or-map (gate_sig net) gates c.0 0 s low) ∙ c.2 in
-    let n = ap (λ (r : Sig). r.0) is in
-    let h = gate_home net blocks are place (get_or gates c.0 0) inside (c.0, low, get_or_default gates c.0 (get_or gates c.0 0) 0 low) in
-    (omega (arith, n), ap (home_of blocks) (let m : s.0 - first_gate net ≡ get_or gates c.0 0 = omega (arith, n) in m) ∙ h.1)
+    let there = gate_there net (block_at blocks place).gates s c in
+    (there.0, (gate_home net blocks are place (s.0 - first_gate net) inside there.1).1)
 
--- and back
 pub block_inside : (net : Parts) (blocks : Blocks) → AreBlocksOf net blocks → (place : ℕ) (s : Sig) → s.0 < count net → first_gate net ≤ s.0 → home_of blocks (s.0 - first_gate net) ≡ place →
     Contains (map (gate_sig net) (block_at blocks place).gates) s
 block_inside net blocks are place s within above home =
-    let c : Contains (block_at blocks place).gates (s.0 - first_gate net) = subst (λ (p : ℕ). Contains (block_at blocks p).gates (s.0 - first_gate net)) home (home_gate net blocks are (s.0 - first_gate net) (omega (arith, within, above))) in
-    let l = c.1 in
-    let len = length-map (block_at blocks place).gates (gate_sig net) in (
-      c.0,
-      omega (arith, l, len),
-      get_or-map (gate_sig net) (block_at blocks place).gates c.0 (s.0 - first_gate net) s c.1
-          ∙ ap (gate_sig net) c.2
-          ∙ ap signal (let m : first_gate net + (s.0 - first_gate net) ≡ s.0 = omega (arith, above) in m),
-    )
+    there_gate net (block_at blocks place).gates s above
+    (subst (λ (p : ℕ). Contains (block_at blocks p).gates (s.0 - first_gate net)) home (home_gate net blocks are (s.0 - first_gate net) (omega (arith, within, above))))
 
 -- one more wire outside
 pub outside_more : (net : Parts) (gates : List ℕ) (outside : List Sig) (s : Sig) → AreOutside net gates outside → IsOutside net gates s → AreOutside net gates (outside ++ s ∷ [])
 outside_more net gates outside s are one t c = elim (cases_lt c.0 (length outside)) [
   | inl low ↦ are t (c.0, low, sym (get_or_append_left outside (s ∷ []) t c.0 low) ∙ c.2)
   | inr high ↦
-      let l = c.1 in
-      let len = length_push outside s in
-      subst (IsOutside net gates) (sym (get_or_push outside s t c.0 (omega (arith, l, len, high))) ∙ c.2) one
+      subst (IsOutside net gates) (sym (get_or_push outside s t c.0 (omega (arith, c.1, length_push outside s))) ∙ c.2) one
 ]
 
 -- wires outside are read by gates, so they are signals
@@ -56,71 +59,37 @@ pub outside_within : (net : Parts) → IsNetlist net → (gates : List ℕ) → 
     (k : ℕ) (d : Sig) → k < length outside → (get_or outside k d).0 < count net
 outside_within net valid gates within outside are k d less =
     let s : Sig = get_or outside k d in
-    let one = are (get_or outside k d) (k, less, get_or_default outside k (get_or outside k d) d less) in
+    let one = are (get_or outside k d) (Contains-get_or outside k d less) in
     let r = one.read in
     let b = valid.pins (gate_in gates r.place) no_gate (within r.place r.within) r.pin.0 (get_or outside k d) r.pin.1 in
     let e = ap (λ (q : Sig). q.0) r.pin.2 in
     omega (arith, b, e)
 
-pub origin_gate : (net : Parts) (outside : List Sig) (gates : List ℕ) (place number : ℕ) (s : Sig) → place < length gates → first_gate net ≤ s.0 → get_or gates place 0 ≡ s.0 - first_gate net → number ≡ length outside + place →
-    origin (origins net outside gates) (signal number) ≡ s
-origin_gate net outside gates place number s less above is at =
-    get_or-append_right outside (map (gate_sig net) gates) (length outside) number (signal 0) refl (omega (arith, at))
-    ∙ ap (λ (n : ℕ). get_or (map (gate_sig net) gates) n (signal 0)) (let m : number - length outside ≡ place = omega (arith, at) in m)
-    ∙ get_or-map (gate_sig net) gates place 0 (signal 0) less
-    ∙ ap signal (let m : first_gate net + get_or gates place 0 ≡ s.0 = omega (arith, is, above) in m)
-
 -- the netlist of a loop
-loop_is : (net : Parts) (gates : List ℕ) (outside : List Sig) (small : Parts) → AreWires net gates outside → IsExcerpt net outside gates small → IsLoopNetlist net gates small
+pub loop_is : (net : Parts) (gates : List ℕ) (outside : List Sig) (small : Parts) → AreWires net gates outside → IsExcerpt net outside gates small → IsLoopNetlist net gates small
 loop_is net gates outside small wires is = record { outside = outside; is = is; read = λ s c. (wires.are s c).read; once = wires.once }
 
-pub loop_found : {E : Type 0} (net : Parts) (gates : List ℕ) (outside : List Sig) (made : Result (Option Parts) E) → AreWires net gates outside → IfOk made (λ found. IfSome found (IsExcerpt net outside gates)) →
-    IfOk made (λ found. IfSome found (IsLoopNetlist net gates))
-loop_found net gates outside (Ok (Some small)) wires is = loop_is net gates outside small wires is
-loop_found net gates outside (Ok None) wires is = tt
-loop_found net gates outside (Err fault) wires is = tt
-
--- and it has a gate where the loop has one
-pub loop_filled : {E : Type 0} (net : Parts) (gates : List ℕ) (outside : List Sig) (made : Result (Option Parts) E) → 0 < length gates → IfOk made (λ found. IfSome found (IsExcerpt net outside gates)) →
-    IfOk made (λ found. IfSome found (λ small. 0 < length small.gates))
-loop_filled net gates outside (Ok (Some small)) filled is = let size = is.size in omega (arith, size, filled)
-loop_filled net gates outside (Ok None) filled is = tt
-loop_filled net gates outside (Err fault) filled is = tt
+-- what holds of all that is found
+pub found_then : {E T : Type 0} {P Q : T → Type 0} (made : Result (Option T) E) → ((x : T) → P x → Q x) → IfOk made (λ found. IfSome found P) → IfOk made (λ found. IfSome found Q)
+found_then (Ok (Some x)) into is = into x is
+found_then (Ok None) into is = tt
+found_then (Err fault) into is = tt
 
 -- ---- the wires outside, pin by pin and gate by gate
 
 -- one more wire, that isn't there
 once_push : (xs : List Sig) (s : Sig) → AreOnce xs → (¬ Contains xs s) → AreOnce (xs ++ s ∷ [])
 once_push xs s once new i j less within same =
-    let len = length_push xs s in
-    let low : i < length xs = omega (arith, less, within, len) in
+    let low : i < length xs = omega (arith, length_push xs s) in
     let first = get_or_append_left xs (s ∷ []) (signal 0) i low in
     elim (cases_lt j (length xs)) [
       | inl inside ↦ once i j less inside (sym first ∙ same ∙ get_or_append_left xs (s ∷ []) (signal 0) j inside)
-      | inr last ↦ new (i, low, get_or_default xs i s (signal 0) low ∙ sym first ∙ same ∙ get_or_push xs s (signal 0) j (omega (arith, within, len, last)))
+      | inr last ↦ new (i, low, get_or_default xs i s (signal 0) low ∙ sym first ∙ same ∙ get_or_push xs s (signal 0) j (omega (arith, length_push xs s)))
     ]
 
 none_like : (xs : List Sig) (s : Sig) → list_any (λ (x : Sig). eqb s.0 x.0) xs ≡ false → ¬ Contains xs s
-none_like [] s none c = let l = c.1 in absurd (omega (arith, l))
-none_like (x ∷ xs) s none c = by (eqb s.0 x.0) refl none (none_like xs s) c.0 c.1 c.2
-  where
-    by : (b : Bool) → eqb s.0 x.0 ≡ b → list_any (λ (y : Sig). eqb s.0 y.0) (x ∷ xs) ≡ false → (list_any (λ (y : Sig). eqb s.0 y.0) xs ≡ false → ¬ Contains xs s) → (k : ℕ) → k < length (x ∷ xs) → get_or (x ∷ xs) k s ≡ s → ⊥
-    by true is differ rest k l e = true≢false (rw is at differ)
-    by false is differ rest zero l e = true≢false (sym (eq-eqb s.0 x.0 (sym (ap (λ (r : Sig). r.0) e))) ∙ is)
-    by false is differ rest (suc k) l e = rest (rw is at differ) (k, omega (arith, l), e)
-
-wires_more : (net : Parts) (gates : List ℕ) (old new : List Sig) (s : Sig) (b : Bool) → b ≡ list_any (λ (x : Sig). eqb s.0 x.0) old → new ≡ (if b then old else old ++ s ∷ []) → AreWires net gates old → IsOutside net gates s → AreWires net gates new
-wires_more net gates old new s true any is wires one = subst (AreWires net gates) (sym is) wires
-wires_more net gates old new s false any is wires one = subst (AreWires net gates) (sym is) (record { are = outside_more net gates old s wires.are one; once = once_push old s wires.once (none_like old s (sym any)) })
-
-keeps_more : (old new : List Sig) (s : Sig) (b : Bool) → new ≡ (if b then old else old ++ s ∷ []) → (t : Sig) → Contains old t → Contains new t
-keeps_more old new s true is t c = subst (λ xs. Contains xs t) (sym is) c
-keeps_more old new s false is t c = subst (λ xs. Contains xs t) (sym is) (Contains-append_left old (s ∷ []) t c)
-
-there_now : (old new : List Sig) (s : Sig) (b : Bool) → b ≡ list_any (λ (x : Sig). eqb s.0 x.0) old → new ≡ (if b then old else old ++ s ∷ []) → Contains new s
-there_now old new s true any is =
-    subst (λ xs. Contains xs s) (sym is) (Contains-from_any {eq = λ (x y : Sig). eqb x.0 y.0} (λ x y e. ap signal (eqb-true x.0 y.0 e)) s old (sym any))
-there_now old new s false any is = subst (λ xs. Contains xs s) (sym is) (Contains-push old s)
+none_like xs s none c =
+    true≢false (sym (list_any_at (λ (x : Sig). eqb s.0 x.0) xs c.0 s c.1 (eq-eqb s.0 (get_or xs c.0 s).0 (ap (λ (r : Sig). r.0) (sym c.2)))) ∙ none)
 
 among_more : (net : Parts) (gates : List ℕ) (old new : List Sig) → ((t : Sig) → Contains old t → Contains new t) → (s : Sig) → IsAmong net gates old s → IsAmong net gates new s
 among_more net gates old new keeps s (inl c) = inl (keeps s c)
@@ -147,8 +116,17 @@ adds_next net gates pins start old new i d less before wires keeps here = record
 pub adds_outside : (net : Parts) (gates : List ℕ) (pins start old new : List Sig) (i : ℕ) (d : Sig) → i < length pins → AddWires net gates (take i pins) start old →
     new ≡ (if list_any (λ (x : Sig). eqb (get_or pins i d).0 x.0) old then old else old ++ get_or pins i d ∷ []) → IsOutside net gates (get_or pins i d) → AddWires net gates (take (i + 1) pins) start new
 adds_outside net gates pins start old new i d less before is one =
-    let b : Bool = list_any (λ (x : Sig). eqb (get_or pins i d).0 x.0) old in
-    adds_next net gates pins start old new i d less before (wires_more net gates old new (get_or pins i d) b refl is before.wires one) (keeps_more old new (get_or pins i d) b is) (inl (there_now old new (get_or pins i d) b refl is))
+    elim (cases_Bool (list_any (λ (x : Sig). eqb (get_or pins i d).0 x.0) old)) [
+      | inl there ↦
+          let here = Contains-from_any {eq = λ (x y : Sig). eqb x.0 y.0} (λ x y e. ap signal (eqb-true x.0 y.0 e)) (get_or pins i d) old there in
+          rw (is, there) (adds_next net gates pins start old old i d less before before.wires (λ t c. c) (inl here))
+      | inr none ↦
+          let wires : AreWires net gates (old ++ get_or pins i d ∷ []) = record {
+            are = outside_more net gates old (get_or pins i d) before.wires.are one;
+            once = once_push old (get_or pins i d) before.wires.once (none_like old (get_or pins i d) none);
+          } in
+          rw (is, none) (adds_next net gates pins start old (old ++ get_or pins i d ∷ []) i d less before wires (λ t c. Contains-append_left old (get_or pins i d ∷ []) t c) (inl (Contains-push old (get_or pins i d))))
+    ]
 
 -- a gate is there
 pub adds_gate : (net : Parts) (gates : List ℕ) (pins start old new : List Sig) (i : ℕ) (d : Sig) → i < length pins → AddWires net gates (take i pins) start old → new ≡ old →
@@ -159,36 +137,28 @@ adds_gate net gates pins start old new i d less before is inside =
 pub adds_all : (net : Parts) (gates : List ℕ) (pins start new : List Sig) (i : ℕ) → length pins ≤ i → AddWires net gates (take i pins) start new → AddWires net gates pins start new
 adds_all net gates pins start new i all = subst (λ xs. AddWires net gates xs start new) (take_all i pins all)
 
-pub wires_next : (net : Parts) (gates : List ℕ) (k : ℕ) (pins old new : List Sig) → (gate_at net (gate_in gates k)).pins ≡ pins → AreWiresOf net gates k old → AddWires net gates pins old new → AreWiresOf net gates (k + 1) new
-wires_next net gates k pins old new are before adds = record {
+-- the pins of a gate of a block, whose gates are gone through
+pins_at : (net : Parts) (block gates : List ℕ) (k d : ℕ) (pins : List Sig) → gates ≡ block → k < length gates → pins ≡ (gate_at net (get_or gates k d)).pins → (gate_at net (gate_in block k)).pins ≡ pins
+pins_at net block gates k d pins same less are = ap (λ (n : ℕ). (gate_at net n).pins) (ap (λ (gs : List ℕ). get_or gs k 0) (sym same) ∙ get_or_default gates k 0 d less) ∙ sym are
+
+pub wires_at : (net : Parts) (block gates : List ℕ) (k d : ℕ) (pins old new : List Sig) → gates ≡ block → k < length gates → pins ≡ (gate_at net (get_or gates k d)).pins → AreWiresOf net block k old → AddWires net block pins old new → AreWiresOf net block (k + 1) new
+wires_at net block gates k d pins old new same less are before adds = record {
   wires = adds.wires;
-  all = λ i less s c.
+  all = λ i early s c.
       elim (cases_lt i k) [
-        | inl early ↦ among_more net gates old new adds.keeps s (before.all i early s c)
+        | inl before_k ↦ among_more net block old new adds.keeps s (before.all i before_k s c)
         | inr late ↦
-            let same : i ≡ k = omega (arith, less, late) in
-            adds.adds s (subst (λ xs. Contains xs s) (ap (λ (n : ℕ). (gate_at net (gate_in gates n)).pins) same ∙ are) c)
+            let at : i ≡ k = omega (arith, early, late) in
+            adds.adds s (subst (λ xs. Contains xs s) (ap (λ (n : ℕ). (gate_at net (gate_in block n)).pins) at ∙ pins_at net block gates k d pins same less are) c)
       ];
 }
 
--- a pin of a gate of these
-pub pin_read : (net : Parts) (gates : List ℕ) (k : ℕ) (pins : List Sig) → k < length gates → (gate_at net (gate_in gates k)).pins ≡ pins → All (IsRead net gates) pins
-pin_read net gates k pins less are i d within = record {
-  place = k;
-  within = less;
-  pin = subst (λ xs. Contains xs (get_or pins i d)) (sym are) (i, within, get_or_default pins i (get_or pins i d) d within);
-}
-
--- the same, where the block's gates are gone through
-pub wires_at : (net : Parts) (block gates : List ℕ) (k d : ℕ) (pins old new : List Sig) → gates ≡ block → k < length gates → pins ≡ (gate_at net (get_or gates k d)).pins → AreWiresOf net block k old → AddWires net block pins old new → AreWiresOf net block (k + 1) new
-wires_at net block gates k d pins old new same less are before adds =
-    wires_next net block k pins old new
-    (ap (λ (n : ℕ). (gate_at net n).pins) (ap (λ (gs : List ℕ). get_or gs k 0) (sym same) ∙ get_or_default gates k 0 d less) ∙ sym are) before adds
-
 pub pin_at : (net : Parts) (block gates : List ℕ) (k d : ℕ) (pins : List Sig) → gates ≡ block → k < length gates → pins ≡ (gate_at net (get_or gates k d)).pins → All (IsRead net block) pins
-pin_at net block gates k d pins same less are =
-    pin_read net block k pins (let e = ap length same in omega (arith, e, less))
-    (ap (λ (n : ℕ). (gate_at net n).pins) (ap (λ (gs : List ℕ). get_or gs k 0) (sym same) ∙ get_or_default gates k 0 d less) ∙ sym are)
+pin_at net block gates k d pins same less are i e within = record {
+  place = k;
+  within = omega (arith, ap length same);
+  pin = subst (λ xs. Contains xs (get_or pins i e)) (sym (pins_at net block gates k d pins same less are)) (Contains-get_or pins i e within);
+}
 
 pub wires_all : (net : Parts) (block gates : List ℕ) (k : ℕ) (outside : List Sig) → gates ≡ block → length gates ≤ k → AreWiresOf net block k outside → AreWiresOf net block (length block) outside
 wires_all net block gates k outside same all is = record { wires = is.wires; all = λ i less. is.all i (let e = ap length same in omega (arith, e, less, all)) }
@@ -197,7 +167,7 @@ wires_all net block gates k outside same all is = record { wires = is.wires; all
 pub read_all : (net : Parts) (gates : List ℕ) (outside : List Sig) (k d : ℕ) → k < length gates → AreClosed net gates outside → All (IsAmong net gates outside) (gate_at net (get_or gates k d)).pins
 read_all net gates outside k d less closed =
     subst (λ (n : ℕ). All (IsAmong net gates outside) (gate_at net n).pins) (get_or_default gates k 0 d less)
-    (λ j f inside. closed.read k less (get_or (gate_at net (gate_in gates k)).pins j f) (j, inside, get_or_default (gate_at net (gate_in gates k)).pins j (get_or (gate_at net (gate_in gates k)).pins j f) f inside))
+    (λ j f inside. closed.read k less (get_or (gate_at net (gate_in gates k)).pins j f) (Contains-get_or (gate_at net (gate_in gates k)).pins j f inside))
 
 -- an option that is both some and none
 pub not_there : {X : Type 0} {o : Option X} → ((x : X) → o ≡ Some x → ⊥) → IsSome o → ⊥
@@ -221,42 +191,28 @@ found_some xs s (Some k) is c = refl
 
 -- a signal by its place: a wire outside, or a gate
 pub place_outside : (net : Parts) (outside : List Sig) (gates : List ℕ) (s : Sig) (place : ℕ) → IsPlaceOf outside s place → IsPlaceOf (origins net outside gates) s place
-place_outside net outside gates s place p =
-    let l = p.within in
-    let len = length-append outside (map (gate_sig net) gates) in
-    record { within = omega (arith, l, len); is = get_or_append_left outside (map (gate_sig net) gates) s place p.within ∙ p.is }
+place_outside net outside gates s place p = record {
+  within = omega (arith, p.within, origins-size net outside gates);
+  is = origin-wire net outside gates place s p.within ∙ p.is;
+}
 
 pub place_gate : (net : Parts) (outside : List Sig) (gates : List ℕ) (s : Sig) (gate place number : ℕ) → s ≡ gate_sig net gate → IsPlaceOf gates gate place → number ≡ place + length outside → IsPlaceOf (origins net outside gates) s number
 place_gate net outside gates s gate place number is p at =
-    let l = p.within in
-    let len = length-append outside (map (gate_sig net) gates) in
-    let len2 = length-map gates (gate_sig net) in
-    let inside : number < length (origins net outside gates) = omega (arith, l, len, len2, at) in
-    let n = ap (λ (q : Sig). q.0) is in
+    let inside : number < length (origins net outside gates) = omega (arith, p.within, at, origins-size net outside gates) in
     record {
       within = inside;
       is = get_or_default (origins net outside gates) number s (signal 0) inside
-          ∙ origin_gate net outside gates place number s p.within (omega (arith, n)) (get_or_default gates place 0 gate p.within ∙ p.is ∙ omega (arith, n)) (omega (arith, at));
+          ∙ origin-gate net outside gates number place p.within (omega (arith, at))
+          ∙ ap (gate_sig net) (get_or_default gates place 0 gate p.within ∙ p.is)
+          ∙ sym is;
     }
-
--- a gate is where its signal is
-pub gate_there : (net : Parts) (gates : List ℕ) (s : Sig) → Contains (map (gate_sig net) gates) s → (first_gate net ≤ s.0) × Contains gates (s.0 - first_gate net)
-gate_there net gates s c =
-    let l = c.1 in
-    let len = length-map gates (gate_sig net) in
-    let low : c.0 < length gates = omega (arith, l, len) in
-    let at : gate_sig net (get_or gates c.0 0) ≡ s = sym (get_or-map (gate_sig net) gates c.0 0 s low) ∙ c.2 in
-    let n = ap (λ (r : Sig). r.0) at in (
-      omega (arith, n),
-      (c.0, low, get_or_default gates c.0 (s.0 - first_gate net) 0 low ∙ omega (arith, n)),
-    )
 
 -- the numbers of more pins
 pub numbers_none : (net : Parts) (outside : List Sig) (gates : List ℕ) (pins : List Sig) → AreNumbersOf (origins net outside gates) (take 0 pins) []
 numbers_none net outside gates pins = record { are = refl; within = λ k d l. absurd (omega (arith, l)) }
 
 pub numbers_more : (signals pins numbers new : List Sig) (i : ℕ) (d n : Sig) → i < length pins → new ≡ numbers ++ n ∷ [] → AreNumbersOf signals (take i pins) numbers → IsPlaceOf signals (get_or pins i d) n.0 → AreNumbersOf signals (take (i + 1) pins) new
-numbers_more signals pins numbers new i d n less is before place = subst (AreNumbersOf signals (take (i + 1) pins)) (sym is) (record {
+numbers_more signals pins numbers new i d n less is before place = rw is (record {
   are = map-append (origin signals) numbers (n ∷ [])
       ∙ ap₂ (λ xs x. xs ++ x ∷ []) before.are (get_or_default signals n.0 (signal 0) (get_or pins i d) place.within ∙ place.is)
       ∙ sym (take_more pins i d less);
@@ -292,16 +248,14 @@ copies_none net signals gates made none = record {
 
 pub copies_more : (net : Parts) (signals : List Sig) (gates : List ℕ) (made new : List Gate) (n d : ℕ) (copy : Gate) → n < length gates → AreCopies net signals gates made n → IsCopyOf signals (gate_at net (get_or gates n d)) copy → new ≡ made ++ copy ∷ [] →
     AreCopies net signals gates new (n + 1)
-copies_more net signals gates made new n d copy inside are one is = subst (λ (gs : List Gate). AreCopies net signals gates gs (n + 1)) (sym is) (record {
+copies_more net signals gates made new n d copy inside are one is = rw is (record {
   size = let s = are.size in let l = length_push made copy in omega (arith, s, l);
   each = λ i less. elim (cases_lt i n) [
     | inl low ↦
-        let s = are.size in
-        subst (IsCopyOf signals (gate_at net (gate_in gates i))) (sym (get_or_append_left made (copy ∷ []) no_gate i (omega (arith, s, low)))) (are.each i low)
+        subst (IsCopyOf signals (gate_at net (gate_in gates i))) (sym (get_or_append_left made (copy ∷ []) no_gate i (omega (arith, are.size)))) (are.each i low)
     | inr high ↦
-        let s = are.size in
         let at : i ≡ n = omega (arith, less, high) in
         subst (λ (g : Gate). IsCopyOf signals g (get_or (made ++ copy ∷ []) i no_gate)) (ap (gate_at net) (get_or_default gates n d 0 inside ∙ ap (gate_in gates) (sym at)))
-        (subst (IsCopyOf signals (gate_at net (get_or gates n d))) (sym (get_or_push made copy no_gate i (omega (arith, s, at)))) one)
+        (subst (IsCopyOf signals (gate_at net (get_or gates n d))) (sym (get_or_push made copy no_gate i (omega (arith, are.size)))) one)
   ];
 })

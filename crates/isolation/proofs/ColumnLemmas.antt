@@ -24,10 +24,8 @@ columns-more {s} {t} {columns} {first} {rails} keeps are inside before r proper 
         ∙ before.values k low w
     | inr high ↦
         let same : first ≡ k = omega (arith, less, high) in
-        let c_in = are.within first inside in
-        let wide = before.width in
         ap (λ i. value_of t (rails_at (set rails (get_or columns first 0) r) (get_or columns i 0)) w) (sym same)
-        ∙ ap (λ (q : Rails). value_of t q w) (get_or-set_same rails (get_or columns first 0) r unknown (omega (arith, c_in, wide)))
+        ∙ ap (λ (q : Rails). value_of t q w) (get_or-set_same rails (get_or columns first 0) r unknown (omega (arith, are.within first inside, before.width)))
         ∙ value w
         ∙ ap (λ i. bit (bit_at i w)) same
   ];
@@ -40,17 +38,13 @@ columns-end {a} {columns} {first} {rails} are all is = record {
   proper = is.proper;
   values = λ v wide.
       let l = length-map rails (λ (r : Rails). value_of a r (by_variable columns v)) in
-      let lv = length-map v bit in
-      let width = is.width in
-      ext_get_or X (values_of a rails (by_variable columns v)) (bits v) (omega (arith, l, lv, width, wide)) (λ c less.
-      let x = variable_of a.vars columns are c (omega (arith, less, l, width)) in
-      let within = x.within in
-      let long = are.long in
+      ext_get_or X (values_of a rails (by_variable columns v)) (bits v) (omega (arith, l, length-map v bit, is.width)) (λ c less.
+      let x = variable_of a.vars columns are c (omega (arith, l, is.width)) in
       get_or-map (λ (r : Rails). value_of a r (by_variable columns v)) rails c unknown X (omega (arith, less, l))
       ∙ ap (λ i. value_of a (rails_at rails i) (by_variable columns v)) (sym x.is)
-      ∙ is.values x.number (omega (arith, within, all)) (by_variable columns v)
-      ∙ ap bit (by_variable-read columns v x.number (omega (arith, within, long)) ∙ ap (λ i. get_or v i false) x.is)
-      ∙ sym (get_or-map bit v c false X (omega (arith, less, l, width, wide))));
+      ∙ is.values x.number (omega (arith, x.within)) (by_variable columns v)
+      ∙ ap bit (by_variable-read columns v x.number (omega (arith, x.within, are.long)) ∙ ap (λ i. get_or v i false) x.is)
+      ∙ sym (get_or-map bit v c false X (omega (arith, l, is.width))));
 }
 
 pub AreColumns-kept : {s t : Arena} {columns : List ℕ} {rails : List Rails} → KeepsNodes s t → AreColumns s columns rails → AreColumns t columns rails

@@ -40,6 +40,7 @@ pub use Rattle.netlist.specs.declared.parts.Gate.{Gate}
 pub use Rattle.netlist.specs.declared.parts.Parts.{Parts}
 pub use Rattle.std.proofs.lemmas.Bool.{and_parts, cases_Bool, cases_eq, cases_lt, eq-eqb, eqb-true}
 pub use Rattle.std.proofs.lemmas.List.{ext_get_or, get_or-append_right, get_or-map, get_or-replicate, get_or_append_left, get_or_default, length-append, length-map, map-append}
+pub use Rattle.std.proofs.lemmas.List.Elements.{Contains-get_or}
 pub use Rattle.std.proofs.lemmas.Simd.{map-map}
 pub use Rattle.std.specs.List.{All, list_any, range_with_len}
 pub use Rattle.std.specs.Prelude.{IfSome}

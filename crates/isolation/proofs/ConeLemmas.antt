@@ -1,6 +1,6 @@
 -- Excerpts whose inputs are the columns, and lists of marked gates.
 use Rattle.std.proofs.Common.{◌≡◌, inl, inr, ℕ, ◌+◌, ◌<◌, Bool, true, false, List, [], ◌∷◌, ◌++◌, length, sym, ap, ◌∙◌, subst, arith, Contains, true≢false}
-use Rattle.isolation.proofs.Common.{cases_lt, get_or-map, get_or_default, get_or_append_left, length-map, ext_get_or, range_with_len, Trit, X, bit, bits, signal, wire, fix, fix_gates, first_gate, value_in, gate_in, inputs_in}
+use Rattle.isolation.proofs.Common.{cases_lt, get_or-map, get_or_default, get_or_append_left, length-map, ext_get_or, range_with_len, Trit, X, bit, bits, signal, wire, fix, fix_gates, first_gate, value_in, gate_in, inputs_in, Contains-get_or}
 use Rattle.std.proofs.lemmas.List.{get_or_push, length_push}
 use Rattle.std.proofs.lemmas.List.Elements.{Contains-append_left, Contains-push, Contains-push_cases}
 use Rattle.std.proofs.lemmas.List.FromFn.{length-range_with_len, get_or-range_with_len}
@@ -62,22 +62,17 @@ listed-skip marks n gates unmarked are = record {
 
 pub listed-push : (marks : List Bool) (n : ℕ) (gates : List ℕ) → is_marked marks n ≡ true → ListsMarked marks n gates → ListsMarked marks (n + 1) (gates ++ n ∷ [])
 listed-push marks n gates marked are =
-    let long = length_push gates n in
     record {
       rise = λ i j l jl. elim (cases_lt j (length gates)) [
         | inl low ↦
-            let r = are.rise i j l low in
             let a = get_or_append_left gates (n ∷ []) 0 i (omega (arith, l, low)) in
-            let b = get_or_append_left gates (n ∷ []) 0 j low in
-            omega (arith, r, a, b)
+            omega (arith, are.rise i j l low, a, get_or_append_left gates (n ∷ []) 0 j low)
         | inr high ↦
-            let at : length gates ≡ j = omega (arith, jl, long, high) in
+            let at : length gates ≡ j = omega (arith, length_push gates n) in
             let b = get_or_push gates n 0 j (omega (arith, at)) in
             let il : i < length gates = omega (arith, l, at) in
-            let a = get_or_append_left gates (n ∷ []) 0 i il in
-            let h = (are.each (gate_in gates i)).0 (i, il, get_or_default gates i (gate_in gates i) 0 il) in
-            let low = h.0 in
-            omega (arith, a, b, low)
+            let h = (are.each (gate_in gates i)).0 (Contains-get_or gates i 0 il) in
+            omega (arith, h.0, get_or_append_left gates (n ∷ []) 0 i il, b)
       ];
       each = λ m. (
         λ c. elim (Contains-push_cases gates n m c) [

@@ -1,7 +1,6 @@
 -- How many sweeps a loop needs that is settled by itself.
 use Rattle.std.proofs.Common.{◌≡◌, ◌≢◌, inl, inr, ℕ, zero, suc, ◌<◌, ◌≤◌, ◌+◌, Bool, true, List, length, replicate, get_or, sym, ap, ◌∙◌, subst, arith, Contains}
-use Rattle.isolation.proofs.Common.{cases_lt, get_or-map, get_or_default, get_or_append_left, get_or-replicate, length-map, Sig, Trit, X, bit, bits, Parts, IsNetlist, count, gate_at, signal, no_gate, wire, fix, fix_gates, Feeds, Blocks, AreBlocksOf, block_at, home_of, Loops, AreLoopsOf, loops_of, first_gate, gate_of, CutsAreFixed, loops_exist, wire_of_gate, same_within, gate_home, home_gate, gate_in, inputs_in}
-use Rattle.std.proofs.lemmas.List.Elements.{Contains-get_or}
+use Rattle.isolation.proofs.Common.{cases_lt, get_or-map, get_or_default, get_or_append_left, get_or-replicate, length-map, Sig, Trit, X, bit, bits, Parts, IsNetlist, count, gate_at, signal, no_gate, wire, fix, fix_gates, Feeds, Blocks, AreBlocksOf, block_at, home_of, Loops, AreLoopsOf, loops_of, first_gate, gate_of, CutsAreFixed, loops_exist, wire_of_gate, same_within, gate_home, home_gate, gate_in, inputs_in, Contains-get_or}
 use Rattle.loops.specs.Walks.{SameLoop}
 use Rattle.loops.proofs.LoopCuts.{has-cut}
 use Rattle.loops.proofs.OrderLemmas.{block_rises, block_within}
@@ -17,9 +16,8 @@ use Rattle.isolation.proofs.LoopLemmas.{fixed-up}
 wire-known : (net : Parts) (gates : List ℕ) (v : List Trit) → AreDeterminedAt net gates v → (n : ℕ) → Contains gates n → n < length net.gates → (s : Sig) → Contains (gate_at net n).pins s → s.0 < count net →
     wire (fix net v) s ≢ X
 wire-known net gates v is n among reader s pin inside x =
-    let w = is.width in
     elim (cases_lt s.0 (first_gate net)) [
-      | inl low ↦ is.columns s.0 (omega (arith, low, w)) (sym (get_or_append_left v (fix_gates net v) X s.0 (omega (arith, low, w))) ∙ x)
+      | inl low ↦ is.columns s.0 (omega (arith, is.width)) (sym (get_or_append_left v (fix_gates net v) X s.0 (omega (arith, is.width))) ∙ x)
       | inr high ↦
           let feeds : Feeds net (gate_of net s) n = record {
             source = omega (arith, inside, high);
@@ -35,7 +33,7 @@ block-whole net blocks are b within = record {
   within = block_within net blocks are b within;
   rise = block_rises net blocks are b within;
   loops = λ i g l s.
-      let c = gate_home net blocks are b (get_or (block_at blocks b).gates i 0) within (i, l, get_or_default (block_at blocks b).gates i (get_or (block_at blocks b).gates i 0) 0 l) in
+      let c = gate_home net blocks are b (get_or (block_at blocks b).gates i 0) within (Contains-get_or (block_at blocks b).gates i 0 l) in
       let gl = begins_at net g (get_or (block_at blocks b).gates i 0) s.back.via s.back.walk in
       let home : home_of blocks g ≡ b = sym ((are.same (get_or (block_at blocks b).gates i 0) g c.0 gl).1 (inr s)) ∙ c.1 in
       subst (λ (p : ℕ). Contains (block_at blocks p).gates g) home (home_gate net blocks are g gl);
@@ -54,7 +52,7 @@ module _ (net : Parts) (blocks : Blocks) (loops : Loops) (valid : IsNetlist net)
       known_list (inputs_in net v outside)
       (λ j d less.
       let l : j < length outside = subst (λ (n : ℕ). j < n) (length-map outside (wire (fix net v))) less in
-      let r = read (get_or outside j (signal 0)) (j, l, get_or_default outside j (get_or outside j (signal 0)) (signal 0) l) in
+      let r = read (get_or outside j (signal 0)) (Contains-get_or outside j (signal 0) l) in
       let p = valid.pins (gate_in (block_at blocks b).gates r.place) no_gate (block_within net blocks are b within r.place r.within) r.pin.0 (get_or outside j (signal 0)) r.pin.1 in
       let e = ap (λ (q : Sig). q.0) r.pin.2 in
       λ x. wire-known net (block_at blocks b).gates v is (gate_in (block_at blocks b).gates r.place) (Contains-get_or (block_at blocks b).gates r.place 0 r.within) (block_within net blocks are b within r.place r.within)
@@ -66,12 +64,10 @@ module _ (net : Parts) (blocks : Blocks) (loops : Loops) (valid : IsNetlist net)
       let alone = settled.alone in
       let us = known-inputs alone.outside alone.read in
       let wide : length us.0 ≡ first_gate alone.small = sym (length-map us.0 bit) ∙ ap length us.1 ∙ length-map alone.outside (wire (fix net v)) ∙ sym (first-small net alone.outside (block_at blocks b).gates alone.small alone.valid alone.is) in
-      let g = alone.is.size in
-      let l = has.1 in
       subst (λ (n : ℕ). CutsAreFixed net loops v n k) at
       (fixed-up net alone.outside (block_at blocks b).gates alone.small alone.valid alone.is (block-whole net blocks are b within) loops (loops_of alone.small) loops_are (loops_exist alone.small) v is.width
       has.0 k has.1
-      (subst (λ (xs : List Trit). CutsAreFixed alone.small (loops_of alone.small) xs has.0 k) us.1 (settled.sweeps us.0 wide has.0 (omega (arith, g, l)))))
+      (subst (λ (xs : List Trit). CutsAreFixed alone.small (loops_of alone.small) xs has.0 k) us.1 (settled.sweeps us.0 wide has.0 (omega (arith, alone.is.size, has.1)))))
 
   -- and one is needed, since the cut wires begin at X
   one-needed : (n : ℕ) → CutsAreFixed net loops v a n → 1 ≤ n

@@ -26,19 +26,12 @@ module _ (net : Parts) (outside : List Sig) (gates : List ℕ) (small : Parts) (
 
   pub length-origins : length (origins net outside gates) ≡ count small
   length-origins =
-      let a = length-append outside (map (gate_sig net) gates) in
-      let b = length-map gates (gate_sig net) in
-      let i = is.inputs in
-      let l = is.latches in
-      let g = is.size in
-      omega (arith, a, b, i, l, g)
+      omega (arith, length-append outside (map (gate_sig net) gates), length-map gates (gate_sig net), is.inputs, is.latches, is.size)
 
   pub pin-within : (i k : ℕ) (none : Sig) → i < length gates → k < length (gate_at small i).pins → (get_or (gate_at small i).pins k none).0 < length (origins net outside gates)
   pin-within i k none inside here =
-      let g = is.size in
-      let b = valid.pins i no_gate (omega (arith, inside, g)) k none here in
-      let e = length-origins in
-      omega (arith, b, e)
+      let b = valid.pins i no_gate (omega (arith, is.size)) k none here in
+      omega (arith, b, length-origins)
 
   module _ (v : List Trit) (width : length v ≡ first_gate net) where
     pub gate_wire : (n : ℕ) → wire (fix net v) (gate_sig net n) ≡ value_in (fix_gates net v) n
@@ -68,8 +61,7 @@ module _ (net : Parts) (outside : List Sig) (gates : List ℕ) (small : Parts) (
         (length-step small (inputs_in net v outside) (gates_in net v gates) ∙ is.size ∙ sym (length-map gates (value_in (fix_gates net v))))
         (λ i less.
         let l : i < length small.gates = subst (λ (m : ℕ). i < m) (length-step small (inputs_in net v outside) (gates_in net v gates)) less in
-        let g = is.size in
-        let within : i < length gates = omega (arith, l, g) in
+        let within : i < length gates = omega (arith, is.size) in
         get_or-step small (inputs_in net v outside) (gates_in net v gates) i l
         ∙ ap₂ (λ (c : Cover) (xs : List Trit). ext c xs) (is.covers i within) (reads_at_fix i within)
         ∙ sym (get_or-fix net v (gate_in gates i) (inside i within))
@@ -87,7 +79,6 @@ module _ (net : Parts) (outside : List Sig) (gates : List ℕ) (small : Parts) (
         let l : k < length outside = subst (λ (m : ℕ). k < m) (length-map outside (wire (fix net v))) less in
         λ e. known k (signal 0) l (sym (get_or-map (wire (fix net v)) outside k (signal 0) d l) ∙ e)) in
         let wide : length us.0 ≡ first_gate small = sym (length-map us.0 bit) ∙ ap length us.1 ∙ length-map outside (wire (fix net v)) ∙ sym first-small in
-        let g = is.size in
-        let low : value_in (fix_gates small (inputs_in net v outside)) i ≢ X = subst (λ (xs : List Trit). value_in (fix_gates small xs) i ≢ X) us.1 (determined us.0 wide i (omega (arith, within, g))) in
+        let low : value_in (fix_gates small (inputs_in net v outside)) i ≢ X = subst (λ (xs : List Trit). value_in (fix_gates small xs) i ≢ X) us.1 (determined us.0 wide i (omega (arith, is.size))) in
         low (sym (Below-known (value_in (fix_gates small (inputs_in net v outside)) i) (value_in (gates_in net v gates) i) (EachBelow-at (fix_gates small (inputs_in net v outside)) (gates_in net v gates) i (fix_below inside)) low)
         ∙ get_or-map (value_in (fix_gates net v)) gates i 0 X within ∙ x)

@@ -1,6 +1,6 @@
 -- The fixpoint of an excerpt is the whole's.
-use Rattle.std.proofs.Common.{◌≡◌, inl, inr, ℕ, zero, suc, ◌-◌, ◌<◌, List, length, map, get_or, refl, sym, ap, ap₂, ◌∙◌, subst, arith}
-use Rattle.isolation.proofs.Common.{cases_lt, get_or-map, get_or_append_left, get_or-append_right, get_or-replicate, length-map, length-append, map-map, Sig, Trit, X, ext, Cover, Parts, IsNetlist, signal, gate_at, gate_sig, wire, fix, fix_gates, first_gate, value_in, wire_of_gate, origins, origin, gate_in, inputs_in, IsExcerpt}
+use Rattle.std.proofs.Common.{◌≡◌, inl, inr, ℕ, zero, suc, ◌-◌, ◌<◌, List, length, map, get_or, refl, sym, ap, ◌∙◌, subst, arith}
+use Rattle.isolation.proofs.Common.{cases_lt, get_or-map, get_or_append_left, get_or-append_right, get_or-replicate, length-map, length-append, map-map, Sig, Trit, X, Parts, IsNetlist, signal, gate_at, gate_sig, wire, fix, fix_gates, first_gate, value_in, wire_of_gate, origins, origin, gate_in, inputs_in, IsExcerpt}
 use Rattle.cyc_base.specs.Values.{Below}
 use Rattle.cyc_base.proofs.OrderLemmas.{Below-antisym, EachBelow-at, EachBelow-append, EachBelow-refl, EachBelow-map_at}
 use Rattle.cover_logic.proofs.ExtensionLemmas.{ext_is_monotone}
@@ -14,30 +14,23 @@ module _ (net : Parts) (outside : List Sig) (gates : List ℕ) (small : Parts) (
 
   -- each step of the whole stays below the small netlist's fixpoint
   steps-below : (k i : ℕ) → i < length gates → Below (value_in (steps net v k) (gate_in gates i)) (value_in (fix_gates small inputs) i)
-  steps-below zero i il = subst (λ (t : Trit). Below t (value_in (fix_gates small inputs) i)) (sym (get_or-replicate (length net.gates) (gate_in gates i) X X (inside i il))) tt
+  steps-below zero i il = rw (get_or-replicate (length net.gates) (gate_in gates i) X X (inside i il)) tt
   steps-below (suc k) i il =
-      let g = is.size in
-      subst (λ (t : Trit). Below t (value_in (fix_gates small inputs) i)) (sym (get_or-step net v (steps net v k) (gate_in gates i) (inside i il)))
-      (subst (λ (t : Trit). Below (ext (gate_at net (gate_in gates i)).cover (map (wire (wires v (steps net v k))) (gate_at net (gate_in gates i)).pins)) t) (sym (get_or-fix small inputs i (omega (arith, il, g))))
-      (subst (λ (t : Trit). Below t (ext (gate_at small i).cover (map (wire (fix small inputs)) (gate_at small i).pins)))
-      (ap₂ (λ (c : Cover) (xs : List Trit). ext c xs) (is.covers i il) (sym (map-map (wire (wires v (steps net v k))) (origin (origins net outside gates)) (gate_at small i).pins) ∙ ap (map (wire (wires v (steps net v k)))) (is.pins i il)))
+      rw (get_or-step net v (steps net v k) (gate_in gates i) (inside i il), get_or-fix small inputs i (omega (arith, is.size)), ← is.covers i il, ← is.pins i il, map-map (wire (wires v (steps net v k))) (origin (origins net outside gates)) (gate_at small i).pins)
       (ext_is_monotone (gate_at small i).cover (map (λ p. wire (wires v (steps net v k)) (origin (origins net outside gates) p)) (gate_at small i).pins) (map (wire (fix small inputs)) (gate_at small i).pins)
       (EachBelow-map_at (λ p. wire (wires v (steps net v k)) (origin (origins net outside gates) p)) (wire (fix small inputs)) (gate_at small i).pins
-      (λ j d jl. pin-below (get_or (gate_at small i).pins j d) (pin-within net outside gates small valid is i j d il jl) (λ q ql. steps-below k q ql))))))
+      (λ j d jl. pin-below (get_or (gate_at small i).pins j d) (pin-within net outside gates small valid is i j d il jl) (λ q ql. steps-below k q ql))))
     where
       pin-below : (p : Sig) → p.0 < length (origins net outside gates) → ((q : ℕ) → q < length gates → Below (value_in (steps net v k) (gate_in gates q)) (value_in (fix_gates small inputs) q)) → Below (wire (wires v (steps net v k)) (origin (origins net outside gates) p)) (wire (fix small inputs) p)
       pin-below p l before = elim (cases_lt p.0 (length outside)) [
         | inl low ↦
-            let len = length-map outside (wire (fix net v)) in
             subst (λ (t : Trit). Below (wire (wires v (steps net v k)) (origin (origins net outside gates) p)) t)
             (ap (wire (fix net v)) (get_or_append_left outside (map (gate_sig net) gates) (signal 0) p.0 low)
-            ∙ sym (get_or_append_left inputs (fix_gates small inputs) X p.0 (omega (arith, low, len)) ∙ get_or-map (wire (fix net v)) outside p.0 (signal 0) X low))
+            ∙ sym (get_or_append_left inputs (fix_gates small inputs) X p.0 (omega (arith, length-map outside (wire (fix net v)))) ∙ get_or-map (wire (fix net v)) outside p.0 (signal 0) X low))
             (EachBelow-at (wires v (steps net v k)) (fix net v) (origin (origins net outside gates) p).0 (EachBelow-append v v (steps net v k) (fix_gates net v) (EachBelow-refl v) (steps_below_fix net v k)))
         | inr high ↦
             let q = p.0 - length outside in
-            let a = length-append outside (map (gate_sig net) gates) in
-            let b = length-map gates (gate_sig net) in
-            let ql : q < length gates = omega (arith, l, a, b, high) in
+            let ql : q < length gates = omega (arith, length-append outside (map (gate_sig net) gates), length-map gates (gate_sig net)) in
             let len = length-map outside (wire (fix net v)) in
             let o : origin (origins net outside gates) p ≡ gate_sig net (gate_in gates q) =
             get_or-append_right outside (map (gate_sig net) gates) (length outside) p.0 (signal 0) refl high ∙ get_or-map (gate_sig net) gates q 0 (signal 0) ql in

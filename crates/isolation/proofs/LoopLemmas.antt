@@ -1,8 +1,9 @@
 -- The loops of an excerpt, their cut wires and their sweeps are those of the whole.
-use Rattle.std.proofs.Common.{◌≡◌, inl, inr, ℕ, zero, suc, ◌+◌, ◌-◌, ◌<◌, leb, Bool, true, false, ◌&&◌, if◌then◌else◌, List, [], ◌∷◌, length, map, get_or, refl, sym, ap, ap₂, ◌∙◌, subst, arith}
-use Rattle.isolation.proofs.Common.{cases_lt, cases_eq, and_parts, get_or-map, get_or_default, get_or_append_left, get_or-append_right, get_or-replicate, length-map, length-append, map-map, range_with_len, Sig, Trit, X, ext, Cover, Parts, IsNetlist, signal, gate_at, gate_sig, wire, fix, fix_gates, Feeds, Loops, AreLoopsOf, first_gate, gate_of, value_in, sweeps, CutsAreFixed, same_within, leads-trans, origins, origin, inputs_in, IsExcerpt}
+use Rattle.std.proofs.Common.{◌≡◌, inl, inr, ℕ, zero, suc, ◌+◌, ◌-◌, ◌<◌, ◌≤◌, leb, Bool, true, false, ◌&&◌, if◌then◌else◌, List, [], ◌∷◌, length, map, get_or, refl, sym, ap, ap₂, ◌∙◌, subst, arith, Contains}
+use Rattle.isolation.proofs.Common.{cases_lt, cases_eq, and_parts, get_or-map, get_or_default, get_or_append_left, get_or-append_right, get_or-replicate, length-map, map-map, range_with_len, Sig, Trit, X, ext, Cover, Parts, IsNetlist, signal, gate_at, gate_sig, wire, fix, fix_gates, Feeds, Loops, AreLoopsOf, first_gate, gate_of, value_in, sweeps, CutsAreFixed, same_within, leads-trans, origins, origin, inputs_in, IsExcerpt, Contains-get_or}
 use Rattle.std.proofs.lemmas.Bool.{leb-true, le-leb, lt-leb}
 use Rattle.std.specs.List.{AllByRecursion}
+use Rattle.cyc_base.proofs.ListLemmas.{all_map, all_weaker, Contains-map}
 use Rattle.cyc_base.proofs.TruthLemmas.{same_truth}
 use Rattle.netlist.specs.Walks.{Walk}
 use Rattle.loops.specs.Cuts.{MayPass}
@@ -13,6 +14,7 @@ use Rattle.loops.proofs.Sweeps.{sweep_each, cut_values_agree}
 use Rattle.loops.proofs.Unique.{sweep_is_the_one}
 use Rattle.loops.proofs.Walks.{leads-any, on_walk}
 use Rattle.isolation.specs.Excerpts.{AreWhole}
+use Rattle.isolation.proofs.OriginLemmas.{origins-size, origin-wire, origin-gate}
 use Rattle.isolation.proofs.ExcerptLemmas.{first-small, pin-within, gate_wire}
 use Rattle.isolation.proofs.KeptLemmas.{fix-kept}
 
@@ -39,17 +41,14 @@ module _ (net : Parts) (outside : List Sig) (gates : List ℕ) (small : Parts) (
 
   -- ---- the gates
 
+  at-order : (i j : ℕ) → i < size → at i ≤ at j → i ≤ j
+  at-order i j il le = elim (cases_lt j i) [ inl high ↦ absurd (omega (arith, whole.rise j i high il)) | inr low ↦ low ]
+
   at-once : (i j : ℕ) → i < size → j < size → at i ≡ at j → i ≡ j
-  at-once i j il jl e = elim (cases_lt i j) [
-    | inl low ↦ absurd (let r = whole.rise i j low jl in omega (arith, r, e))
-    | inr high ↦ elim (cases_eq i j) [ inl same ↦ same | inr other ↦ absurd (let r = whole.rise j i (omega (arith, high, other)) il in omega (arith, r, e)) ]
-  ]
+  at-once i j il jl e = omega (arith, at-order i j il (omega (arith, e)), at-order j i jl (omega (arith, e)))
 
   at-before : (i j : ℕ) → i < size → j < size → at i < at j → i < j
-  at-before i j il jl low = elim (cases_lt i j) [
-    | inl l ↦ l
-    | inr high ↦ elim (cases_eq i j) [ inl same ↦ absurd (let e = ap at same in omega (arith, low, e)) | inr other ↦ absurd (let r = whole.rise j i (omega (arith, high, other)) il in omega (arith, low, r)) ]
-  ]
+  at-before i j il jl low = elim (cases_eq i j) [ inl same ↦ absurd (omega (arith, ap at same)) | inr other ↦ omega (arith, other, at-order i j il (omega (arith, low))) ]
 
   -- a gate that has a place among these
   record Placed (g : ℕ) : Type 0 where
@@ -67,25 +66,14 @@ module _ (net : Parts) (outside : List Sig) (gates : List ℕ) (small : Parts) (
   abbrev all : List Sig
   all = origins net outside gates
 
-  length-all : length all ≡ length outside + size
-  length-all = length-append outside (map (gate_sig net) gates) ∙ ap (λ (n : ℕ). length outside + n) (length-map gates (gate_sig net))
-
   origin-input : (s : Sig) (d : Sig) → s.0 < length outside → origin all s ≡ get_or outside s.0 d
-  origin-input s d low = get_or_append_left outside (map (gate_sig net) gates) (signal 0) s.0 low ∙ get_or_default outside s.0 (signal 0) d low
-
-  origin-gate : (s : Sig) (q : ℕ) → q < size → s.0 ≡ length outside + q → origin all s ≡ gate_sig net (at q)
-  origin-gate s q l e =
-      get_or-append_right outside (map (gate_sig net) gates) (length outside) s.0 (signal 0) refl (omega (arith, e))
-      ∙ ap (λ (n : ℕ). get_or (map (gate_sig net) gates) n (signal 0)) (let m : s.0 - length outside ≡ q = omega (arith, e) in m)
-      ∙ get_or-map (gate_sig net) gates q 0 (signal 0) l
+  origin-input s d low = origin-wire net outside gates s.0 (signal 0) low ∙ get_or_default outside s.0 (signal 0) d low
 
   -- a wire outside is no gate of the block
   outside-apart : (s : Sig) (q : ℕ) → s.0 < length outside → q < size → origin all s ≡ gate_sig net (at q) → ⊥
   outside-apart s q low l e =
-      let here : get_or outside s.0 s ≡ gate_sig net (at q) = sym (origin-input s s low) ∙ e in
-      let len = length-map gates (gate_sig net) in
-      is.apart (get_or outside s.0 s) (s.0, low, get_or_default outside s.0 (get_or outside s.0 s) s low)
-      (q, omega (arith, l, len), get_or-map (gate_sig net) gates q 0 (get_or outside s.0 s) l ∙ sym here)
+      is.apart (get_or outside s.0 s) (Contains-get_or outside s.0 s low)
+      (subst (Contains (map (gate_sig net) gates)) (sym e ∙ origin-input s s low) (Contains-map (gate_sig net) gates (at q) (Contains-get_or gates q 0 l)))
 
   first-is : first_gate small ≡ length outside
   first-is = first-small net outside gates small valid is
@@ -103,40 +91,36 @@ module _ (net : Parts) (outside : List Sig) (gates : List ℕ) (small : Parts) (
   pin-source : (j k : ℕ) (d : Sig) → j < size → k < length (gate_at small j).pins → Source (length outside) size (get_or (gate_at small j).pins k d)
   pin-source j k d jl kl =
       let w = pin-within net outside gates small valid is j k d jl kl in
-      let len = length-all in
-      source_of (length outside) size (get_or (gate_at small j).pins k d) (omega (arith, w, len))
+      source_of (length outside) size (get_or (gate_at small j).pins k d) (omega (arith, w, origins-size net outside gates))
 
   feeds-down : (i j : ℕ) → i < size → j < size → Feeds net (at i) (at j) → Feeds small i j
   feeds-down i j il jl f =
-      let g = is.size in
       let k = f.pin.0 in
       let kl : k < length (gate_at small j).pins = (let l = f.pin.1 in let e = pins-size j jl in omega (arith, l, e)) in
       let s : Sig = get_or (gate_at small j).pins f.pin.0 (gate_sig small i) in
       let o : origin all s ≡ gate_sig net (at i) = pin-is j k (gate_sig small i) (gate_sig net (at i)) jl kl ∙ f.pin.2 in
       record {
-        source = omega (arith, il, g);
-        reader = omega (arith, jl, g);
+        source = omega (arith, is.size);
+        reader = omega (arith, is.size);
         pin = (f.pin.0, kl, by s o (pin-source j k (gate_sig small i) jl kl));
       }
     where
       by : (s : Sig) → origin all s ≡ gate_sig net (at i) → Source (length outside) size s → s ≡ gate_sig small i
       by s o (at_input low) = absurd (outside-apart s i low il o)
       by s o (at_gate q ql e) =
-          let n = ap (λ (r : Sig). r.0) (sym (origin-gate s q ql e) ∙ o) in
+          let n = ap (λ (r : Sig). r.0) (sym (origin-gate net outside gates s.0 q ql e) ∙ o) in
           let same : q ≡ i = at-once q i ql il (omega (arith, n)) in
-          let f = first-is in
-          sig_is s (first_gate small + i) (omega (arith, e, f, same))
+          sig_is s (first_gate small + i) (omega (arith, first-is))
 
   feeds-up : (i j : ℕ) → i < size → j < size → Feeds small i j → Feeds net (at i) (at j)
   feeds-up i j il jl f =
       let k = f.pin.0 in
       let s : Sig = get_or (gate_at small j).pins f.pin.0 (gate_sig small i) in
       let n = ap (λ (r : Sig). r.0) f.pin.2 in
-      let first = first-is in
       record {
         source = whole.within i il;
         reader = whole.within j jl;
-        pin = (f.pin.0, (let l = f.pin.1 in let e = pins-size j jl in omega (arith, l, e)), sym (pin-is j k (gate_sig small i) (gate_sig net (at i)) jl f.pin.1) ∙ origin-gate s i il (omega (arith, n, first)));
+        pin = (f.pin.0, (let l = f.pin.1 in let e = pins-size j jl in omega (arith, l, e)), sym (pin-is j k (gate_sig small i) (gate_sig net (at i)) jl f.pin.1) ∙ origin-gate net outside gates s.0 i il (omega (arith, n, first-is)));
       }
 
   -- ---- walks
@@ -164,15 +148,12 @@ module _ (net : Parts) (outside : List Sig) (gates : List ℕ) (small : Parts) (
   -- ---- loops and cut wires
 
   placed-walk : (i : ℕ) (via : List ℕ) → i < size → AllByRecursion (λ g. SameLoop net (at i) g) via → AllByRecursion (λ g. (h : Placed g) × AnyGate h.place) via
-  placed-walk i [] il h = tt
-  placed-walk i (g ∷ via) il h = ((in-loop i g il h.0, tt), placed-walk i via il h.1)
+  placed-walk i via il = all_weaker (SameLoop net (at i)) (λ g. (h : Placed g) × AnyGate h.place) via (λ g s. (in-loop i g il s, tt))
 
   same-walk : (i j : ℕ) (via : List ℕ) → Leads net AnyGate (at j) (at i) → Walk net (at i) via (at j) → AllByRecursion (λ g. SameLoop net (at i) g) via
-  same-walk i j via back w = by via (on_walk net (at i) (at j) via w)
-    where
-      by : (xs : List ℕ) → AllByRecursion (λ g. Leads net AnyGate (at i) g × Leads net AnyGate g (at j)) xs → AllByRecursion (λ g. SameLoop net (at i) g) xs
-      by [] h = tt
-      by (g ∷ xs) h = (record { there = h.0.0; back = leads-trans net g (at j) (at i) h.0.1 back }, by xs h.1)
+  same-walk i j via back w =
+      all_weaker (λ g. Leads net AnyGate (at i) g × Leads net AnyGate g (at j)) (SameLoop net (at i)) via
+      (λ g h. record { there = h.0; back = leads-trans net g (at j) (at i) h.1 back }) (on_walk net (at i) (at j) via w)
 
   leads-down : (i j : ℕ) → i < size → j < size → SameLoop net (at i) (at j) → Leads small AnyGate i j
   leads-down i j il jl s =
@@ -199,32 +180,28 @@ module _ (net : Parts) (outside : List Sig) (gates : List ℕ) (small : Parts) (
         let leads = (two_is.cut i).0 cut in
         (one_is.cut (at i)).1 (record {
           via = map at leads.via;
-          kind = by leads.via leads.kind;
+          kind = all_map (MayPass net one.cut (at i)) at leads.via (all_weaker (MayPass small two.cut i) (λ j. MayPass net one.cut (at i) (at j)) leads.via passes leads.kind);
           walk = walk-up i i leads.via leads.walk;
         })
       where
-        by : (xs : List ℕ) → AllByRecursion (MayPass small two.cut i) xs → AllByRecursion (MayPass net one.cut (at i)) (map at xs)
-        by [] h = tt
-        by (j ∷ xs) h =
-            let l = h.0.before in
-            let jl : j < size = omega (arith, l, il) in (
-              record { loop = same-up i j h.0.loop; before = whole.rise j i h.0.before il; uncut = sym (before j h.0.before jl) ∙ h.0.uncut },
-              by xs h.1,
-            )
+        passes : (j : ℕ) → MayPass small two.cut i j → MayPass net one.cut (at i) (at j)
+        passes j may = record {
+          loop = same-up i j may.loop;
+          before = whole.rise j i may.before il;
+          uncut = sym (before j may.before (omega (arith, may.before))) ∙ may.uncut;
+        }
 
     cut-down : (i : ℕ) → i < size → ((j : ℕ) → j < i → j < size → two.cut j ≡ one.cut (at j)) → one.cut (at i) ≡ true → two.cut i ≡ true
     cut-down i il before cut =
         let leads = (one_is.cut (at i)).0 cut in
-        (two_is.cut i).1 (walk-down (MayPass small two.cut i) i i (at i) (at i) leads.via il il refl refl leads.walk (by leads.via leads.kind))
+        (two_is.cut i).1 (walk-down (MayPass small two.cut i) i i (at i) (at i) leads.via il il refl refl leads.walk
+        (all_weaker (MayPass net one.cut (at i)) (λ g. (h : Placed g) × MayPass small two.cut i h.place) leads.via passes leads.kind))
       where
-        by : (xs : List ℕ) → AllByRecursion (MayPass net one.cut (at i)) xs → AllByRecursion (λ g. (h : Placed g) × MayPass small two.cut i h.place) xs
-        by [] h = tt
-        by (g ∷ xs) h =
-            let p = in-loop i g il h.0.loop in
-            let low : p.place < i = at-before p.place i p.inside il (let l = h.0.before in let e = p.found in omega (arith, l, e)) in (
-              (p, record { loop = same-down i p.place il p.inside (subst (SameLoop net (at i)) (sym p.found) h.0.loop); before = low; uncut = before p.place low p.inside ∙ ap one.cut p.found ∙ h.0.uncut }),
-              by xs h.1,
-            )
+        passes : (g : ℕ) → MayPass net one.cut (at i) g → (h : Placed g) × MayPass small two.cut i h.place
+        passes g may =
+            let p = in-loop i g il may.loop in
+            let low : p.place < i = at-before p.place i p.inside il (omega (arith, may.before, p.found)) in
+            (p, record { loop = same-down i p.place il p.inside (subst (SameLoop net (at i)) (sym p.found) may.loop); before = low; uncut = before p.place low p.inside ∙ ap one.cut p.found ∙ may.uncut })
 
     cut-below : (bound i : ℕ) → i < bound → i < size → two.cut i ≡ one.cut (at i)
     cut-below zero i less il = absurd (omega (arith, less))
@@ -255,38 +232,25 @@ module _ (net : Parts) (outside : List Sig) (gates : List ℕ) (small : Parts) (
       -- a pin reads the same
       read-same : (c s : List Trit) (c' s' : List Trit) → Agree c' c → Agree s' s → (i : ℕ) (p : Sig) → i < size → Source (length outside) size p → pin_in small two inputs c' s' i p ≡ pin_in net one v c s (at i) (origin all p)
       read-same c s c' s' ca sa i p il (at_gate q ql e) =
-          let first = first-is in
-          let o = origin-gate p q ql e in
-          let gn : gate_of small p ≡ q = omega (arith, e, first) in
+          let o = origin-gate net outside gates p.0 q ql e in
+          let gn : gate_of small p ≡ q = omega (arith, first-is) in
           let g2 : gate_of net (gate_sig net (at q)) ≡ at q = omega arith in
-          let size_in = inputs-size in
-          ap (λ t. if t && two.same i (gate_of small p) then (if two.cut (gate_of small p) then value_in c' (gate_of small p) else value_in s' (gate_of small p)) else wire (fix small inputs) p) (le-leb (first_gate small) p.0 (omega (arith, e, first)))
-          ∙ ap (λ (n : ℕ). if two.same i n then (if two.cut n then value_in c' n else value_in s' n) else wire (fix small inputs) p) gn
-          ∙ ap₂ (λ t d. if t then (if d then value_in c' q else value_in s' q) else wire (fix small inputs) p) (loop-same i q il ql) (cut-same q ql)
-          ∙ ap₂ (λ x y. if one.same (at i) (at q) then (if one.cut (at q) then x else y) else wire (fix small inputs) p) (ca q ql) (sa q ql)
-          ∙ ap (λ x. if one.same (at i) (at q) then (if one.cut (at q) then value_in c (at q) else value_in s (at q)) else x)
-          (get_or-append_right inputs (fix_gates small inputs) (first_gate small) p.0 X inputs-size (omega (arith, e, first)) ∙ ap (value_in (fix_gates small inputs)) gn ∙ fix-same q ql ∙ sym (gate_wire net outside gates small valid is v width (at q)))
-          ∙ sym (ap (λ (n : ℕ). if one.same (at i) n then (if one.cut n then value_in c n else value_in s n) else wire (fix net v) (gate_sig net (at q))) g2)
-          ∙ sym (ap (λ t. if t && one.same (at i) (gate_of net (gate_sig net (at q))) then (if one.cut (gate_of net (gate_sig net (at q))) then value_in c (gate_of net (gate_sig net (at q))) else value_in s (gate_of net (gate_sig net (at q)))) else wire (fix net v) (gate_sig net (at q))) (le-leb (first_gate net) (gate_sig net (at q)).0 (omega arith)))
-          ∙ sym (ap (pin_in net one v c s (at i)) o)
+          rw (o, le-leb (first_gate small) p.0 (omega (arith, first-is)), gn, loop-same i q il ql, cut-same q ql, ca q ql, sa q ql, le-leb (first_gate net) (gate_sig net (at q)).0 (omega arith), g2)
+          (ap (λ x. if one.same (at i) (at q) then (if one.cut (at q) then value_in c (at q) else value_in s (at q)) else x)
+          (get_or-append_right inputs (fix_gates small inputs) (first_gate small) p.0 X inputs-size (omega (arith, first-is)) ∙ ap (value_in (fix_gates small inputs)) gn ∙ fix-same q ql ∙ sym (gate_wire net outside gates small valid is v width (at q))))
       read-same c s c' s' ca sa i p il (at_input low) =
-          let first = first-is in
-          let before : leb (first_gate small) p.0 ≡ false = lt-leb (first_gate small) p.0 (omega (arith, low, first)) in
-          let size_in = inputs-size in
-          ap (λ t. if t && two.same i (gate_of small p) then (if two.cut (gate_of small p) then value_in c' (gate_of small p) else value_in s' (gate_of small p)) else wire (fix small inputs) p) before
-          ∙ get_or_append_left inputs (fix_gates small inputs) X p.0 (omega (arith, low, first, size_in))
+          let before : leb (first_gate small) p.0 ≡ false = lt-leb (first_gate small) p.0 (omega (arith, first-is)) in
+          rw (before, away (in_loop_of net one (at i) (origin all p)) refl)
+          (get_or_append_left inputs (fix_gates small inputs) X p.0 (omega (arith, first-is, inputs-size))
           ∙ get_or-map (wire (fix net v)) outside p.0 p X low
-          ∙ ap (wire (fix net v)) (sym (origin-input p p low))
-          ∙ sym (ap (λ t. if t then (if one.cut (gate_of net (origin all p)) then value_in c (gate_of net (origin all p)) else value_in s (gate_of net (origin all p))) else wire (fix net v) (origin all p)) (away (in_loop_of net one (at i) (origin all p)) refl))
+          ∙ ap (wire (fix net v)) (sym (origin-input p p low)))
         where
           away : (t : Bool) → in_loop_of net one (at i) (origin all p) ≡ t → in_loop_of net one (at i) (origin all p) ≡ false
           away false e = e
           away true e =
               let parts = and_parts (leb (first_gate net) (origin all p).0) (one.same (at i) (gate_of net (origin all p))) e in
               let h = in-loop i (gate_of net (origin all p)) il ((one_is.same (at i) (gate_of net (origin all p))).0 parts.1) in
-              let f = h.found in
-              let l = leb-true (first_gate net) (origin all p).0 parts.0 in
-              absurd (outside-apart p h.place low h.inside (sig_is (origin all p) (first_gate net + at h.place) (omega (arith, f, l))))
+              absurd (outside-apart p h.place low h.inside (sig_is (origin all p) (first_gate net + at h.place) (omega (arith, h.found, leb-true (first_gate net) (origin all p).0 parts.0))))
 
       -- a sweep sets the block as the whole's does
       sweep-same : (c c' : List Trit) → Agree c' c → Agree (sweep small two inputs c') (sweep net one v c)
@@ -314,8 +278,7 @@ module _ (net : Parts) (outside : List Sig) (gates : List ℕ) (small : Parts) (
 
       pub sweeps-same : (k : ℕ) → Agree (sweeps small two inputs k) (sweeps net one v k)
       sweeps-same zero i il =
-          let g = is.size in
-          get_or-replicate (length small.gates) i X X (omega (arith, il, g)) ∙ sym (get_or-replicate (length net.gates) (at i) X X (whole.within i il))
+          get_or-replicate (length small.gates) i X X (omega (arith, is.size)) ∙ sym (get_or-replicate (length net.gates) (at i) X X (whole.within i il))
       sweeps-same (suc k) i il = sweep-same (sweeps net one v k) (sweeps small two inputs k) (sweeps-same k) i il
 
       -- ---- the cut wires stand at the fixpoint in both, or in neither
@@ -325,7 +288,7 @@ module _ (net : Parts) (outside : List Sig) (gates : List ℕ) (small : Parts) (
           map_agree (value_in (sweeps net one v k)) (value_in (fix_gates net v)) (cuts_of net one (at i))
           (λ j d jl.
           let n = get_or (cuts_of net one (at i)) j d in
-          let kept = Contains-filter_from (λ m. one.same (at i) m && one.cut m) (range_with_len 0 (length net.gates)) (get_or (cuts_of net one (at i)) j d) (j, jl, get_or_default (cuts_of net one (at i)) j (get_or (cuts_of net one (at i)) j d) d jl) in
+          let kept = Contains-filter_from (λ m. one.same (at i) m && one.cut m) (range_with_len 0 (length net.gates)) (get_or (cuts_of net one (at i)) j d) (Contains-get_or (cuts_of net one (at i)) j d jl) in
           let parts = and_parts (one.same (at i) n) (one.cut n) kept.0 in
           let h = in-loop i n il ((one_is.same (at i) n).0 parts.0) in
           subst (λ (m : ℕ). value_in (sweeps net one v k) m ≡ value_in (fix_gates net v) m) h.found
@@ -338,7 +301,7 @@ module _ (net : Parts) (outside : List Sig) (gates : List ℕ) (small : Parts) (
           map_agree (value_in (sweeps small two inputs k)) (value_in (fix_gates small inputs)) (cuts_of small two i)
           (λ j d jl.
           let n = get_or (cuts_of small two i) j d in
-          let kept = Contains-filter_from (λ m. two.same i m && two.cut m) (range_with_len 0 (length small.gates)) (get_or (cuts_of small two i) j d) (j, jl, get_or_default (cuts_of small two i) j (get_or (cuts_of small two i) j d) d jl) in
+          let kept = Contains-filter_from (λ m. two.same i m && two.cut m) (range_with_len 0 (length small.gates)) (get_or (cuts_of small two i) j d) (Contains-get_or (cuts_of small two i) j d jl) in
           let parts = and_parts (two.same i n) (two.cut n) kept.0 in
           let nl = small-within n (same_within small two two_is i n parts.0) in
           sweeps-same k n nl

@@ -1,9 +1,9 @@
 -- Marks while gates are marked from the last block to the first.
-use Rattle.std.proofs.Common.{◌≡◌, inl, inr, ◌⊎◌, ◌↔◌, ℕ, zero, suc, ◌+◌, ◌-◌, ◌<◌, ◌≤◌, Bool, true, false, List, [], ◌∷◌, length, get_or, replicate, Option, Some, None, refl, sym, ap, ◌∙◌, subst, arith, Contains, true≢false}
+use Rattle.std.proofs.Common.{◌≡◌, inl, inr, ◌⊎◌, ◌↔◌, ℕ, zero, suc, ◌+◌, ◌<◌, ◌≤◌, Bool, true, false, List, [], ◌∷◌, length, get_or, replicate, Option, Some, None, refl, sym, ap, ◌∙◌, subst, arith, Contains, true≢false}
 use Rattle.std.proofs.Math.ListN.{set}
 use Rattle.std.specs.Prelude.{IfNone}
-use Rattle.isolation.proofs.Common.{cases_lt, cases_eq, get_or_default, Sig, Parts, IsNetlist, no_gate, gate_at, gate_sig, Feeds, Blocks, AreBlocksOf, block_at, home_of, first_gate, gate_home, home_gate, gate_in, IsUpstream, AddMarks, IsNearOne, AreMarkedFrom}
-use Rattle.std.proofs.lemmas.List.{get_or-replicate, get_or-set_same, get_or-set_other, get_or_past, length-replicate, length-set}
+use Rattle.isolation.proofs.Common.{cases_lt, cases_eq, get_or_default, Sig, Parts, IsNetlist, no_gate, gate_at, gate_sig, Feeds, Blocks, AreBlocksOf, block_at, home_of, first_gate, gate_home, home_gate, gate_in, IsUpstream, AddMarks, IsNearOne, AreMarkedFrom, Contains-get_or}
+use Rattle.std.proofs.lemmas.List.{get_or-set_same, get_or-set_other, length-set}
 use Rattle.loops.proofs.Walks.{leads-step}
 use Rattle.isolation.specs.Cones.{is_marked, AreUpstreamMarks, IsConeOf, IsOnPin, IsNear, IsWithMark}
 use Rattle.isolation.proofs.UpstreamLemmas.{upstream-trans, same-up, upstream-closed}
@@ -52,11 +52,10 @@ add-one marks gate less = record {
 module _ (net : Parts) (valid : IsNetlist net) (gate : ℕ) (less : gate < length net.gates) (pins : List Sig) (same : pins ≡ (gate_at net gate).pins) (k : ℕ) (d : Sig) (within : k < length pins) where
   at-pin : (m : ℕ) → IsOnPin net (k + 1) gate m → IsOnPin net k gate m ⊎ (get_or pins k d ≡ gate_sig net m)
   at-pin m on =
-      let e = on.early in
       elim (cases_lt on.feeds.pin.0 k) [
         | inl low ↦ inl (record { feeds = on.feeds; early = low })
         | inr high ↦
-            let at : on.feeds.pin.0 ≡ k = omega (arith, e, high) in
+            let at : on.feeds.pin.0 ≡ k = omega (arith, on.early) in
             inr (get_or_default pins k d (gate_sig net m) within ∙ ap (λ (xs : List Sig). get_or xs k (gate_sig net m)) same ∙ ap (λ (n : ℕ). get_or (gate_at net gate).pins n (gate_sig net m)) (sym at) ∙ on.feeds.pin.2)
       ]
 
@@ -73,9 +72,8 @@ module _ (net : Parts) (valid : IsNetlist net) (gate : ℕ) (less : gate < lengt
       drives m is =
           let here : k < length (gate_at net gate).pins = subst (λ (xs : List Sig). k < length xs) same within in
           let e : get_or (gate_at net gate).pins k (gate_sig net m) ≡ gate_sig net m = ap (λ (xs : List Sig). get_or xs k (gate_sig net m)) (sym same) ∙ get_or_default pins k (gate_sig net m) d within ∙ is in
-          let b = valid.pins gate no_gate less k (gate_sig net m) here in
           let n = ap (λ (q : Sig). q.0) e in
-          record { source = omega (arith, b, n); reader = less; pin = (k, here, e) }
+          record { source = omega (arith, valid.pins gate no_gate less k (gate_sig net m) here, n); reader = less; pin = (k, here, e) }
 
 -- a signal that no gate drives, and one that a gate does
 pub driver-none : (net : Parts) (s : Sig) (marks : List Bool) (driver : Option ℕ) → ((gate : ℕ) → ¬ (driver ≡ Some gate)) → IfNone driver (s.0 < first_gate net) → AddMarks (λ m. s ≡ gate_sig net m) marks marks
@@ -106,8 +104,7 @@ near-more net gates k d old mid new less one two =
     (λ m near. elim (cases_lt near.place k) [
       | inl low ↦ inl (record { place = near.place; within = low; near = near.near })
       | inr high ↦
-          let w = near.within in
-          let is : near.place ≡ k = omega (arith, w, high) in
+          let is : near.place ≡ k = omega (arith, near.within) in
           inr (subst (λ (n : ℕ). IsNear net n m) (ap (gate_in gates) is ∙ sym at) near.near)
     ])
     one two
@@ -116,8 +113,8 @@ pub near-none : (net : Parts) (gates : List ℕ) (m : ℕ) → ¬ IsNearOne net 
 near-none net gates m near = let w = near.within in omega (arith, w)
 
 module _ (net : Parts) (blocks : Blocks) (are : AreBlocksOf net blocks) (old : List Bool) where
-  pub marked-first : length old ≡ length net.gates → AreMarkedFrom net blocks old (length blocks.list) old
-  marked-first width = record {
+  pub marked-first : (b : ℕ) → length blocks.list ≤ b → length old ≡ length net.gates → AreMarkedFrom net blocks old b old
+  marked-first b all width = record {
     width = width;
     keeps = λ m is. is;
     closed = λ m n feeds past is. absurd (let h = are.home n feeds.reader in omega (arith, h, past));
@@ -159,7 +156,7 @@ module _ (net : Parts) (blocks : Blocks) (are : AreBlocksOf net blocks) (old : L
       member n c = gate_home net blocks are b n less (subst (λ (xs : List ℕ). Contains xs n) same c)
 
       at : (place : ℕ) → place < length gates → (gate_in gates place < length net.gates) × (home_of blocks (gate_in gates place) ≡ b)
-      at place l = member (gate_in gates place) (place, l, get_or_default gates place (gate_in gates place) 0 l)
+      at place l = member (gate_in gates place) (Contains-get_or gates place 0 l)
 
       near-low : (n : ℕ) → IsNearOne net gates (length gates) n → home_of blocks n ≤ b
       near-low n near = by near.near
@@ -181,14 +178,6 @@ module _ (net : Parts) (blocks : Blocks) (are : AreBlocksOf net blocks) (old : L
           by (inl e) = subst (λ (k : ℕ). IsUpstream net k g) (sym e) up
           by (inr feeds) = upstream-trans net m (gate_in gates near.place) g (inr (leads-step net m (gate_in gates near.place) feeds)) up
 
-  -- with places counted back
-  pub marked-back : (back count : ℕ) (gates : List ℕ) (marks new : List Bool) → count ≡ length blocks.list → back < count → gates ≡ (block_at blocks (count - 1 - back)).gates →
-      AreMarkedFrom net blocks old (length blocks.list - back) marks → AddMarks (IsWithMark net gates marks) marks new → AreMarkedFrom net blocks old (length blocks.list - (back + 1)) new
-  marked-back back count gates marks new all less same before added =
-      subst (λ (b : ℕ). AreMarkedFrom net blocks old b new) (let e : count - 1 - back ≡ length blocks.list - (back + 1) = omega (arith, all, less) in e)
-      (marked-more (count - 1 - back) gates marks new (omega (arith, all, less)) same
-      (subst (λ (b : ℕ). AreMarkedFrom net blocks old b marks) (let e : length blocks.list - back ≡ count - 1 - back + 1 = omega (arith, all, less) in e) before) added)
-
   pub marked-all : (marks : List Bool) → AreMarkedFrom net blocks old 0 marks → AreUpstreamMarks net old marks
   marked-all marks from = record {
     width = from.width;
@@ -208,11 +197,9 @@ pub record IsAmongFirst (gates : List ℕ) (k m : ℕ) : Type 0 where
   pub is : get_or gates place m ≡ m
 
 pub unmarked : (width n : ℕ) → is_marked (replicate width false) n ≡ false
-unmarked width n =
-    elim (cases_lt n width) [
-      | inl inside ↦ get_or-replicate width n false false inside
-      | inr past ↦ get_or_past (replicate width false) n false (let e = length-replicate width false in omega (arith, e, past))
-    ]
+unmarked zero n = refl
+unmarked (suc width) zero = refl
+unmarked (suc width) (suc n) = unmarked width n
 
 -- marked from these on, where nothing was
 pub cone_marked : (net : Parts) (gates : List ℕ) (start marks new : List Bool) → ((n : ℕ) → is_marked start n ≡ false) → AddMarks (Contains gates) start marks → AreUpstreamMarks net marks new → IsConeOf net gates new

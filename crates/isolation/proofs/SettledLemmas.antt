@@ -1,8 +1,9 @@
 -- Loops that are settled by themselves, in the whole netlist.
 use Rattle.std.proofs.Common.{◌≡◌, ◌≢◌, inl, inr, ℕ, zero, suc, ◌<◌, Bool, true, false, List, length, map, get_or, refl, sym, ap, ◌∙◌, subst, arith, Contains, true≢false}
 use Rattle.netlist.proofs.FixpointLemmas.{get_or-fix}
+use Rattle.cyc_base.proofs.ListLemmas.{Contains-map}
 use Rattle.cyc_base.proofs.OrderLemmas.{bit-known}
-use Rattle.isolation.proofs.Common.{cases_lt, cases_eq, cases_Bool, get_or-map, get_or_default, get_or_append_left, length-map, Sig, X, bit, bits, ext, Parts, IsNetlist, count, signal, no_gate, gate_at, gate_sig, wire, fix, fix_gates, Feeds, Blocks, AreBlocksOf, block_at, home_of, first_gate, gate_of, value_in, wire_of_gate, leads-trans, gate_home, home_gate, gate_in, IsUpstream}
+use Rattle.isolation.proofs.Common.{cases_lt, cases_eq, cases_Bool, get_or-map, get_or_default, get_or_append_left, length-map, Sig, X, bit, bits, ext, Parts, IsNetlist, count, signal, no_gate, gate_at, gate_sig, wire, fix, fix_gates, Feeds, Blocks, AreBlocksOf, block_at, home_of, first_gate, gate_of, value_in, wire_of_gate, leads-trans, gate_home, home_gate, gate_in, IsUpstream, Contains-get_or}
 use Rattle.cover_logic.specs.Covers.{value}
 use Rattle.cover_logic.proofs.ExtensionLemmas.{ext_at_bits}
 use Rattle.loops.proofs.Walks.{leads-step}
@@ -61,7 +62,7 @@ module _ (net : Parts) (valid : IsNetlist net) (blocks : Blocks) (are : AreBlock
         known : (k : ℕ) → k < length (gate_at net n).pins → wire (fix net (bits v)) (get_or (gate_at net n).pins k (signal 0)) ≢ X
         known k l =
             let s : Sig = get_or (gate_at net n).pins k (signal 0) in
-            let c : Contains (gate_at net n).pins s = (k, l, get_or_default (gate_at net n).pins k s (signal 0) l) in
+            let c : Contains (gate_at net n).pins s = Contains-get_or (gate_at net n).pins k (signal 0) l in
             pin_known n s (pin-signal n s nl c)
             (λ g gl e. let feeds = feeds-from n g s nl gl e c in below g gl (earlier g feeds) (clear-up g n (inr (leads-step net g n feeds)) clear))
 
@@ -73,14 +74,14 @@ module _ (net : Parts) (valid : IsNetlist net) (blocks : Blocks) (are : AreBlock
         let at : get_or (block_at blocks (home_of blocks n)).gates c.0 0 ≡ n = get_or_default (block_at blocks (home_of blocks n)).gates c.0 0 n c.1 ∙ c.2 in
         subst (λ (m : ℕ). value_in (fix_gates net (bits v)) m ≢ X) at
         (gates_known net a.outside (block_at blocks (home_of blocks n)).gates a.small a.valid a.is (bits v) wide (λ i l. (member i l).0) a.determined
-        (λ k d l. known (get_or a.outside k d) (a.is.apart (get_or a.outside k d) (k, l, get_or_default a.outside k (get_or a.outside k d) d l)) (a.read (get_or a.outside k d) (k, l, get_or_default a.outside k (get_or a.outside k d) d l)))
+        (λ k d l. known (get_or a.outside k d) (a.is.apart (get_or a.outside k d) (Contains-get_or a.outside k d l)) (a.read (get_or a.outside k d) (Contains-get_or a.outside k d l)))
         c.0 c.1)
       where
         gates : List ℕ
         gates = (block_at blocks (home_of blocks n)).gates
 
         member : (i : ℕ) → i < length (block_at blocks (home_of blocks n)).gates → (gate_in (block_at blocks (home_of blocks n)).gates i < length net.gates) × (home_of blocks (gate_in (block_at blocks (home_of blocks n)).gates i) ≡ home_of blocks n)
-        member i l = gate_home net blocks are (home_of blocks n) (gate_in (block_at blocks (home_of blocks n)).gates i) (are.home n nl) (i, l, get_or_default (block_at blocks (home_of blocks n)).gates i (gate_in (block_at blocks (home_of blocks n)).gates i) 0 l)
+        member i l = gate_home net blocks are (home_of blocks n) (gate_in (block_at blocks (home_of blocks n)).gates i) (are.home n nl) (Contains-get_or (block_at blocks (home_of blocks n)).gates i 0 l)
 
         known : (s : Sig) → (¬ Contains (map (gate_sig net) (block_at blocks (home_of blocks n)).gates) s) → IsRead net (block_at blocks (home_of blocks n)).gates s → wire (fix net (bits v)) s ≢ X
         known s apart read =
@@ -100,9 +101,7 @@ module _ (net : Parts) (valid : IsNetlist net) (blocks : Blocks) (are : AreBlock
             inside : (g : ℕ) → g < length net.gates → s ≡ gate_sig net g → home_of blocks g ≡ home_of blocks n → Contains (map (gate_sig net) (block_at blocks (home_of blocks n)).gates) s
             inside g gl e home =
                 let c : Contains (block_at blocks (home_of blocks n)).gates g = subst (λ (p : ℕ). Contains (block_at blocks p).gates g) home (home_gate net blocks are g gl) in
-                let l = c.1 in
-                let len = length-map (block_at blocks (home_of blocks n)).gates (gate_sig net) in
-                (c.0, omega (arith, l, len), get_or-map (gate_sig net) (block_at blocks (home_of blocks n)).gates c.0 g s c.1 ∙ ap (gate_sig net) c.2 ∙ sym e)
+                subst (Contains (map (gate_sig net) (block_at blocks (home_of blocks n)).gates)) (sym e) (Contains-map (gate_sig net) (block_at blocks (home_of blocks n)).gates g c)
 
   by_blocks : (b n : ℕ) → n < length net.gates → home_of blocks n < b → Clear n → value_in (fix_gates net (bits v)) n ≢ X
   by_blocks zero n nl low clear = absurd (omega (arith, low))

@@ -1,7 +1,7 @@
 -- What the solution of a small netlist on rails shows.
-use Rattle.std.proofs.Common.{◌≡◌, inl, inr, ℕ, zero, suc, ◌+◌, ◌-◌, ◌<◌, ◌≤◌, Bool, true, false, ◌&&◌, List, [], ◌∷◌, length, map, filter, get_or, Option, Some, None, Result, Ok, Err, IfOk, refl, sym, ap, ap₂, ◌∙◌, subst, arith, true≢false}
+use Rattle.std.proofs.Common.{◌≡◌, inl, inr, ℕ, zero, suc, ◌+◌, ◌-◌, ◌<◌, ◌≤◌, Bool, true, false, ◌&&◌, List, [], ◌∷◌, length, map, filter, get_or, refl, sym, ap, ap₂, ◌∙◌, subst, arith, true≢false}
 use Rattle.std.proofs.Math.Path.{fun_ext}
-use Rattle.isolation.proofs.Common.{cases_Bool, and_parts, get_or-map, get_or-append_right, length-map, length-append, IfSome, All, range_with_len, Node, Arena, den, Trit, X, bit, bits, Rails, value_of, values_of, Parts, IsNetlist, fix, fix_gates, Blocks, AreBlocksOf, block_at, home_of, Loops, AreLoopsOf, loops_of, first_gate, value_in, sweeps, CutsAreFixed, loops_exist, rails_under, Vectors, IsLoopNetlist, AreKnown, IsSolvedNetlist}
+use Rattle.isolation.proofs.Common.{cases_Bool, and_parts, get_or-map, get_or-append_right, length-map, length-append, All, range_with_len, Node, Arena, den, Trit, X, bit, bits, Rails, value_of, values_of, Parts, IsNetlist, fix, fix_gates, Blocks, AreBlocksOf, block_at, home_of, Loops, AreLoopsOf, loops_of, first_gate, value_in, sweeps, CutsAreFixed, loops_exist, rails_under, Vectors, IsLoopNetlist, AreKnown, IsSolvedNetlist}
 use Rattle.bdd_ops.specs.Least.{by_variable}
 use Rattle.loops.specs.declared.structure.Cut.{Cut}
 use Rattle.loops.specs.Cuts.{IsCutOf, loops_by, in_one_loop, is_cut}
@@ -38,13 +38,10 @@ module _ (net : Parts) (blocks : Blocks) (cut : Cut) (are : AreBlocksOf net bloc
       let w : List Bool = by_variable layout u in
       let rails : List Rails = map (rails_under a) solved.rails in
       let all : values_of a rails w ≡ fix net (bits u) = is.values w ∙ ap (fix net) (laid u wide) in
-      let len = ap length all in
       let l1 = length-map rails (λ r. value_of a r w) in
-      let l2 = length-append (bits u) (fix_gates net (bits u)) in
       let l3 = length-map u bit in
-      let l4 = length-fix net (loops_of net) (bits u) in
       let none : Rails = record { one = record { number = 0 }; zero = record { number = 0 } } in
-      let inside : first_gate net + n < length rails = omega (arith, len, l1, l2, l3, l4, wide, less) in
+      let inside : first_gate net + n < length rails = omega (arith, ap length all, l1, length-append (bits u) (fix_gates net (bits u)), l3, length-fix net (loops_of net) (bits u)) in
       known (first_gate net + n) none inside w
       (sym (get_or-map (λ r. value_of a r w) rails (first_gate net + n) none X inside)
       ∙ ap (λ (xs : List Trit). get_or xs (first_gate net + n) X) all
@@ -61,11 +58,10 @@ module _ (net : Parts) (blocks : Blocks) (cut : Cut) (are : AreBlocksOf net bloc
   -- a gate that is in no loop has no cut wires
   no_cuts : (n : ℕ) → (block_at blocks (home_of blocks n)).looped ≡ false → (xs : List ℕ) → filter (λ m. in_one_loop blocks n m && is_cut cut.wires m) xs ≡ []
   no_cuts n plain [] = refl
-  no_cuts n plain (m ∷ xs) = by (in_one_loop blocks n m && is_cut cut.wires m) refl (no_cuts n plain xs)
-    where
-      by : (b : Bool) → (in_one_loop blocks n m && is_cut cut.wires m) ≡ b → filter (λ m. in_one_loop blocks n m && is_cut cut.wires m) xs ≡ [] → filter (λ m. in_one_loop blocks n m && is_cut cut.wires m) (m ∷ xs) ≡ []
-      by true is rest = absurd (true≢false (sym (told_parts net blocks are n m (and_parts (in_one_loop blocks n m) (is_cut cut.wires m) is).0).looped ∙ plain))
-      by false is rest = rw is rest
+  no_cuts n plain (m ∷ xs) = elim (cases_Bool (in_one_loop blocks n m && is_cut cut.wires m)) [
+    | inl is ↦ absurd (true≢false (sym (told_parts net blocks are n m (and_parts (in_one_loop blocks n m) (is_cut cut.wires m) is).0).looped ∙ plain))
+    | inr is ↦ rw is (no_cuts n plain xs)
+  ]
 
   -- the greatest count is enough for each loop
   pub sweeps-are : (a : Arena) (counts : SweepCounts) (care : Node) (most : ℕ) → length counts.per_block ≡ length blocks.list → CountSweeps net blocks cut a v care counts → ((v : List Bool) → den a care v ≡ true) → All (λ n. n ≤ most) counts.per_block →
@@ -76,8 +72,7 @@ module _ (net : Parts) (blocks : Blocks) (cut : Cut) (are : AreBlocksOf net bloc
         | inl loop ↦
             let one = found.least n less loop in
             let h = subst (λ (t : List Trit). CutsAreFixed net (loops_by blocks cut) t n (count_at counts (home_of blocks n))) (laid u wide) (one.enough (by_variable layout u) (everywhere (by_variable layout u))) in
-            let home = are.home n less in
-            let small : count_at counts (home_of blocks n) ≤ most = greatest (home_of blocks n) 0 (omega (arith, home, width)) in
+            let small : count_at counts (home_of blocks n) ≤ most = greatest (home_of blocks n) 0 (omega (arith, are.home n less)) in
             subst (CutsAreFixed net (loops_by blocks cut) (bits u) n) (let e : (most - count_at counts (home_of blocks n)) + count_at counts (home_of blocks n) ≡ most = omega (arith, small) in e)
             (stay_fixed (loops_by blocks cut) (blocks_tell_loops net blocks cut are cut_is) u wide n (count_at counts (home_of blocks n)) (most - count_at counts (home_of blocks n)) h)
         | inr plain ↦
@@ -106,9 +101,3 @@ settles-is net gates small k valid is settled = record {
   alone = record { outside = is.outside; small = small; valid = valid; is = is.is; read = is.read; determined = settled.determined };
   sweeps = settled.sweeps;
 }
-
--- and what is found of it
-pub settles-found : {E : Type 0} (net : Parts) (gates : List ℕ) (small : Parts) (budget : ℕ) (made : Result (Option ℕ) E) → IsNetlist small → IsLoopNetlist net gates small → IfOk made (λ found. IfSome found (IsSettledIn small)) → IfOk made (λ found. IfSome found (SettleInSweeps net gates))
-settles-found net gates small budget (Ok None) valid is settled = tt
-settles-found net gates small budget (Ok (Some k)) valid is settled = settles-is net gates small k valid is settled
-settles-found net gates small budget (Err fault) valid is settled = tt

@@ -1,7 +1,8 @@
 -- Rails that aren't known at all vectors, and the gates that they stand for.
 use Rattle.std.proofs.Common.{◌≡◌, ◌≢◌, inl, inr, ◌⊎◌, ℕ, zero, suc, ◌+◌, ◌-◌, ◌<◌, Bool, true, false, ◌||◌, ◌==◌, List, [], ◌∷◌, length, get_or, Option, Some, None, Result, Ok, Err, IfOk, refl, sym, ap, ◌∙◌, arith, true≢false}
-use Rattle.isolation.proofs.Common.{cases_lt, eq-eqb, get_or-map, get_or_default, get_or_append_left, get_or-append_right, length-map, All, Node, Arena, den, KeepsNodes, IsLawful, Trit, X, bit, bits, Rails, AreRailsOf, value_of, values_of, Parts, fix, fix_gates, IsNetlist, first_gate, value_in, order, Vectors, rails_at, unknown, IsLoopNetlist, HasUnknownRails}
+use Rattle.isolation.proofs.Common.{cases_Bool, cases_lt, eq-eqb, get_or-map, get_or_default, get_or_append_left, get_or-append_right, length-map, All, Node, Arena, den, KeepsNodes, IsLawful, Trit, X, bit, bits, Rails, AreRailsOf, value_of, values_of, Parts, fix, fix_gates, IsNetlist, first_gate, value_in, order, Vectors, rails_at, unknown, IsLoopNetlist, HasUnknownRails}
 use Rattle.std.specs.Prelude.{IfNone}
+use Rattle.cyc_base.proofs.ListLemmas.{empty_list}
 use Rattle.cyc_base.proofs.OrderLemmas.{bit-known}
 use Rattle.bdd_store.specs.Arena.{constant, IsNodeOf}
 use Rattle.bdd_ops.specs.Operations.{disjunction}
@@ -24,21 +25,16 @@ record IsFalseAt (n : ℕ) (f : List Bool → Bool) : Type 0 where
 abbrev IsTrueAtAll : ℕ → (List Bool → Bool) → Type 0
 IsTrueAtAll n f = (v : List Bool) → length v ≡ n → f v ≡ true
 
-all_empty : (f : List Bool → Bool) → f [] ≡ true → IsTrueAtAll 0 f
-all_empty f is [] long = is
-all_empty f is (b ∷ v) long = absurd (omega (arith, long))
-
 all_longer : (n : ℕ) (f : List Bool → Bool) → IsTrueAtAll n (λ v. f (false ∷ v)) → IsTrueAtAll n (λ v. f (true ∷ v)) → IsTrueAtAll (suc n) f
 all_longer n f zeros ones [] long = absurd (omega (arith, long))
 all_longer n f zeros ones (false ∷ v) long = zeros v (omega (arith, long))
 all_longer n f zeros ones (true ∷ v) long = ones v (omega (arith, long))
 
 false_or_all : (n : ℕ) (f : List Bool → Bool) → IsFalseAt n f ⊎ IsTrueAtAll n f
-false_or_all zero f = by (f []) refl
-  where
-    by : (b : Bool) → f [] ≡ b → IsFalseAt zero f ⊎ IsTrueAtAll zero f
-    by true is = inr (all_empty f is)
-    by false is = inl (record { vector = []; width = refl; is = is })
+false_or_all zero f = elim (cases_Bool (f [])) [
+  | inl is ↦ inr (λ v long. rw (empty_list v long) is)
+  | inr is ↦ inl (record { vector = []; width = refl; is = is })
+]
 false_or_all (suc n) f = elim (false_or_all n (λ v. f (false ∷ v))) [
   | inl at ↦ inl (record { vector = false ∷ at.vector; width = ap suc at.width; is = at.is })
   | inr zeros ↦ elim (false_or_all n (λ v. f (true ∷ v))) [

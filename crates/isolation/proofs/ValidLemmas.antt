@@ -1,6 +1,7 @@
 -- The parts of an excerpt make a netlist.
 use Rattle.std.proofs.Common.{◌≡◌, ◌≢◌, inl, inr, ◌⊎◌, ℕ, ◌+◌, ◌-◌, ◌<◌, ◌≤◌, true, false, List, [], ◌∷◌, ◌++◌, length, map, get_or, eqb, Some, None, refl, sym, ap, ap₂, ◌∙◌, subst, arith, Contains, take, slice_get}
-use Rattle.isolation.proofs.Common.{cases_lt, eqb-true, ext_get_or, get_or-map, get_or_default, get_or_append_left, get_or-append_right, length-map, length-append, map-append, All, list_any, Sig, Gate, Parts, IsNetlist, count, gate_at, gate_sig, no_gate, signal, first_gate, origins, origin, gate_in, IsExcerpt, AreClosed, AreCopies, name_at}
+use Rattle.isolation.proofs.Common.{cases_lt, eqb-true, ext_get_or, get_or-map, get_or_default, get_or-append_right, length-map, length-append, map-append, All, list_any, Sig, Gate, Parts, IsNetlist, count, gate_at, gate_sig, no_gate, signal, first_gate, origins, origin, gate_in, IsExcerpt, AreClosed, AreCopies, name_at, Contains-get_or}
+use Rattle.cyc_base.proofs.ListLemmas.{Contains-map}
 use Rattle.std.proofs.lemmas.Bool.{ne_eqb}
 use Rattle.std.proofs.lemmas.Cmp.{nat_list_eq_equiv}
 use Rattle.std.proofs.lemmas.List.{take_more}
@@ -19,6 +20,7 @@ use Rattle.netlist.proofs.Validity.{no_fault_of_netlist}
 use Rattle.netlist.specs.Netlists.{IsSignal, driven_names, sig_eq, signal_names}
 use Rattle.loops.specs.Placing.{Rise}
 use Rattle.isolation.specs.Excerpts.{AreOnce}
+use Rattle.isolation.proofs.OriginLemmas.{origins-size, origin-wire, origin-gate}
 use Rattle.isolation.specs.Building.{AreApart, AreNumerable, IsNamedBy}
 
 none-twice : IsDistinct sig_eq []
@@ -29,42 +31,27 @@ none-twice = tt
 
 module _ (net : Parts) (gates : List ℕ) (outside : List Sig) (gates_in : All (λ gate. gate < length net.gates) gates) (outside_in : All (λ s. s.0 < count net) outside)
     (apart : AreApart net gates outside) (rise : Rise gates) (once : AreOnce outside) where
-  size : length (origins net outside gates) ≡ length outside + length gates
-  size = length-append outside (map (gate_sig net) gates) ∙ ap (λ (n : ℕ). length outside + n) (length-map gates (gate_sig net))
-
   gate-at : (k : ℕ) → length outside ≤ k → k < length (origins net outside gates) → get_or (origins net outside gates) k (signal 0) ≡ gate_sig net (gate_in gates (k - length outside))
-  gate-at k high within =
-      let s = size in
-      get_or-append_right outside (map (gate_sig net) gates) (length outside) k (signal 0) refl high
-      ∙ get_or-map (gate_sig net) gates (k - length outside) 0 (signal 0) (omega (arith, s, high, within))
-
-  wire-at : (k : ℕ) → k < length outside → get_or (origins net outside gates) k (signal 0) ≡ get_or outside k (signal 0)
-  wire-at k low = get_or_append_left outside (map (gate_sig net) gates) (signal 0) k low
+  gate-at k high within = origin-gate net outside gates k (k - length outside) (omega (arith, origins-size net outside gates)) (omega (arith, high))
 
   origin-within : (k : ℕ) → k < length (origins net outside gates) → (get_or (origins net outside gates) k (signal 0)).0 < count net
   origin-within k within = elim (cases_lt k (length outside)) [
-    | inl low ↦ subst (λ (s : Sig). s.0 < count net) (sym (wire-at k low)) (outside_in k (signal 0) low)
+    | inl low ↦ subst (λ (s : Sig). s.0 < count net) (sym (origin-wire net outside gates k (signal 0) low)) (outside_in k (signal 0) low)
     | inr high ↦
-        let s = size in
+        let s = origins-size net outside gates in
         let g = gates_in (k - length outside) 0 (omega (arith, s, high, within)) in
         subst (λ (s : Sig). s.0 < count net) (sym (gate-at k high within)) (omega (arith, g))
   ]
 
   origin-once : (i j : ℕ) → i < j → j < length (origins net outside gates) → get_or (origins net outside gates) i (signal 0) ≢ get_or (origins net outside gates) j (signal 0)
   origin-once i j less within same = elim (cases_lt j (length outside)) [
-    | inl low ↦ once i j less low (sym (wire-at i (omega (arith, less, low))) ∙ same ∙ wire-at j low)
+    | inl low ↦ once i j less low (sym (origin-wire net outside gates i (signal 0) (omega (arith, less, low))) ∙ same ∙ origin-wire net outside gates j (signal 0) low)
     | inr high ↦
-        let s = size in
-        let inside : j - length outside < length gates = omega (arith, s, high, within) in
+        let inside : j - length outside < length gates = omega (arith, origins-size net outside gates) in
         elim (cases_lt i (length outside)) [
           | inl low ↦
-              let wire : Sig = get_or outside i (signal 0) in
-              let len = length-map gates (gate_sig net) in
-              apart (get_or outside i (signal 0)) (i, low, get_or_default outside i (get_or outside i (signal 0)) (signal 0) low) (
-                j - length outside,
-                omega (arith, inside, len),
-                get_or-map (gate_sig net) gates (j - length outside) 0 (get_or outside i (signal 0)) inside ∙ sym (gate-at j high within) ∙ sym same ∙ wire-at i low,
-              )
+              apart (get_or outside i (signal 0)) (Contains-get_or outside i (signal 0) low)
+              (subst (Contains (map (gate_sig net) gates)) (sym (gate-at j high within) ∙ sym same ∙ origin-wire net outside gates i (signal 0) low) (Contains-map (gate_sig net) gates (gate_in gates (j - length outside)) (Contains-get_or gates (j - length outside) 0 inside)))
           | inr later ↦
               let e = ap (λ (r : Sig). r.0) (sym (gate-at i later (omega (arith, less, within))) ∙ same ∙ gate-at j high within) in
               let r = rise (i - length outside) (j - length outside) (omega (arith, less, later, high)) inside in
@@ -86,8 +73,7 @@ module _ (net : Parts) (gates : List ℕ) (outside : List Sig) (gates_in : All (
   below q any =
       let c : Contains (map (λ (s : Sig). s.0) (origins net outside gates)) q = Contains-from_any {eq = eqb} eqb-true q (map (λ (s : Sig). s.0) (origins net outside gates)) any in
       let len = length-map (origins net outside gates) (λ (s : Sig). s.0) in
-      let l = c.1 in
-      let inside : c.0 < length (origins net outside gates) = omega (arith, l, len) in
+      let inside : c.0 < length (origins net outside gates) = omega (arith, c.1, len) in
       let is : (get_or (origins net outside gates) c.0 (signal 0)).0 ≡ q = sym (number-at c.0 q inside) ∙ c.2 in
       subst (λ (n : ℕ). n < count net) is (origin-within c.0 inside)
 
@@ -96,19 +82,17 @@ module _ (net : Parts) (gates : List ℕ) (outside : List Sig) (gates_in : All (
   few =
       let most = length-le_from_distinct_below (map (λ (s : Sig). s.0) (origins net outside gates)) (count net) distinct below in
       let len = length-map (origins net outside gates) (λ (s : Sig). s.0) in
-      let s = size in
-      omega (arith, most, len, s)
+      omega (arith, most, len, origins-size net outside gates)
 
   -- ---- their names
 
   module _ (valid : IsNetlist net) where
     names-size : length (signal_names net) ≡ count net
     names-size =
-        let a = length-append net.inputs (driven_names net) in
         let b = length-append (map (λ (l : Latch). l.name) net.latches) (map (λ (g : Gate). g.name) net.gates) in
         let c = length-map net.latches (λ (l : Latch). l.name) in
         let d = length-map net.gates (λ (g : Gate). g.name) in
-        omega (arith, a, b, c, d)
+        omega (arith, length-append net.inputs (driven_names net), b, c, d)
 
     names-apart : (a b : ℕ) → a < count net → b < count net → a ≢ b → bytes_eq (get_or (signal_names net) a []) (get_or (signal_names net) b []) ≡ false
     names-apart a b al bl ne = elim (cases_lt a b) [
@@ -125,9 +109,8 @@ module _ (net : Parts) (gates : List ℕ) (outside : List Sig) (gates_in : All (
 
     names-once : IsDistinct bytes_eq (map (name_at net) (origins net outside gates))
     names-once =
-        let len = length-map (origins net outside gates) (name_at net) in
         IsDistinct-from_apart bytes_eq (map (name_at net) (origins net outside gates)) (λ i j d less within.
-        let inside : j < length (origins net outside gates) = omega (arith, within, len) in
+        let inside : j < length (origins net outside gates) = omega (arith, length-map (origins net outside gates) (name_at net)) in
         let early : i < length (origins net outside gates) = omega (arith, less, inside) in
         ap₂ bytes_eq (name-of i d early) (name-of j d inside)
         ∙ names-apart (get_or (origins net outside gates) i (signal 0)).0 (get_or (origins net outside gates) j (signal 0)).0 (origin-within i early) (origin-within j inside)
@@ -135,8 +118,7 @@ module _ (net : Parts) (gates : List ℕ) (outside : List Sig) (gates_in : All (
 
     names-blif : All IsBlifName (map (name_at net) (origins net outside gates))
     names-blif k d within =
-        let len = length-map (origins net outside gates) (name_at net) in
-        let inside : k < length (origins net outside gates) = omega (arith, within, len) in
+        let inside : k < length (origins net outside gates) = omega (arith, length-map (origins net outside gates) (name_at net)) in
         subst IsBlifName (sym (name-of k d inside)) (valid.names (get_or (origins net outside gates) k (signal 0)).0 [] (let n = names-size in let o = origin-within k inside in omega (arith, n, o)))
 
     gate-name : (g : ℕ) → g < length net.gates → name_at net (gate_sig net g) ≡ (gate_at net g).name
@@ -152,11 +134,9 @@ module _ (net : Parts) (gates : List ℕ) (outside : List Sig) (gates_in : All (
       gate-names : map (λ (g : Gate). g.name) small.gates ≡ map (name_at net) (map (gate_sig net) gates)
       gate-names =
           let a = length-map small.gates (λ (g : Gate). g.name) in
-          let b = length-map (map (gate_sig net) gates) (name_at net) in
           let d = length-map gates (gate_sig net) in
-          let z = is.size in
-          ext_get_or [] (map (λ (g : Gate). g.name) small.gates) (map (name_at net) (map (gate_sig net) gates)) (omega (arith, a, b, d, z)) (λ k less.
-          let inside : k < length gates = omega (arith, less, a, z) in
+          ext_get_or [] (map (λ (g : Gate). g.name) small.gates) (map (name_at net) (map (gate_sig net) gates)) (omega (arith, a, length-map (map (gate_sig net) gates) (name_at net), d, is.size)) (λ k less.
+          let inside : k < length gates = omega (arith, a, is.size) in
           get_or-map (λ (g : Gate). g.name) small.gates k no_gate [] (omega (arith, less, a))
           ∙ named.copies k inside
           ∙ sym (gate-name (gate_in gates k) (gates_in k 0 inside))
@@ -171,10 +151,7 @@ module _ (net : Parts) (gates : List ℕ) (outside : List Sig) (gates_in : All (
 
       count-is : count small ≡ length outside + length gates
       count-is =
-          let i = is.inputs in
-          let l = is.latches in
-          let z = is.size in
-          omega (arith, i, l, z)
+          omega (arith, is.inputs, is.latches, is.size)
 
       none-in : {T : Type 0} (P : T → Type 0) (xs : List T) → xs ≡ [] → All P xs
       none-in P xs none k d less = let e = ap length none in absurd (omega (arith, e, less))
@@ -183,18 +160,14 @@ module _ (net : Parts) (gates : List ℕ) (outside : List Sig) (gates_in : All (
       excerpt-valid = record {
         fits = (let f = few in let c = count-is in let n = valid.fits in omega (arith, f, c, n));
         pins = λ k d less i e within.
-            let z = is.size in
-            let c = count-is in
-            let n = size in
             let at : get_or small.gates k d ≡ gate_at small k = get_or_default small.gates k d no_gate less in
-            let p = named.pins k (omega (arith, z, less)) i e (subst (λ (g : Gate). i < length g.pins) at within) in
+            let p = named.pins k (omega (arith, is.size)) i e (subst (λ (g : Gate). i < length g.pins) at within) in
             let same : (get_or (get_or small.gates k d).pins i e).0 ≡ (get_or (gate_at small k).pins i e).0 = ap (λ (g : Gate). (get_or g.pins i e).0) at in
-            omega (arith, p, c, n, same);
+            omega (arith, p, count-is, origins-size net outside gates);
         sources = none-in (λ (l : Latch). IsSignal small l.from) small.latches named.latches;
         outputs = none-in (IsSignal small) small.outputs named.outputs;
         pin_counts = λ k d less.
-            let z = is.size in
-            let inside : k < length gates = omega (arith, z, less) in
+            let inside : k < length gates = omega (arith, is.size) in
             subst (λ (g : Gate). length g.pins ≡ g.cover.pins) (get_or_default small.gates k no_gate d less)
             (sym (length-map (gate_at small k).pins (origin (origins net outside gates)))
             ∙ ap length (is.pins k inside)

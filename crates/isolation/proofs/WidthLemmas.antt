@@ -1,5 +1,5 @@
 -- The functions that a solution and the comparison of its sweeps work with, and what they cost.
-use Rattle.std.proofs.Common.{◌≡◌, inl, inr, ℕ, ◌+◌, ◌*◌, ◌<◌, ◌≤◌, Bool, true, false, ◌||◌, List, [], ◌∷◌, length, map, get_or, Result, Err, refl, sym, ap, ap₂, ◌∙◌, subst, arith}
+use Rattle.std.proofs.Common.{◌≡◌, ◌⊎◌, inl, inr, ℕ, ◌+◌, ◌*◌, ◌<◌, ◌≤◌, Bool, true, false, ◌||◌, List, [], ◌∷◌, length, map, get_or, Result, Err, refl, sym, ap, ap₂, ◌∙◌, subst, arith}
 use Rattle.std.proofs.Math.Nat.{mul-le-mul_left, mul-le-mul_right}
 use Rattle.isolation.proofs.Common.{cases_Bool, get_or-map, length-map, length-append, All, Node, Arena, den, AddsWithin, GrowsWithin, KeepsNodes, NoOtherCause, within_more, within_moved, Trit, X, bits, Rails, AreRailsOf, value_of, values_of, IsWide, Gate, Parts, fix, fix_gates, IsNetlist, count, gate_at, no_gate, Blocks, AreBlocksOf, Loops, loops_of, first_gate, value_in, loops_exist, rails_under, order, Vectors, rails_at, unknown, BoundsKnown, IsSolvedNetlist, IsLaid}
 use Rattle.std.proofs.lemmas.List.Elements.{All-contains}
@@ -27,7 +27,7 @@ use Rattle.fixpoint.specs.declared.kept.KeptRails.{KeptRails}
 use Rattle.fixpoint.specs.Kept.{values_under}
 use Rattle.fixpoint.specs.Orders.{laid}
 use Rattle.fixpoint.specs.Solved.{AreStepsOf, AreKeptSteps, IsSolution, loop_under}
-use Rattle.fixpoint.specs.Working.{HasLargeCover, IsWorking, effort, read_at_fix, read_in_sweep}
+use Rattle.fixpoint.specs.Working.{HasLargeCover, IsReadAtFix, IsReadInSweep, IsWorking, effort, read_at_fix, read_in_sweep}
 use Rattle.fixpoint.proofs.CutLemmas.{one-of, zero-of}
 use Rattle.fixpoint.proofs.WireLemmas.{rails_at-proper}
 use Rattle.fixpoint.proofs.WorkLemmas.{fix_is_working}
@@ -79,9 +79,7 @@ module _ (net : Parts) (points : Vectors) (points_are : AreColumnVectors net poi
     rails-size =
         let one = sym (length-map {B = Trit} rails (λ r. value_of a r [])) ∙ ap length (values []) in
         let two = length-append (points []) (fix_gates net (points [])) in
-        let three = length-fix net (loops_of net) (points []) in
-        let four = vector [] in
-        omega (arith, one, two, three, four)
+        omega (arith, one, two, length-fix net (loops_of net) (points []), vector [])
 
     signal-value : (k : ℕ) → k < length rails → (x : List Bool) → value_of a (rails_at rails k) x ≡ value_in (fix net (points x)) k
     signal-value k less x =
@@ -91,28 +89,19 @@ module _ (net : Parts) (points : Vectors) (points_are : AreColumnVectors net poi
     signal-laid k less b =
         working-laid (λ x. is_bit b (value_in (fix net (points x)) k)) (fix_is_working net (loops_of net) (loops_exist net) points vector k (let s = rails-size in omega (arith, s, less)) b)
 
-    one-laid : (k : ℕ) → k < length rails → IsLaid net (den a (rails_at rails k).one)
-    one-laid k less =
-        let is = signal-laid k less true in
-        record {
-          of = is.of;
-          is = is.is;
-          same = λ u long. sym (one-of (den a (rails_at rails k).one (laid net u)) (den a (rails_at rails k).zero (laid net u))) ∙ ap (is_bit true) (signal-value k less (laid net u)) ∙ is.same u long;
-        }
-
-    zero-laid : (k : ℕ) → k < length rails → IsLaid net (den a (rails_at rails k).zero)
-    zero-laid k less =
-        let is = signal-laid k less false in
-        let one : AreRailsOf a (rails_at rails k) = rails_at-proper a rails proper k in
-        record {
-          of = is.of;
-          is = is.is;
-          same = λ u long. sym (zero-of (den a (rails_at rails k).one (laid net u)) (den a (rails_at rails k).zero (laid net u)) (one.proper (laid net u))) ∙ ap (is_bit false) (signal-value k less (laid net u)) ∙ is.same u long;
-        }
+    -- a rail says where the signal has its bit
+    rail-laid : (k : ℕ) → k < length rails → (b : Bool) (f : List Bool → Bool) → ((x : List Bool) → is_bit b (value_of a (rails_at rails k) x) ≡ f x) → IsLaid net f
+    rail-laid k less b f rail =
+        let is = signal-laid k less b in
+        record { of = is.of; is = is.is; same = λ u long. sym (rail (laid net u)) ∙ ap (is_bit b) (signal-value k less (laid net u)) ∙ is.same u long }
 
     pub known-bounded : {w : ℕ} → IsWide a.vars (IsLaid net) w → BoundsKnown a rails w
     known-bounded wide k less =
-        wide.combinations (λ p q r. p || q) (den a (rails_at rails k).one) (den a (rails_at rails k).zero) (den a (rails_at rails k).zero) (one-laid k less) (zero-laid k less) (zero-laid k less)
+        let one = den a (rails_at rails k).one in
+        let zero = den a (rails_at rails k).zero in
+        let is_one = rail-laid k less true one (λ x. one-of (one x) (zero x)) in
+        let is_zero = rail-laid k less false zero (λ x. zero-of (one x) (zero x) ((rails_at-proper a rails proper k).proper x)) in
+        wide.combinations (λ p q r. p || q) one zero zero is_one is_zero is_zero
 
   -- ---- the steps of loops
 
@@ -122,34 +111,25 @@ module _ (net : Parts) (points : Vectors) (points_are : AreColumnVectors net poi
       of : List Bool → Bool
       is : IsWorking net (loops_of net) points of
 
+    reading : (read : List Bool → List Trit) → IsReadInSweep net (loops_of net) points 0 read ⊎ IsReadAtFix net (loops_of net) points 0 read → SomeWorking
+    reading read reads = record {
+      of = λ x. is_bit true (exact (value (gate_at net 0).cover) (read x));
+      is = inr (record {
+        gate = 0;
+        within = some;
+        first = [];
+        short = omega arith;
+        bit = true;
+        read = read;
+        reads = reads;
+        same = λ x. refl;
+      });
+    }
+
     some-working : SomeWorking
     some-working = elim (cases_Bool ((loops_of net).same 0 0)) [
-      | inl looped ↦ record {
-        of = λ x. is_bit true (exact (value (gate_at net 0).cover) (read_in_sweep net (loops_of net) (points x) 0 0));
-        is = inr (record {
-          gate = 0;
-          within = some;
-          first = [];
-          short = omega arith;
-          bit = true;
-          read = λ x. read_in_sweep net (loops_of net) (points x) 0 0;
-          reads = inl (record { looped = looped; sweep = 0; few = omega arith; is = λ x. refl });
-          same = λ x. refl;
-        });
-      }
-      | inr plain ↦ record {
-        of = λ x. is_bit true (exact (value (gate_at net 0).cover) (read_at_fix net (points x) 0));
-        is = inr (record {
-          gate = 0;
-          within = some;
-          first = [];
-          short = omega arith;
-          bit = true;
-          read = λ x. read_at_fix net (points x) 0;
-          reads = inr (record { plain = plain; is = λ x. refl });
-          same = λ x. refl;
-        });
-      }
+      | inl looped ↦ reading (λ x. read_in_sweep net (loops_of net) (points x) 0 0) (inl (record { looped = looped; sweep = 0; few = omega arith; is = λ x. refl }))
+      | inr plain ↦ reading (λ x. read_at_fix net (points x) 0) (inr (record { plain = plain; is = λ x. refl }))
     ]
 
     constant-made : (b : Bool) (g : List Bool → Bool) → ((x : List Bool) → g x ≡ b) → IsMade net g
@@ -189,8 +169,7 @@ pub asked-grows : {r : Result Bool StoreFault} {a t : Arena} {blocks : Blocks} {
     GrowsWithin r a t NoOtherCause (BoundsKnown a (map (rails_under a) kept)) (length kept) → GrowsWithin r a t NoOtherCause (IsWide a.vars (IsLaid is.net)) (count is.net)
 asked-grows {r} {a} {t} {blocks} {solved} is kept same grows =
     let size = rails-size is.net is.points is.points_are a (map (rails_under a) solved.rails) is.solution.rails is.solution.vector is.solution.values in
-    let long = length-map {B = Rails} solved.rails (rails_under a) in
-    within_more (omega (arith, size, long))
+    within_more (omega (arith, size, length-map {B = Rails} solved.rails (rails_under a)))
     (within_moved (λ w wide. known-bounded is.net is.points is.points_are a (map (rails_under a) solved.rails) is.solution.rails is.solution.vector is.solution.values wide)
     (subst (λ (xs : List KeptRails). GrowsWithin r a t NoOtherCause (BoundsKnown a (map (rails_under a) xs)) (length xs)) same grows))
 
@@ -226,9 +205,8 @@ solution-adds {s = s} {a = a} net blocks cut given are cut_is vars same limit co
 pub gates-effort : (gates : List Gate) → length gates ≤ sum_by (λ gate. size gate.cover + 1) gates
 gates-effort [] = omega arith
 gates-effort (gate ∷ gates) =
-    let rest = gates-effort gates in
     let sum = sum_by-cons (λ (g : Gate). size g.cover + 1) gate gates in
-    omega (arith, rest, sum)
+    omega (arith, gates-effort gates, sum)
 
 sum-enough : (v gates effort : ℕ) → gates ≤ effort → 2 + (10 * (gates + 2) * effort + (v + gates + 6 * gates * (gates + 2))) ≤ 16 * (gates + 2) * (effort + v + 4)
 sum-enough v gates effort less =
@@ -250,9 +228,8 @@ effort-enough limit e w gates v less wide =
 -- where a cover has more nodes than the limit, so has what is enough
 pub over-enough : (net : Parts) (w limit : ℕ) → IsWide (first_gate net) (IsLaid net) w → HasLargeCover net limit → limit < enough net w
 over-enough net w limit wide is =
-    let over = is.over in
     let most = get_or-le-sum_by (λ (g : Gate). size g.cover + 1) net.gates is.gate no_gate is.within in
-    effort-enough limit (effort net) w (length net.gates) (first_gate net) (omega (arith, over, most)) wide.variables
+    effort-enough limit (effort net) w (length net.gates) (first_gate net) (omega (arith, is.over, most)) wide.variables
 
 -- a solution that finds new diagrams full
 pub full-below : {T : Type 0} {r : Result T StoreFault} (net : Parts) (budget : ℕ) (s t : Arena) (vars : ℕ) → s ≡ empty vars budget → vars ≡ first_gate net → t.limit ≡ s.limit → AddsWithin r s t (HasLargeCover net) (IsWide s.vars (IsLaid net)) (settling_cost net) →
@@ -261,9 +238,8 @@ full-below net budget s t vars is width limit adds full = record {
   below = λ w wide.
       let limits : s.limit ≡ budget = ap (λ (a : Arena). a.limit) is in
       let none : length s.entries ≡ 0 = ap (λ (a : Arena). length a.entries) is in
-      let most = cost-enough net w in
       elim (adds.full w (subst (λ (n : ℕ). IsWide n (IsLaid net) w) (sym (ap (λ (a : Arena). a.vars) is ∙ width)) wide) full) [
         | inl large ↦ over-enough net w budget wide (subst (HasLargeCover net) limits large)
-        | inr past ↦ (let p = past.past in omega (arith, p, none, limit, limits, most))
+        | inr past ↦ (let p = past.past in omega (arith, p, cost-enough net w))
       ];
 }

@@ -2,7 +2,7 @@
 -- constants.
 use Rattle.std.proofs.Common.{◌≡◌, inl, inr, ℕ, zero, suc, ◌+◌, ◌<◌, ◌≤◌, Bool, true, false, ◌&&◌, ◌⊎◌, List, [], length, filter, get_or, sym, ap, ◌∙◌, arith, Contains}
 use Rattle.std.proofs.Math.Path.{fun_ext}
-use Rattle.isolation.proofs.Common.{and_parts, get_or-map, get_or_default, get_or-replicate, length-map, All, range_with_len, Node, Arena, den, Trit, X, bit, bits, Rails, AreRailsOf, value_of, values_of, Parts, Blocks, AreBlocksOf, block_at, AreLoopsOf, Loops, loops_of, first_gate, value_in, sweeps, loops_exist, same_within, Vectors}
+use Rattle.isolation.proofs.Common.{and_parts, get_or-map, get_or_default, get_or-replicate, length-map, All, range_with_len, Node, Arena, den, Trit, X, bit, bits, Rails, AreRailsOf, value_of, values_of, Parts, Blocks, AreBlocksOf, block_at, AreLoopsOf, Loops, loops_of, first_gate, value_in, sweeps, loops_exist, same_within, Vectors, Contains-get_or}
 use Rattle.std.proofs.lemmas.List.Elements.{All-contains}
 use Rattle.cyc_base.proofs.TruthLemmas.{same_truth}
 use Rattle.bdd_ops.specs.Operations.{bit_at}
@@ -38,8 +38,7 @@ pub record IsOfGate (net : Parts) (h : List Bool → Bool) : Type 0 where
 -- the column's bit
 pub column-bit : {net : Parts} {h : List Bool → Bool} (of : IsOfColumn net h) (v : List Bool) → length v ≡ first_gate net → h v ≡ is_bit of.bit (bit (bit_at of.column v))
 column-bit of v long =
-    let low = of.within in
-    of.same v long ∙ ap (is_bit of.bit) (get_or-map bit v of.column false X (omega (arith, low, long)))
+    of.same v long ∙ ap (is_bit of.bit) (get_or-map bit v of.column false X (omega (arith, of.within)))
 
 -- a function that a gate works with, of other vectors
 part-at : (net : Parts) (loops : Loops) (v : Vectors) (g : List Bool → Bool) → IsGatePart net loops v g → (f : List Bool → List Bool) → IsGatePart net loops (λ x. v (f x)) (λ x. g (f x))
@@ -101,10 +100,9 @@ swept-is net points gate n zero b has few h same =
     inl (record { value = is_bit b X; same = λ v. same v ∙ ap (is_bit b) (get_or-replicate {A = Trit} (length net.gates) n X X within) })
 swept-is net points gate n (suc k) b has few h same =
     let is = cut-is net (loops_of net) (loops_exist net) gate n has in
-    let wide = ap length is.1 in
     inr (record {
       of = λ v. is_bit b (value_in (sweeps net (loops_of net) (points v) (suc k)) n);
-      is = sweeps_are_working net (loops_of net) (loops_exist net) points n k is.0 (omega (arith, few, wide)) b;
+      is = sweeps_are_working net (loops_of net) (loops_exist net) points n k is.0 (omega (arith, ap length is.1)) b;
       same = same;
     })
 
@@ -114,9 +112,7 @@ module _ (net : Parts) (points : Vectors) (a : Arena) (blocks : Blocks) (cut : C
   gate = get_or (block_at blocks loop.block).gates 0 0
 
   gate-there : Contains (block_at blocks loop.block).gates (get_or (block_at blocks loop.block).gates 0 0)
-  gate-there =
-      let filled = are.filled loop.block steps.block.within in
-      (0, filled, get_or_default (block_at blocks loop.block).gates 0 (get_or (block_at blocks loop.block).gates 0 0) 0 filled)
+  gate-there = Contains-get_or (block_at blocks loop.block).gates 0 0 (are.filled loop.block steps.block.within)
 
   -- the numbers of the step and of the rail in it
   abbrev step : ℕ
@@ -144,29 +140,22 @@ module _ (net : Parts) (points : Vectors) (a : Arena) (blocks : Blocks) (cut : C
   wire = get_or (cuts_of net (loops_of net) gate) place 0
 
   wire-there : Contains (cuts_of net (loops_of net) gate) (get_or (cuts_of net (loops_of net) gate) is.within.0 0)
-  wire-there =
-      let inside = is.within.1 in
-      let wide = width in
-      let within : is.within.0 < length (cuts_of net (loops_of net) gate) = omega (arith, inside, wide) in
-      (is.within.0, within, get_or_default (cuts_of net (loops_of net) gate) is.within.0 (get_or (cuts_of net (loops_of net) gate) is.within.0 0) 0 within)
+  wire-there = Contains-get_or (cuts_of net (loops_of net) gate) is.within.0 0 (omega (arith, is.within.1, width))
 
   rail-value : (v : List Bool) → value_of a is.rails v ≡ value_in (sweeps net (loops_of net) (points v) step) wire
   rail-value v =
       let inside = is.within.1 in
-      let wide = width in
       ap (λ (r : Rails). value_of a r v) (sym is.within.2)
       ∙ sym (get_or-map (λ (r : Rails). value_of a r v) is.step place is.rails X inside)
       ∙ ap (λ (ts : List Trit). get_or ts place X) (values-are v)
-      ∙ get_or-map (value_in (sweeps net (loops_of net) (points v) step)) (cuts_of net (loops_of net) gate) place 0 X (omega (arith, inside, wide))
+      ∙ get_or-map (value_in (sweeps net (loops_of net) (points v) step)) (cuts_of net (loops_of net) gate) place 0 X (omega (arith, inside, width))
 
   -- a node is one of the two of a rail
   rail-is : (b : Bool) → ((v : List Bool) → den a node v ≡ is_bit b (value_of a is.rails v)) → IsConstant (den a node) ⊎ IsOfWorking net points (den a node)
   rail-is b same =
-      let within = is.among.1 in
-      let few = steps.few in
       let wires : length loop.cuts ≡ length (cuts_of net (loops_of net) gate) =
       ap length (steps.wires gate gate-there) ∙ ap (λ (l : Loops). length (cuts_of net l gate)) (loops-are net blocks cut are cut_is) in
-      swept-is net points gate wire step b wire-there (omega (arith, within, few, wires)) (den a node) (λ v. same v ∙ ap (is_bit b) (rail-value v))
+      swept-is net points gate wire step b wire-there (omega (arith, is.among.1, steps.few)) (den a node) (λ v. same v ∙ ap (is_bit b) (rail-value v))
 
   -- what a node of a step says
   pub step-is_working : IsConstant (den a node) ⊎ IsOfWorking net points (den a node)

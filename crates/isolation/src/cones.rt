@@ -76,8 +76,8 @@ fn mark_upstream(looped: &LoopedNetlist<'_>, marks: &mut [bool])
     ensures { AreUpstreamMarks looped.now.net marks.old marks.new }
 {
     let count = looped.blocks().list.items().len();
-    for back in 0..count {
-        mark_block(looped.net(), gates_at(looped, count - 1 - back), marks);
+    for place in (0..count).rev() {
+        mark_block(looped.net(), gates_at(looped, place), marks);
     }
 }
 

@@ -77,25 +77,6 @@ fn outside_of(
     Ok(outside)
 }
 
-/// The place of a signal among the wires outside.
-fn place_outside(outside: &IndexSet<Sig>, signal: Sig) -> Option<usize>
-    ensures place { IfSome result (IsPlaceOf outside.now.keys signal) }
-    ensures some { Contains outside.now.keys signal → IsSome result }
-{
-    outside.get_index_of(&signal)
-}
-
-/// The place of a gate among these.
-fn place_among(gates: &[u32], gate: u32) -> Option<usize>
-    ensures place { IfSome result (IsPlaceOf gates.now gate) }
-    ensures some { Rise gates.now → Contains gates.now gate → IsSome result }
-{
-    match gates.binary_search(&gate) {
-        Ok(place) => Some(place),
-        Err(_) => None,
-    }
-}
-
 /// The place of a gate's signal behind the wires outside.
 fn place_inside(net: &Netlist, gates: &[u32], outside: &IndexSet<Sig>, signal: Sig) -> Option<usize>
     requires { IsSignal net.now signal }
@@ -103,8 +84,10 @@ fn place_inside(net: &Netlist, gates: &[u32], outside: &IndexSet<Sig>, signal: S
     ensures some { Rise gates.now → Contains (map (sig_of net.now) gates.now) signal → IsSome result }
 {
     let gate = net.driver(signal)?;
-    let place = place_among(gates, gate)?;
-    Some(place + outside.len())
+    match gates.binary_search(&gate) {
+        Ok(place) => Some(place + outside.len()),
+        Err(_) => None,
+    }
 }
 
 /// The place of a signal among the wires outside and then the gates.
@@ -113,7 +96,7 @@ fn place_of(net: &Netlist, gates: &[u32], outside: &IndexSet<Sig>, signal: Sig) 
     ensures place { IfSome result (IsPlaceOf (origins net.now outside.now.keys gates.now) signal) }
     ensures some { Rise gates.now → IsAmong net.now gates.now outside.now.keys signal → IsSome result }
 {
-    match place_outside(outside, signal) {
+    match outside.get_index_of(&signal) {
         Some(place) => Some(place),
         None => place_inside(net, gates, outside, signal),
     }
@@ -154,21 +137,6 @@ fn numbers_of(
     Ok(Some(numbers))
 }
 
-/// A gate as the small netlist has it, reading these numbers.
-fn copy_with(from: &Gate, pins: Vec<Sig>) -> Result<Gate, AllocError>
-    ensures name { IfOk result (λ made. made.name ≡ from.now.name) }
-    ensures cover { IfOk result (λ made. made.cover ≡ from.now.cover) }
-    ensures pins { IfOk result (λ made. made.pins ≡ pins.items) }
-{
-    let name = from.name.copy()?;
-    let cover = from.cover.copy()?;
-    Ok(Gate {
-        name,
-        pins: Items::of(pins),
-        cover,
-    })
-}
-
 /// A gate as the small netlist has it.
 fn copy_gate(
     alloc: Global,
@@ -185,7 +153,11 @@ fn copy_gate(
     let Some(pins) = numbers_of(alloc, net, gates, outside, from.pins.items())? else {
         return Ok(None);
     };
-    Ok(Some(copy_with(from, pins)?))
+    Ok(Some(Gate {
+        name: from.name.copy()?,
+        pins: Items::of(pins),
+        cover: from.cover.copy()?,
+    }))
 }
 
 /// The gates as the small netlist has them.
@@ -222,25 +194,6 @@ fn names_of(alloc: Global, net: &Netlist, signals: &[Sig]) -> Result<Vec<Name>, 
     Ok(names)
 }
 
-/// The parts of a netlist without latches and outputs.
-fn parts_of(alloc: Global, name: Name, inputs: Vec<Name>, gates: Vec<Gate>) -> Parts
-    ensures name { result.name ≡ name }
-    ensures inputs { result.inputs ≡ inputs.items }
-    ensures clock { result.clock ≡ None }
-    ensures latches { result.latches ≡ [] }
-    ensures gates { result.gates ≡ gates.items }
-    ensures outputs { result.outputs ≡ [] }
-{
-    Parts {
-        name,
-        inputs: Items::of(inputs),
-        clock: None,
-        latches: Items::of(Vec::new(alloc)),
-        gates: Items::of(gates),
-        outputs: Items::of(Vec::new(alloc)),
-    }
-}
-
 /// The parts of the small netlist of these gates, whose inputs are these wires outside of them.
 fn excerpt_parts(
     alloc: Global,
@@ -261,7 +214,14 @@ fn excerpt_parts(
         return Ok(None);
     };
     let inputs = names_of(alloc, net, outside.as_slice())?;
-    Ok(Some(parts_of(alloc, name.copy()?, inputs, copies)))
+    Ok(Some(Parts {
+        name: name.copy()?,
+        inputs: Items::of(inputs),
+        clock: None,
+        latches: Items::of(Vec::new(alloc)),
+        gates: Items::of(copies),
+        outputs: Items::of(Vec::new(alloc)),
+    }))
 }
 
 /// The netlist of these parts, if they make one.

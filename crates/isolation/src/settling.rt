@@ -61,11 +61,7 @@ fn are_known(d: &mut Diagrams, rails: &[Rails]) -> Result<bool, StoreFault>
 fn greatest(numbers: &[u32]) -> u32
     ensures { All (λ n. n ≤ result) numbers.now }
 {
-    let mut most = 0;
-    for number in numbers {
-        most = most.max(*number);
-    }
-    most
+    numbers.iter().copied().max().unwrap_or(0)
 }
 
 /// The rails of a netlist's columns, laid on the variables in its order and kept.
@@ -95,8 +91,7 @@ fn is_determined(alloc: Global, d: &mut Diagrams, solved: &[KeptRails]) -> Resul
     ensures grows { GrowsWithin result d.old d.new NoOtherCause (BoundsKnown d.old (map (rails_under d.old) solved.now)) (length solved.now) }
 {
     let rails = rails_of(alloc, d, solved)?;
-    let known = are_known(d, &rails)?;
-    Ok(known)
+    are_known(d, &rails)
 }
 
 /// The greatest number of sweeps that a loop of a solved netlist needs.
@@ -159,23 +154,8 @@ fn settle_on(
     settled_sweeps(alloc, d, blocks, &solved)
 }
 
-/// How many sweeps are enough, on diagrams of its own that hold at most `budget` nodes.
-fn settle_with(
-    alloc: Global,
-    looped: &LoopedNetlist<'_>,
-    budget: u32,
-) -> Result<Option<u32>, StoreFault>
-    requires some { 0 < length looped.now.net.gates }
-    requires budget { budget ≤ MAX_NODES }
-    ensures settled { IfOk result (λ found. IfSome found (IsSettledIn looped.now.net)) }
-    ensures unknown { IfOk result (λ found. IfNone found (HasUnknown looped.now.net)) }
-    ensures full { result ≡ Err StoreFault.Full → IsBelowEnough looped.now.net budget }
-{
-    let mut d = Diagrams::new(alloc, looped.net().columns(), budget)?;
-    settle_on(alloc, &mut d, looped)
-}
-
-/// How many sweeps are enough for the loops of a netlist, whose blocks and cut wires are found here.
+/// How many sweeps are enough for the loops of a netlist, whose blocks and cut wires are found here, on diagrams of its
+/// own that hold at most `budget` nodes.
 fn settle(alloc: Global, net: &Netlist, budget: u32) -> Result<Option<u32>, StoreFault>
     requires some { 0 < length net.now.gates }
     requires budget { budget ≤ MAX_NODES }
@@ -186,7 +166,8 @@ fn settle(alloc: Global, net: &Netlist, budget: u32) -> Result<Option<u32>, Stor
     let blocks = find_blocks(alloc, net)?;
     let cut = find_cut(alloc, net, &blocks)?;
     let looped = LoopedNetlist::new(net, &blocks, &cut);
-    settle_with(alloc, &looped, budget)
+    let mut d = Diagrams::new(alloc, net.columns(), budget)?;
+    settle_on(alloc, &mut d, &looped)
 }
 
 /// The same, and no number where the nodes were too few.

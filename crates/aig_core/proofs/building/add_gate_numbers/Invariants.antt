@@ -1,5 +1,5 @@
 use Rattle.std.proofs.Common.{◌≡◌, ◌++◌, take}
-use Rattle.netlist.specs.Orders.{numbers_from}
+use Rattle.aig_core.proofs.Common.{numbers_from}
 use Rattle.aig_core.proofs.building.add_gate_numbers.Given as goal
 
 abbrev pub invariant-loop-signal : goal.invariant-loop-signal

@@ -1,9 +1,7 @@
-use Rattle.std.proofs.Common.{◌≡◌, ◌+◌, List, length, get_or, take, sym, ap, subst, ◌∙◌, arith}
+use Rattle.std.proofs.Common.{◌≡◌, ◌+◌, length, get_or, take, sym, ap, ◌∙◌, arith}
 use Rattle.std.proofs.lemmas.List.{get_or_default}
-use Rattle.aig_core.specs.declared.edge.Edge.{Edge}
-use Rattle.aig_core.specs.Graphs.{Graph, empty}
-use Rattle.aig_core.specs.Building.{Building, with_gate, building}
-use Rattle.aig_core.specs.Answers.{HasEdges}
+use Rattle.aig_core.proofs.Common.{Building, building}
+use Rattle.aig_core.specs.Building.{with_gate}
 use Rattle.aig_core.proofs.AnswerLemmas.{IsFault-grows, builds_refused}
 use Rattle.aig_core.proofs.BuildingLemmas.{building-none, building_next, building-grows, nothing_is_built}
 use Rattle.aig_core.proofs.building.add_gates.Goals as goal
@@ -12,20 +10,17 @@ use Rattle.aig_core.proofs.building.add_gates.Goals.{After-add_gate}
 pub loop-number-init : goal.loop-number-init
 loop-number-init c =
     let net = c.args.net.now in
-    let P : Graph → Type 0 = λ g. HasEdges net g c.args.edges.now in
-    let Q : List Edge → Type 0 = λ edges. HasEdges net (empty (length net.inputs) (length net.latches)) edges in
     record {
       made = (λ j. record { graph = c.requires.graph j; edges = c.requires.edges j }) ∙ sym (building-none net);
-      has = subst P (sym c.requires.graph) (subst Q (sym c.requires.edges) (nothing_is_built net).has);
+      has = rw (c.requires.graph, c.requires.edges) (nothing_is_built net).has;
     }
 
 next_is : (c : After-add_gate) → with_gate c.args.net.now (record { graph = c.loop-number.aig; edges = c.loop-number.edges }) (get_or c.args.gates.now c.loop-number.number-index 0) ≡ building c.args.net.now (take (c.loop-number.number-index + 1) c.args.gates.now)
 next_is c =
     let gates = c.args.gates.now in
     let k = c.loop-number.number-index in
-    let l = c.loop-number-test.true in
     ap (λ (b : Building). with_gate c.args.net.now b (get_or gates k 0)) c.loop-number.invariant.made
-    ∙ building_next c.args.net.now gates k (get_or gates k 0) (omega arith) (get_or_default gates k 0 (get_or gates k 0) (omega arith))
+    ∙ building_next c.args.net.now gates k (get_or gates k 0) c.loop-number-test.true (get_or_default gates k 0 (get_or gates k 0) c.loop-number-test.true)
 
 pub returns-in_err-add_gate-clause-builds : goal.returns-in_err-add_gate-clause-builds
 returns-in_err-add_gate-clause-builds c =
@@ -33,10 +28,9 @@ returns-in_err-add_gate-clause-builds c =
     let gates = c.args.gates.now in
     let k = c.loop-number.number-index in
     let next = next_is ((goal.at.returns-in_err-add_gate-clause-builds c).After-add_gate) in
-    let grows = building-grows net gates (k + 1) in
     builds_refused c.from_residual.result c.in_err-add_gate.field-0.0 c.add_gate.new.aig c.add_gate.new.edges (building net gates) c.from_residual.ensures.1
     (IsFault-grows (with_gate net (record { graph = c.loop-number.aig; edges = c.loop-number.edges }) (get_or gates k 0)).graph (building net gates).graph c.in_err-add_gate.field-0.0
-    (omega (arith, grows, ap (λ (b : Building). length b.graph.ands) next)) c.in_err-add_gate.ensures.builds)
+    (omega (arith, building-grows net gates (k + 1), ap (λ (b : Building). length b.graph.ands) next)) c.in_err-add_gate.ensures.builds)
 
 pub loop-number-preserved : goal.loop-number-preserved
 loop-number-preserved c =

@@ -1,6 +1,5 @@
 use Rattle.std.proofs.Common.{◌≡◌, take}
-use Rattle.aig_core.specs.Building.{Building, building}
-use Rattle.aig_core.specs.Answers.{HasEdges}
+use Rattle.aig_core.proofs.Common.{Building, building, HasEdges}
 use Rattle.aig_core.proofs.building.add_gates.Given as goal
 
 abbrev pub invariant-loop-number : goal.invariant-loop-number

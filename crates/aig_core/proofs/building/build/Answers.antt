@@ -1,7 +1,4 @@
-use Rattle.std.proofs.Common.{sym, subst}
-use Rattle.netlist.specs.Orders.{IsGateOrder}
-use Rattle.aig_core.specs.declared.building.Built.{Built}
-use Rattle.aig_core.specs.Answers.{HasValues, FitsNetlist}
+use Rattle.aig_core.proofs.Common.{IsGateOrder}
 use Rattle.aig_core.proofs.BuildingLemmas.{built_has_values, built_fits}
 use Rattle.aig_core.proofs.building.build.Goals as goal
 
@@ -9,14 +6,12 @@ pub returns-in_ok-build_in_order-in-Some-clause-fits :
     goal.returns-in_ok-build_in_order-in-Some-clause-fits
 returns-in_ok-build_in_order-in-Some-clause-fits c =
     let net = c.args.net.now in
-    let P : Built → Type 0 = λ b. FitsNetlist net b in
     let order : IsGateOrder net c.in-Some.order.items = rw c.in-Some.is at c.in_ok-order.ensures.order in
-    subst P (sym c.in_ok-build_in_order-in-Some.ensures.built) (built_fits net c.in-Some.order.items c.in_ok-order.ensures.valid order)
+    rw c.in_ok-build_in_order-in-Some.ensures.built (built_fits net c.in-Some.order.items c.in_ok-order.ensures.valid order)
 
 pub returns-in_ok-build_in_order-in-Some-clause-values :
     goal.returns-in_ok-build_in_order-in-Some-clause-values
 returns-in_ok-build_in_order-in-Some-clause-values c =
     let net = c.args.net.now in
-    let P : Built → Type 0 = λ b. HasValues net b in
     let order : IsGateOrder net c.in-Some.order.items = rw c.in-Some.is at c.in_ok-order.ensures.order in
-    subst P (sym c.in_ok-build_in_order-in-Some.ensures.built) (built_has_values net c.in-Some.order.items c.in_ok-order.ensures.valid order)
+    rw c.in_ok-build_in_order-in-Some.ensures.built (built_has_values net c.in-Some.order.items c.in_ok-order.ensures.valid order)

@@ -1,5 +1,5 @@
 use Rattle.std.proofs.Common.{◌≡◌, map, take}
-use Rattle.aig_core.specs.Building.{signal_edge}
+use Rattle.aig_core.proofs.Common.{signal_edge}
 use Rattle.aig_core.proofs.building.signal_edges.Given as goal
 
 abbrev pub invariant-loop-signal : goal.invariant-loop-signal

@@ -1,7 +1,6 @@
 use Rattle.std.proofs.Common.{◌++◌, ◌∷◌, [], map, take, ap, sym, ◌∙◌}
 use Rattle.std.proofs.lemmas.List.{map_more}
-use Rattle.std.proofs.lemmas.Option.{slice_get_within, get_or_from_slice_get}
-use Rattle.netlist.specs.declared.parts.Latch.{Latch}
+use Rattle.aig_core.proofs.Common.{slice_get_within, get_or_from_slice_get, Latch}
 use Rattle.aig_core.proofs.building.sources.Goals as goal
 
 pub loop-number-preserved : goal.loop-number-preserved

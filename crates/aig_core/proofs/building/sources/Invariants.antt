@@ -1,5 +1,5 @@
 use Rattle.std.proofs.Common.{◌≡◌, map, take}
-use Rattle.netlist.specs.declared.parts.Latch.{Latch}
+use Rattle.aig_core.proofs.Common.{Latch}
 use Rattle.aig_core.proofs.building.sources.Given as goal
 
 abbrev pub invariant-loop-number : goal.invariant-loop-number

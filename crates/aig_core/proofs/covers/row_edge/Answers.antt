@@ -1,9 +1,7 @@
 use Rattle.std.proofs.Common.{◌≡◌, ◌+◌, fold, length, take, true, sym, ap, ◌∙◌, arith}
-use Rattle.std.specs.List.{zip}
-use Rattle.std.proofs.lemmas.List.{length_push}
+use Rattle.aig_core.proofs.Common.{zip, length_push, Made, found, constant, row_made}
 use Rattle.std.proofs.lemmas.Slice.Zip.{zip_turn, zip_end}
-use Rattle.aig_core.specs.Conjunctions.{Made, found, constant}
-use Rattle.aig_core.specs.Covers.{with_pin, row_made}
+use Rattle.aig_core.specs.Covers.{with_pin}
 use Rattle.aig_core.proofs.CoverLemmas.{with_pair, row_next, row_fault, row_all, Extends-trans}
 use Rattle.aig_core.proofs.AnswerLemmas.{handed, IsFault-grows}
 use Rattle.aig_core.proofs.covers.row_edge.Goals as goal

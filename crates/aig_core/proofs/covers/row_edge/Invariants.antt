@@ -1,8 +1,5 @@
 use Rattle.std.proofs.Common.{◌≡◌, fold, length, take, true}
-use Rattle.std.specs.List.{zip}
-use Rattle.aig_core.specs.Graphs.{IsEdge}
-use Rattle.aig_core.specs.Soundness.{Extends}
-use Rattle.aig_core.specs.Conjunctions.{found, constant}
+use Rattle.aig_core.proofs.Common.{zip, IsEdge, Extends, found, constant}
 use Rattle.aig_core.proofs.CoverLemmas.{with_pair}
 use Rattle.aig_core.proofs.covers.row_edge.Given as goal
 

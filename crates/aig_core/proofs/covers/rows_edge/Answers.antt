@@ -1,6 +1,6 @@
 use Rattle.std.proofs.Common.{◌+◌, length, false, ap, arith}
-use Rattle.aig_core.specs.Conjunctions.{Made, found, constant}
-use Rattle.aig_core.specs.Covers.{with_row, rows_made}
+use Rattle.aig_core.proofs.Common.{Made, found, constant, with_row}
+use Rattle.aig_core.specs.Covers.{rows_made}
 use Rattle.aig_core.proofs.CoverLemmas.{rows_next, rows_fault, rows_all}
 use Rattle.aig_core.proofs.AnswerLemmas.{handed, IsFault-grows}
 use Rattle.aig_core.proofs.covers.rows_edge.Goals as goal

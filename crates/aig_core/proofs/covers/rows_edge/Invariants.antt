@@ -1,8 +1,5 @@
 use Rattle.std.proofs.Common.{◌≡◌, fold, take, false}
-use Rattle.aig_core.specs.Graphs.{IsEdge}
-use Rattle.aig_core.specs.Soundness.{Extends}
-use Rattle.aig_core.specs.Conjunctions.{found, constant}
-use Rattle.aig_core.specs.Covers.{with_row}
+use Rattle.aig_core.proofs.Common.{IsEdge, Extends, found, constant, with_row}
 use Rattle.aig_core.proofs.covers.rows_edge.Given as goal
 
 abbrev pub invariant-loop-row : goal.invariant-loop-row

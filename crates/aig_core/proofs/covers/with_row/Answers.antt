@@ -1,5 +1,4 @@
-use Rattle.aig_core.specs.Conjunctions.{found}
-use Rattle.aig_core.specs.Covers.{row_made, with_row}
+use Rattle.aig_core.proofs.Common.{found, row_made, with_row}
 use Rattle.aig_core.proofs.CoverLemmas.{disjunction-grows}
 use Rattle.aig_core.proofs.AnswerLemmas.{handed, IsFault-grows}
 use Rattle.aig_core.proofs.covers.with_row.Goals as goal

@@ -1,8 +1,8 @@
 use Rattle.std.proofs.Common.{◌++◌, length, map, reverse, take, ap, sym, ◌∙◌, arith}
-use Rattle.std.proofs.lemmas.List.{length_push, take_all}
+use Rattle.aig_core.proofs.Common.{length_push, visit}
+use Rattle.std.proofs.lemmas.List.{take_all}
 use Rattle.std.proofs.lemmas.Iterator.Adapters.{YieldsList-from_rev_slice}
 use Rattle.std.proofs.lemmas.Iterator.Consumers.{YieldsList-turn, YieldsList-end}
-use Rattle.aig_core.specs.Tasks.{visit}
 use Rattle.aig_core.proofs.DepthLemmas.{visits_more}
 use Rattle.aig_core.proofs.depth.add_visits.Goals as goal
 

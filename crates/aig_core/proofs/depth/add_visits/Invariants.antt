@@ -1,5 +1,5 @@
 use Rattle.std.proofs.Common.{◌≡◌, ◌++◌, length, map, reverse, take}
-use Rattle.aig_core.specs.Tasks.{visit}
+use Rattle.aig_core.proofs.Common.{visit}
 use Rattle.aig_core.proofs.depth.add_visits.Given as goal
 
 abbrev pub invariant-loop-node : goal.invariant-loop-node

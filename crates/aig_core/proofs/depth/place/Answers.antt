@@ -1,9 +1,6 @@
-use Rattle.std.proofs.Common.{ℕ, true, List, set, sym, subst}
-use Rattle.aig_core.specs.Tasks.{HasMarks}
 use Rattle.aig_core.proofs.DepthLemmas.{marked_more}
 use Rattle.aig_core.proofs.depth.place.Goals as goal
 
 pub returns-clause-marks : goal.returns-clause-marks
 returns-clause-marks c =
-    let P : List ℕ → Type 0 = λ nodes. HasMarks nodes (set c.args.placed.now.marks.items c.args.node true) in
-    subst P (sym c.in_ok-push.ensures.items) (marked_more c.args.placed.now.nodes.items c.args.placed.now.marks.items c.args.node c.requires.within c.requires.marks)
+    rw c.in_ok-push.ensures.items (marked_more c.args.placed.now.nodes.items c.args.placed.now.marks.items c.args.node c.requires.within c.requires.marks)

@@ -1,7 +1,6 @@
-use Rattle.std.proofs.Common.{◌≡◌, ◌<◌, ◌++◌, [], List, Some, length, map, reverse, sym, ap, ap₂, subst, ◌∙◌}
-use Rattle.std.proofs.lemmas.List.Elements.{All-nil, All-pop}
-use Rattle.aig_core.specs.declared.depth.Task.{Task}
-use Rattle.aig_core.specs.Tasks.{visit, node_of, AreWithin, finished}
+use Rattle.std.proofs.Common.{◌≡◌, ◌<◌, ◌++◌, [], Some, length, map, reverse, ap, ap₂, ◌∙◌}
+use Rattle.aig_core.proofs.Common.{All-nil, Task, visit, node_of, finished}
+use Rattle.std.proofs.lemmas.List.Elements.{All-pop}
 use Rattle.aig_core.proofs.DepthLemmas.{finished_visits, visits_within}
 use Rattle.aig_core.proofs.depth.place_needed.Goals as goal
 
@@ -11,10 +10,9 @@ loop-task-init c =
     let needed = c.args.needed.now in
     let items : c.add_visits.new.tasks.items ≡ [] ++ map visit (reverse needed) =
     c.in_ok-add_visits.ensures ∙ ap (λ xs. xs ++ map visit (reverse needed)) c.new-tasks.ensures.items in
-    let P : List Task → Type 0 = λ tasks. AreWithin (length graph) tasks in
     record {
       end = ap₂ (λ ns ts. finished graph ns ts) c.requires.nodes items ∙ finished_visits graph [] [] needed;
-      within = subst P (sym items) (visits_within (length graph) [] needed (All-nil (λ (t : Task). node_of t < length graph)) c.requires.needed);
+      within = rw items (visits_within (length graph) [] needed (All-nil (λ (t : Task). node_of t < length graph)) c.requires.needed);
       marks = c.requires.marks;
       width = c.requires.width;
     }

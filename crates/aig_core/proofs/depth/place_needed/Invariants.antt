@@ -1,6 +1,6 @@
 use Rattle.std.proofs.Common.{◌≡◌, length}
-use Rattle.aig_core.specs.Depth.{postorder}
-use Rattle.aig_core.specs.Tasks.{AreWithin, finished, tasks_left, HasMarks}
+use Rattle.aig_core.proofs.Common.{postorder, AreWithin, finished, HasMarks}
+use Rattle.aig_core.specs.Tasks.{tasks_left}
 use Rattle.aig_core.proofs.depth.place_needed.Given as goal
 
 abbrev pub invariant-loop-task : goal.invariant-loop-task

@@ -1,18 +1,15 @@
 use Rattle.std.proofs.Common.{◌≡◌, ◌++◌, ◌∷◌, [], ◌<◌, List, length, map, reverse, true, false, sym, ap₂, subst, ◌∙◌, arith}
-use Rattle.std.specs.Prelude.{nat_eq}
-use Rattle.std.specs.List.{list_any}
+use Rattle.aig_core.proofs.Common.{nat_eq, list_any, successors, Task, visit}
 use Rattle.std.proofs.lemmas.List.{get_or_default}
 use Rattle.std.proofs.lemmas.Result.{on_ok_weaker}
-use Rattle.components.specs.Graphs.{successors}
-use Rattle.aig_core.specs.declared.depth.Task.{Task}
 use Rattle.aig_core.specs.declared.depth.Task.TheVariants.{Place}
-use Rattle.aig_core.specs.Tasks.{visit, node_of, Advances}
+use Rattle.aig_core.specs.Tasks.{Advances}
 use Rattle.aig_core.proofs.DepthLemmas.{pass_advances, open_advances}
 use Rattle.aig_core.proofs.depth.step.Goals as goal
 use Rattle.aig_core.proofs.depth.step.Goals.{In-Visit}
 
 within : (c : In-Visit) → c.in-Visit.node < length c.args.graph.now
-within c = let P : Task → Type 0 = λ t. node_of t < length c.args.graph.now in subst P c.in-Visit.is c.requires.task
+within c = rw c.in-Visit.is at c.requires.task
 
 pub returns-then-index-clause-advances : goal.returns-then-index-clause-advances
 returns-then-index-clause-advances c =
@@ -20,13 +17,11 @@ returns-then-index-clause-advances c =
     let marks = c.args.placed.now.marks.items in
     let tasks = c.args.tasks.now.items in
     let n = c.in-Visit.node in
-    let width = c.requires.width in
     let l = within ((goal.at.returns-then-index-clause-advances c).In-Visit) in
-    let marked : n < length marks = omega arith in
+    let marked : n < length marks = omega (arith, c.requires.width) in
     let there : list_any (nat_eq n) nodes ≡ true =
     sym (c.requires.marks n marked) ∙ get_or_default marks n false c.index.result.now marked ∙ sym c.index.ensures ∙ c.if-index.true in
-    let P : Task → Type 0 = λ t. Advances c.args.graph.now nodes nodes (tasks ++ t ∷ []) tasks in
-    subst P (sym c.in-Visit.is) (pass_advances c.args.graph.now nodes tasks n c.requires.tasks there)
+    rw c.in-Visit.is (pass_advances c.args.graph.now nodes tasks n c.requires.tasks there)
 
 pub returns-in_ok-push-in-Visit-clause-advances : goal.returns-in_ok-push-in-Visit-clause-advances
 returns-in_ok-push-in-Visit-clause-advances c =
@@ -35,15 +30,11 @@ returns-in_ok-push-in-Visit-clause-advances c =
     let marks = c.args.placed.now.marks.items in
     let tasks = c.args.tasks.now.items in
     let n = c.in-Visit.node in
-    let width = c.requires.width in
     let l = within ((goal.at.returns-in_ok-push-in-Visit-clause-advances c).In-Visit) in
-    let marked : n < length marks = omega arith in
+    let marked : n < length marks = omega (arith, c.requires.width) in
     let new : list_any (nat_eq n) nodes ≡ false =
     sym (c.requires.marks n marked) ∙ get_or_default marks n false c.index.result.now marked ∙ sym c.index.ensures ∙ c.if-index.false in
-    let opened = (tasks ++ Place n ∷ []) ++ map visit (reverse (successors graph n)) in
-    let P : Task → Type 0 = λ t. Advances graph nodes nodes (tasks ++ t ∷ []) opened in
-    let advances = subst P (sym c.in-Visit.is) (open_advances graph c.requires.ranks nodes tasks n c.requires.tasks l new) in
-    let Q : List Task → Type 0 = λ after. Advances graph nodes nodes (tasks ++ c.args.task ∷ []) after in
+    let advances : Advances graph nodes nodes (tasks ++ c.args.task ∷ []) ((tasks ++ Place n ∷ []) ++ map visit (reverse (successors graph n))) = rw c.in-Visit.is (open_advances graph c.requires.ranks nodes tasks n c.requires.tasks l new) in
     on_ok_weaker c.add_visits.result
-    (λ e. subst Q (sym (e ∙ ap₂ (λ xs ys. xs ++ map visit (reverse ys)) c.in_ok-push-in-Visit.ensures.items c.successors.ensures)) advances)
+    (λ e. subst (λ (after : List Task). Advances graph nodes nodes (tasks ++ c.args.task ∷ []) after) (sym (e ∙ ap₂ (λ xs ys. xs ++ map visit (reverse ys)) c.in_ok-push-in-Visit.ensures.items c.successors.ensures)) advances)
     c.add_visits.ensures

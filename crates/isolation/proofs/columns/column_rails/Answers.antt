@@ -15,8 +15,7 @@ loop-variable-preserved c =
     let keeps = c.loop-variable.invariant.grows.keeps in
     let vars = keeps.vars in
     let all = ap (λ (a : Arena). a.vars) c.store.ensures in
-    let end = c.vars-variable-end.ensures in
-    let inside : c.loop-variable.variable < c.loop-variable.d.vars = omega (arith, c.loop-variable-test.true, vars, all, end) in
+    let inside : c.loop-variable.variable < c.loop-variable.d.vars = omega (arith, c.loop-variable-test.true, vars, all, c.vars-variable-end.ensures) in
     record {
       grows = grows_more (omega arith) (grows_answered (step ((goal.at.loop-variable-preserved c).After-var_rails)));
       columns = columns-more c.var_rails.ensures.grows.keeps (subst (λ n. IsLayout n c.args.columns.now) (sym vars) c.requires) inside c.loop-variable.invariant.columns

@@ -12,7 +12,5 @@ loop-gate-preserved c =
 
 pub returns : goal.returns
 returns c =
-    let t = c.loop-gate-test.false in
-    let e = c.loop-gate.auto.gate-index-end in
-    let all : c.loop-gate.gate-index ≡ length c.args.gates.now = omega (arith, t, e) in
+    let all : c.loop-gate.gate-index ≡ length c.args.gates.now = omega (arith, c.loop-gate-test.false, c.loop-gate.auto.gate-index-end) in
     subst (λ (k : ℕ). AddMarks (IsNearOne c.args.net.now c.args.gates.now k) c.args.marks.now c.loop-gate.marks) all c.loop-gate.invariant

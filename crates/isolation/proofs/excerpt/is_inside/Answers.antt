@@ -24,7 +24,6 @@ returns-in-None c =
     record {
       outside = λ e has.
           let above = (inside_block looped.net looped.blocks c.net.ensures.looped.blocks c.args.place c.args.signal c.requires.place has).0 in
-          let own = ap first_gate c.net.ensures.net in
-          omega (arith, own, above, c.in-None.ensures.given);
+          omega (arith, ap first_gate c.net.ensures.net, above, c.in-None.ensures.given);
       inside = λ e. absurd (true≢false (sym e));
     }

@@ -1,8 +1,8 @@
-use Rattle.std.proofs.Common.{◌<◌, List, ℕ, All, Contains, IfOk, map, refl, subst, sym}
-use Rattle.isolation.proofs.Common.{IfSome, Sig, Parts, count, gate_sig, block_at, AreClosed, IsExcerpt}
+use Rattle.std.proofs.Common.{◌<◌, List, ℕ, All, Contains, map, refl, subst, sym, arith}
+use Rattle.isolation.proofs.Common.{Sig, Parts, count, gate_sig, block_at}
 use Rattle.isolation.specs.Building.{AreApart}
 use Rattle.loops.proofs.OrderLemmas.{block_rises, gates_within}
-use Rattle.isolation.proofs.BuildingLemmas.{outside_within, loop_found, loop_filled}
+use Rattle.isolation.proofs.BuildingLemmas.{outside_within, loop_is, found_then}
 use Rattle.isolation.proofs.excerpt.loop_netlist.Goals as goal
 
 pub excerpt-requires-clause-outside : goal.excerpt-requires-clause-outside
@@ -21,20 +21,16 @@ excerpt-requires-clause-apart c =
 pub returns-clause-small : goal.returns-clause-small
 returns-clause-small c =
     let l = c.args.looped.now in
-    loop_found l.net (block_at l.blocks c.args.place).gates c.in_ok-outside.outside.keys c.excerpt.result c.in_ok-outside.ensures.wires
-    (subst (λ (net : Parts). IfOk c.excerpt.result (λ found. IfSome found (IsExcerpt net c.in_ok-outside.outside.keys (block_at l.blocks c.args.place).gates))) c.net.ensures.net
-    (rw c.gates_at-gates.ensures.is at c.excerpt.ensures.small))
+    found_then c.excerpt.result (λ small is. loop_is l.net (block_at l.blocks c.args.place).gates c.in_ok-outside.outside.keys small c.in_ok-outside.ensures.wires is)
+    (rw (c.gates_at-gates.ensures.is, c.net.ensures.net) at c.excerpt.ensures.small)
 
 pub returns-clause-filled : goal.returns-clause-filled
 returns-clause-filled c =
-    let l = c.args.looped.now in
-    loop_filled c.net.result.now (block_at l.blocks c.args.place).gates c.in_ok-outside.outside.keys c.excerpt.result (c.net.ensures.looped.blocks.filled c.args.place c.requires)
+    found_then c.excerpt.result (λ small is. omega (arith, is.size, c.net.ensures.looped.blocks.filled c.args.place c.requires))
     (rw c.gates_at-gates.ensures.is at c.excerpt.ensures.small)
 
 pub returns-clause-some : goal.returns-clause-some
 returns-clause-some c =
     let l = c.args.looped.now in
-    c.excerpt.ensures.some
-    (subst (λ (net : Parts). AreClosed net c.gates_at-gates.result.now c.in_ok-outside.outside.keys) (sym c.net.ensures.net)
-    (subst (λ (gs : List ℕ). AreClosed l.net gs c.in_ok-outside.outside.keys) (sym c.gates_at-gates.ensures.is)
-    (record { rise = block_rises l.net l.blocks c.net.ensures.looped.blocks c.args.place c.requires; once = c.in_ok-outside.ensures.wires.once; read = c.in_ok-outside.ensures.all })))
+    let rise = block_rises l.net l.blocks c.net.ensures.looped.blocks c.args.place c.requires in
+    c.excerpt.ensures.some (rw (c.net.ensures.net, c.gates_at-gates.ensures.is) (record { rise = rise; once = c.in_ok-outside.ensures.wires.once; read = c.in_ok-outside.ensures.all }))

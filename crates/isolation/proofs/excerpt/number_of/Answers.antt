@@ -12,8 +12,6 @@ returns-in-Ok-clause-number c =
 
 pub returns-in-Err-clause-some : goal.returns-in-Err-clause-some
 returns-in-Err-clause-some c numerable among =
-    let within = c.in_ok-place.ensures.place.within in
-    let fits = numerable.fits in
     let one = length-append c.args.outside.now.keys (map (gate_sig c.args.net.now) c.args.gates.now) in
     let two = length-map c.args.gates.now (gate_sig c.args.net.now) in
-    absurd (c.in-Err.ensures (omega (arith, within, fits, one, two)))
+    absurd (c.in-Err.ensures (omega (arith, c.in_ok-place.ensures.place.within, numerable.fits, one, two)))

@@ -12,9 +12,8 @@ step c =
     let less = c.loop-one-test.true in
     within_then c.loop-one.invariant.grows
     (within_one (λ w bounds.
-    let most = bounds c.loop-one.one-index less in
     let same = known-kept (rails_at c.args.rails.now c.loop-one.one-index) c.loop-one.invariant.grows.keeps (c.requires c.loop-one.one-index unknown less) in
-    omega (arith, most, same)) c.is_known.ensures.grows)
+    omega (arith, bounds c.loop-one.one-index less, same)) c.is_known.ensures.grows)
 
 pub loop-one-preserved : goal.loop-one-preserved
 loop-one-preserved c = record {

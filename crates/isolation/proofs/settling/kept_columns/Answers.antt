@@ -16,10 +16,8 @@ returns-in_err-rails-clause-adds c = adds_refused c.in_err-rails.was c.from_resi
 
 pub returns-in_err-keep_rails-clause-adds : goal.returns-in_err-keep_rails-clause-adds
 returns-in_err-keep_rails-clause-adds c =
-    let same = ap length c.keep_rails.ensures.gains.entries in
-    adds_lacking c.from_residual-in_err-keep_rails.ensures.1 (omega (arith, same)) (columns-add ((goal.at.returns-in_err-keep_rails-clause-adds c).After-column_rails))
+    adds_lacking c.from_residual-in_err-keep_rails.ensures.1 (omega (arith, ap length c.keep_rails.ensures.gains.entries)) (columns-add ((goal.at.returns-in_err-keep_rails-clause-adds c).After-column_rails))
 
 pub returns-clause-adds : goal.returns-clause-adds
 returns-clause-adds c =
-    let same = ap length c.keep_rails.ensures.gains.entries in
-    adds_swept (omega (arith, same)) (columns-add ((goal.at.returns-clause-adds c).After-column_rails))
+    adds_swept (omega (arith, ap length c.keep_rails.ensures.gains.entries)) (columns-add ((goal.at.returns-clause-adds c).After-column_rails))

@@ -1,11 +1,9 @@
 use Rattle.std.proofs.Common.{◌≡◌, ◌∙◌, ◌+◌, ◌*◌, ◌<◌, ℕ, ap, length, sym, subst, arith}
-use Rattle.std.specs.Prelude.{IfOk, IfNone}
-use Rattle.isolation.proofs.Common.{AddsWithin, IfSome, IsSolvedNetlist, IsWide, IsLaid, Parts, first_gate}
+use Rattle.isolation.proofs.Common.{AddsWithin, IsSolvedNetlist, IsWide, IsLaid, Parts, first_gate}
 use Rattle.bdd_store.proofs.GrowthLemmas.{adds_then, adds_moved, adds_more, adds_caused, adds_refused}
 use Rattle.loops.specs.Looped.{IsLooped}
 use Rattle.fixpoint.specs.Working.{HasLargeCover, effort}
-use Rattle.isolation.specs.Settling.{IsSettledIn, settling_cost}
-use Rattle.isolation.specs.Unsettled.{HasUnknown}
+use Rattle.isolation.specs.Settling.{settling_cost}
 use Rattle.isolation.proofs.SettlingLemmas.{handed-out}
 use Rattle.isolation.proofs.WidthLemmas.{solved-is, solution-adds}
 use Rattle.isolation.proofs.settling.settle_on.Goals as goal
@@ -31,14 +29,10 @@ pub settled_sweeps-requires : goal.settled_sweeps-requires
 settled_sweeps-requires c = solved c
 
 pub returns-clause-settled : goal.returns-clause-settled
-returns-clause-settled c =
-    subst (λ (net : Parts). IfOk c.settled_sweeps.result (λ found. IfSome found (IsSettledIn net))) c.net-net.ensures.net
-    (c.settled_sweeps.ensures.settled (solved (goal.at.returns-clause-settled c).After-solved-2-1))
+returns-clause-settled c = rw c.net-net.ensures.net at (c.settled_sweeps.ensures.settled (solved (goal.at.returns-clause-settled c).After-solved-2-1))
 
 pub returns-clause-unknown : goal.returns-clause-unknown
-returns-clause-unknown c =
-    subst (λ (net : Parts). IfOk c.settled_sweeps.result (λ found. IfNone found (HasUnknown net))) c.net-net.ensures.net
-    (c.settled_sweeps.ensures.unknown (solved (goal.at.returns-clause-unknown c).After-solved-2-1))
+returns-clause-unknown c = rw c.net-net.ensures.net at (c.settled_sweeps.ensures.unknown (solved (goal.at.returns-clause-unknown c).After-solved-2-1))
 
 pub returns-clause-limit : goal.returns-clause-limit
 returns-clause-limit c =
@@ -58,12 +52,12 @@ returns-in_err-given-clause-adds c =
 
 pub returns-in_err-solved-clause-adds : goal.returns-in_err-solved-clause-adds
 returns-in_err-solved-clause-adds c =
-    subst (λ (net : Parts). AddsWithin c.from_residual-in_err-solved.result c.args.d.now c.solve.new.d (HasLargeCover net) (IsWide c.args.d.now.vars (IsLaid net)) (settling_cost net)) c.net-net.ensures.net
+    rw (← c.net-net.ensures.net)
     (adds_more {n = settling_cost c.net-net.result.now} (omega arith) (adds_refused c.in_err-solved.was c.from_residual-in_err-solved.ensures.1 (solution (goal.at.returns-in_err-solved-clause-adds c).After-solve)))
 
 pub returns-clause-adds : goal.returns-clause-adds
 returns-clause-adds c =
-    subst (λ (net : Parts). AddsWithin c.settled_sweeps.result c.args.d.now c.settled_sweeps.new.d (HasLargeCover net) (IsWide c.args.d.now.vars (IsLaid net)) (settling_cost net)) c.net-net.ensures.net
+    rw (← c.net-net.ensures.net)
     (adds_more {n = settling_cost c.net-net.result.now} (omega arith)
     (adds_then (c.in_ok-solved.ensures.roots.limit ∙ c.kept_columns.ensures.limit) (solution (goal.at.returns-clause-adds c).After-solve)
     (adds_caused (λ (none : ⊥). absurd none)

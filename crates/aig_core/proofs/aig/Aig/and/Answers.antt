@@ -1,10 +1,6 @@
 use Rattle.std.proofs.Common.{◌≡◌, ◌+◌, ◌*◌, ◌&&◌, Some, None, Err, length, sym, ap, subst, ◌∙◌, arith, false}
-use Rattle.std.specs.List.{position_or_len, list_any}
-use Rattle.aig_core.specs.declared.edge.Edge.{Edge}
-use Rattle.aig_core.specs.declared.edge.And.{And}
-use Rattle.aig_core.specs.Graphs.{Graph, with_ands, first_and, edge_to, den}
-use Rattle.aig_core.specs.Soundness.{IsSound}
-use Rattle.aig_core.specs.Conjunctions.{Made, simple_and, pair_of, same_pair, entered, hashed, conjunction, NeedsAnd}
+use Rattle.aig_core.proofs.Common.{position_or_len, list_any, Edge, And, Graph, with_ands, first_and, edge_to, den, IsSound, Made, simple_and, pair_of, same_pair, entered, hashed, conjunction}
+use Rattle.aig_core.specs.Conjunctions.{NeedsAnd}
 use Rattle.aig_core.proofs.ConjunctionLemmas.{IsMade, conjunction-some, conjunction-none, apart_at, simple_at, hashed_is}
 use Rattle.aig_core.proofs.AnswerLemmas.{handed, fault_from, too_many}
 use Rattle.aig_core.specs.contracts.aig.Aig.{the_view}
