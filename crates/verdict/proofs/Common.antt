@@ -68,13 +68,12 @@ pub use Rattle.std.specs.Prelude.{IsSomeAnd, find, is_none, is_some}
 pub use Rattle.verdict.specs.Fanout.{AreFanoutMarks}
 pub use Rattle.verdict.specs.Causes.{HasModelOver}
 pub use Rattle.verdict.specs.Costs.{assume_effort, decision_cost, invariant_effort, start_cost}
-pub use Rattle.verdict.specs.Determination.{AreCountsBelow, SettleInOneSweep}
+pub use Rattle.verdict.specs.Determination.{SettleInOneSweep}
 pub use Rattle.verdict.specs.Enough.{AddsInDecision, BoundsModel, GrowsInDecision, IsFullFor, IsLaid, IsOfModel, SaysCare, read_by}
 pub use Rattle.verdict.specs.Loose.{AreLoopCounts, AreScattered, AreUnknownMarks}
-pub use Rattle.verdict.specs.Next.{BoundsSignals, next_within}
+pub use Rattle.verdict.specs.Next.{next_within}
 pub use Rattle.verdict.specs.Observed.{AreMarksOf}
-pub use Rattle.verdict.specs.Scopes.{AreCountsAt, AreDriversBefore, MayGoOn}
+pub use Rattle.verdict.specs.Scopes.{AreDriversBefore, MayGoOn}
 pub use Rattle.verdict.specs.Sets.{AreFixed, BoundsBoth, BoundsStarts, ReadsWithin, Tells, difference, has_state_inside, model_of, starts}
 pub use Rattle.verdict.specs.Solving.{AreColumnVectors}
-pub use Rattle.verdict.specs.Unknown.{AreAsked}
 pub use Rattle.verdict.specs.Verdicts.{AreLoose, are_care_values}

@@ -1,8 +1,9 @@
 use Rattle.std.proofs.Common.{◌≡◌, ℕ, ◌+◌, ◌-◌, ◌<◌, ◌≤◌, ◌∙◌, Bool, List, length, drop, get_or, sym, ap, ap₂, arith}
 use Rattle.std.specs.Prelude.{slice_get, Some}
-use Rattle.verdict.proofs.Common.{GrowsWithin, NoOtherCause, nodes, within_one, within_then, within_more, within_answered, within_refused, conjunction, Rails, AreRailsOf, order, rails_at, rails_at-proper, columns, AreColumns, BoundsStarts, AreColumns-kept}
+use Rattle.verdict.proofs.Common.{GrowsWithin, NoOtherCause, nodes, within_one, within_then, within_more, within_answered, within_refused, conjunction, Rails, AreRailsOf, order, order-is, rails_at, rails_at-proper, columns, AreColumns, BoundsStarts, AreColumns-kept}
+use Rattle.std.proofs.lemmas.List.{drop_all}
 use Rattle.bdd_store.proofs.GrowthLemmas.{nothing_grown}
-use Rattle.verdict.proofs.StartLemmas.{all_may_start_at, long-order, order-low, later-none, later-both, later-input, later-more, later-nodes, starts-told}
+use Rattle.verdict.proofs.StartLemmas.{all_may_start_at, later-both, later-input, later-nodes, starts-told}
 use Rattle.verdict.proofs.initial.starts_on.Goals as goal
 use Rattle.verdict.proofs.initial.starts_on.Goals.{After-and}
 
@@ -18,27 +19,30 @@ column-is c = ap (λ (xs : List ℕ). get_or xs (c.loop-variable.variable - 1) 0
 pub loop-variable-init : goal.loop-variable-init
 loop-variable-init c = record {
   grows = nothing_grown;
-  later = later-none c.args.net.now c.args.d.now c.of-set.result c.columns-variable.result (c.of-set.ensures.node c.args.d.now) (c.of-set.ensures.value c.args.d.now)
-      (omega (arith, c.inputs-first.ensures.inputs, c.columns-variable.ensures.columns));
+  later = record {
+    node = c.of-set.ensures.node c.args.d.now;
+    value = λ w wide. c.of-set.ensures.value c.args.d.now w
+        ∙ sym (ap (λ (cs : List ℕ). all_may_start_at c.args.net.now cs (drop c.columns-variable.result w)) (drop_all c.columns-variable.result (order c.args.net.now) (omega (arith, (order-is c.args.net.now).long, c.inputs-first.ensures.inputs, c.columns-variable.ensures.columns))));
+  };
 }
 
 pub bounds-order-variable : goal.bounds-order-variable
 bounds-order-variable c =
-    let long = long-order c.args.net.now in
+    let long = (order-is c.args.net.now).long in
     let same = ap length c.requires.order in
     omega (arith, c.loop-variable-test.true, c.loop-variable.auto.variable, c.inputs-first.ensures.inputs, c.columns-variable.ensures.columns, long, same)
 
 pub latch-requires : goal.latch-requires
 latch-requires c =
     let k : ℕ = c.loop-variable.variable - 1 in
-    let low = order-low c.args.net.now k (omega (arith, c.loop-variable-test.true, c.loop-variable.auto.variable, c.inputs-first.ensures.inputs, c.columns-variable.ensures.columns)) in
+    let low = (order-is c.args.net.now).within k (omega (arith, c.loop-variable-test.true, c.loop-variable.auto.variable, c.inputs-first.ensures.inputs, c.columns-variable.ensures.columns)) in
     let same = ap (λ (xs : List ℕ). get_or xs k 0) c.requires.order in
     omega (arith, low, same, c.if-column-first.true, c.inputs-first.ensures.inputs)
 
 pub bounds-rails-column : goal.bounds-rails-column
 bounds-rails-column c =
     let k : ℕ = c.loop-variable.variable - 1 in
-    let low = order-low c.args.net.now k (omega (arith, c.loop-variable-test.true, c.loop-variable.auto.variable, c.inputs-first.ensures.inputs, c.columns-variable.ensures.columns)) in
+    let low = (order-is c.args.net.now).within k (omega (arith, c.loop-variable-test.true, c.loop-variable.auto.variable, c.inputs-first.ensures.inputs, c.columns-variable.ensures.columns)) in
     let same = ap (λ (xs : List ℕ). get_or xs k 0) c.requires.order in
     let wide = c.requires.columns.width in
     omega (arith, low, same, wide, c.requires.vars)
@@ -80,8 +84,7 @@ loop-variable-preserved-then-column-first g =
     let c : After-and = (goal.at.loop-variable-preserved-then-column-first g).After-and in
     record {
       grows = within_answered (step c);
-      later = later-more c.args.net.now c.loop-variable.d c.and.new.self c.loop-variable.set c.may_start_on-latch.result g.in_ok-set.set (c.loop-variable.variable - 1)
-          c.and.ensures.grows.keeps (both c) g.in_ok-set.ensures.node g.in_ok-set.ensures.function;
+      later = record { node = g.in_ok-set.ensures.node; value = λ w wide. g.in_ok-set.ensures.function w ∙ both c w (wide ∙ c.and.ensures.grows.keeps.vars) };
     }
 
 -- an input's column stands for all
