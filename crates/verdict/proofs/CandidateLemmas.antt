@@ -1,6 +1,6 @@
 -- The refusal of the first observed gate that is unknown on care.
 use Rattle.std.proofs.Common.{◌≡◌, inl, inr, ℕ, ◌<◌, Bool, true, false, not, List, length, map, get_or, Option, Some, None, refl, sym, ap, ◌∙◌, subst, arith, Contains, true≢false}
-use Rattle.verdict.proofs.Common.{find, is_some, and_from, cases_lt, get_or-map, get_or_default, length-map, vectors, Parts, IsNetlist, gate_sig, Blocks, AreBlocksOf, is_marked, ListsMarked, unsettled_loops_decide, CareSet, columns, is_care_vector, Observe, Undetermined, observed, is_undetermined, is_x, undetermined_refusal, none_passes, gate_wire, care_vector_is, is_unknown_at, SettleInOneSweep, AreMarksOf}
+use Rattle.verdict.proofs.Common.{find, is_some, and_from, cases_lt, get_or-map, get_or_default, length-map, vectors, Parts, IsNetlist, gate_sig, Blocks, AreBlocksOf, is_marked, ListsMarked, unsettled_loops_decide, CareSet, columns, is_care_vector, Observe, observed, is_undetermined, is_x, none_passes, gate_wire, care_vector_is, is_unknown_at, SettleInOneSweep, AreMarksOf}
 use Rattle.std.specs.List.{All}
 use Rattle.std.proofs.lemmas.Bool.{cases_eq}
 use Rattle.isolation.specs.Excerpts.{gate_in}
@@ -8,8 +8,7 @@ use Rattle.clause_decision.specs.Tests.{is_unknown, IsFirstUnknown}
 use Rattle.verdict.specs.Determination.{AreDeterminedOnCare, IsOpen}
 use Rattle.verdict.specs.Scopes.{AreOpenGates}
 use Rattle.verdict.specs.Unknown.{AreAskedCandidates, IsAskedFor, IsFirstToRefuse}
-use Rattle.verdict.proofs.DeterminationLemmas.{marks_of, marks-are}
-use Rattle.verdict.proofs.PartLemmas.{known-here, undetermined-found}
+use Rattle.verdict.proofs.PartLemmas.{known-here}
 
 -- ---- the first of them that is unknown
 
@@ -61,15 +60,6 @@ first-refuses net valid blocks are settled seen marks last soon candidates care 
         two false apart = known-here net care m inside (λ v counts.
             unsettled_loops_decide net blocks (is_marked settled) valid are (λ b within loop marked. (soon b within loop marked).alone) v counts.width m inside
             (λ g low up loop unsettled. absurd (true≢false (sym (candidates.each m wanted (record { gate = g; opened = record { within = low; looped = loop; unsettled = unsettled }; upstream = up })) ∙ apart))))
-
--- with its least vector
-pub refuses-at : (net : Parts) (care : CareSet) (what : Observe) (gate : ℕ) (v : List Bool) → gate < length net.gates → IsFirstToRefuse net care what gate →
-    find (is_unknown_at net care gate) (vectors (columns net)) ≡ Some v → undetermined_refusal net care what ≡ Some (Undetermined v (gate_sig net gate))
-refuses-at net care what gate v within first found =
-    let marks = marks-are net (observed net what) in
-    undetermined-found net care what (marks_of net (observed net what)) marks gate v within
-    (λ k less marked. first.before k less (sym (marks.each k (omega (arith, less, within))) ∙ marked))
-    (marks.each gate within ∙ first.seen) found
 
 -- ---- the gates of loops that aren't settled
 

@@ -25,6 +25,13 @@ IsMade net care g = IsMadeOf net care (λ v. g (laid net v))
 pub made-listed : {net : Parts} {care : CareSet} {f h : List Bool → Bool} → IsOfDecision net care f → ((v : List Bool) → length v ≡ columns net → h v ≡ f v) → IsMadeOf net care h
 made-listed {f = f} is same = record { of = f; listed = is; by = λ x. x; same = same }
 
+-- the same function in other words
+pub made-same : {net : Parts} {care : CareSet} {g h : List Bool → Bool} → ((v : List Bool) → length v ≡ columns net → h v ≡ g v) → IsMadeOf net care g → IsMadeOf net care h
+made-same same m = record { of = m.of; listed = m.listed; by = m.by; same = λ v long. same v long ∙ m.same v long }
+
+pub made-constant : {net : Parts} {care : CareSet} {h : List Bool → Bool} (b : Bool) → ((v : List Bool) → h v ≡ b) → IsMadeOf net care h
+made-constant {net} {care} b is = record { of = is_care_vector net care; listed = SaysCare (λ v. refl); by = λ t. b; same = λ v long. is v }
+
 -- a vector by variable is one by column, laid out
 pub vector_of : Parts → List Bool → List Bool
 vector_of net u = by_column (order net) u
@@ -42,7 +49,7 @@ unfolding vector_of
 vector_of-laid net v wide = columns-back (columns net) (order net) (order-is net) v wide
 
 pub made-laid : {net : Parts} {care : CareSet} {h : List Bool → Bool} → IsMadeOf net care h → IsMade net care (λ u. h (vector_of net u))
-made-laid {net} {h = h} x = record { of = x.of; listed = x.listed; by = x.by; same = λ v long. ap h (vector_of-laid net v long) ∙ x.same v long }
+made-laid {net} {h = h} x = made-same (λ v long. ap h (vector_of-laid net v long)) x
 
 made-at : {net : Parts} {care : CareSet} (g : List Bool → Bool) (x : IsMade net care g) (u : List Bool) → length u ≡ columns net → g u ≡ x.by (x.of (vector_of net u))
 made-at {net} g x u long = ap g (sym (laid-vector_of net u long)) ∙ x.same (vector_of net u) (length-vector_of net u)
@@ -129,9 +136,7 @@ module _ (net : Parts) (care : CareSet) where
     signal_rails = rails_at rails signal
 
     made-rail : (b : Bool) (node : Node) → ((v : List Bool) → den a node v ≡ is_bit b (value_of a signal_rails v)) → IsMade net care (den a node)
-    made-rail b node says =
-        let m = made-signal signal within b in
-        record { of = m.of; listed = m.listed; by = m.by; same = λ v long. says (laid net v) ∙ ap (is_bit b) (signal-value v long) ∙ m.same v long }
+    made-rail b node says = made-same (λ v long. says (laid net v) ∙ ap (is_bit b) (signal-value v long)) (made-signal signal within b)
 
     made-one_rail : IsMade net care (den a signal_rails.one)
     made-one_rail = made-rail true signal_rails.one (λ v. sym (one-of (den a signal_rails.one v) (den a signal_rails.zero v)))

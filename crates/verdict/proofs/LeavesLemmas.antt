@@ -1,21 +1,20 @@
 -- The invariant on the next state, as a function of the decision.
 use Rattle.std.proofs.Common.{◌≡◌, inl, inr, ℕ, ◌-◌, ◌<◌, ◌≤◌, Bool, true, false, not, ◌&&◌, if◌then◌else◌, List, [], ◌∷◌, length, map, get_or, Option, Some, None, refl, sym, ap, ◌∙◌, arith}
 use Rattle.std.specs.Prelude.{replicate}
-use Rattle.verdict.proofs.Common.{option_map_or, cases_lt, get_or-map, get_or_past, get_or_append_left, length-map, Node, Arena, den, nodes, Sig, Trit, X, bit, bits, IsWide, is_bit, Latch, Parts, wire, fix, fix_gates, next, IsNetlist, value_in, map_agree, laid, CareModel, IsCareOf, CareSet, columns, is_one, holds_at, is_in_invariant, is_care_vector, leaves, next_state, care_vector_decides, read_by, IsOfModel, IsLaid, SaysCare, next_within, Tells, difference}
+use Rattle.verdict.proofs.Common.{option_map_or, cases_lt, get_or-map, get_or_past, get_or_append_left, length-map, Node, Arena, den, nodes, Sig, Trit, X, bit, bits, IsWide, is_bit, Latch, Parts, wire, fix, fix_gates, next, IsNetlist, value_in, laid, CareModel, IsCareOf, CareSet, columns, is_one, holds_at, is_in_invariant, is_care_vector, leaves, next_state, care_vector_decides, read_by, IsOfModel, IsLaid, SaysCare, next_within, Tells, difference}
 use Rattle.cyc_base.specs.declared.trit.Trit.TheVariants.{Zero, One}
-use Rattle.cyc_base.proofs.ListLemmas.{map-map}
 use Rattle.netlist.specs.declared.parts.Init.TheVariants as inits
 use Rattle.netlist.specs.Fixpoint.{outs}
 use Rattle.netlist.proofs.FixpointLemmas.{get_or-fix, length-fix_gates}
 use Rattle.loops.proofs.Reading.{wire_of_gate}
 use Rattle.fixpoint.specs.Working.{read_at_fix}
-use Rattle.care_sets.specs.Care.{inputs_at, HasValues}
+use Rattle.care_sets.specs.Care.{HasValues}
 use Rattle.care_sets.proofs.CareLemmas.{states_serve_invariant}
 use Rattle.refusals.proofs.RefusalLemmas.{next_state_is, length-next_state}
 use Rattle.verdict.specs.Enough.{IsOfNext}
 use Rattle.clause_decision.specs.Loads.{LoadsAreKnown}
-use Rattle.verdict.proofs.CareLemmas.{model_is}
-use Rattle.verdict.proofs.DecisionLemmas.{IsMadeOf, vector_of, length-vector_of, laid-vector_of, made-laid, made-listed, made-two, made-signal}
+use Rattle.verdict.proofs.CareLemmas.{model_is, read-bits}
+use Rattle.verdict.proofs.DecisionLemmas.{IsMadeOf, vector_of, length-vector_of, laid-vector_of, made-constant, made-laid, made-listed, made-same, made-two, made-signal}
 use Rattle.verdict.proofs.PartLemmas.{leaving-value}
 use Rattle.verdict.proofs.WorkLemmas.{there_and}
 
@@ -31,10 +30,10 @@ module _ (net : Parts) (care : CareSet) where
   IsKnown x = (b : Bool) → IsMadeOf net care (λ v. is_bit b (x v))
 
   known-same : (x y : List Bool → Trit) → ((v : List Bool) → y v ≡ x v) → IsKnown x → IsKnown y
-  known-same x y same known b = let m = known b in record { of = m.of; listed = m.listed; by = m.by; same = λ v long. ap (is_bit b) (same v) ∙ m.same v long }
+  known-same x y same known b = made-same (λ v long. ap (is_bit b) (same v)) (known b)
 
   unknown : (x : List Bool → Trit) → ((v : List Bool) → x v ≡ X) → IsKnown x
-  unknown x is b = record { of = is_care_vector net care; listed = SaysCare (λ v. refl); by = λ t. is_bit b X; same = λ v long. ap (is_bit b) (is v) }
+  unknown x is b = made-constant (is_bit b X) (λ v. ap (is_bit b) (is v))
 
   module _ (valid : IsNetlist net) (model : CareModel) (there : care.invariant ≡ Some model) where
     -- what the model reads
@@ -97,17 +96,9 @@ module _ (net : Parts) (care : CareSet) where
     one-bit Zero = refl
     one-bit X = refl
 
-    reads-bits : (q v : List Bool) → HasValues q model → next net (bits v) ≡ bits q → reads v ≡ bits (inputs_at model q)
-    reads-bits q v has same =
-        map_agree (λ column. get_or (next net (bits v)) (column - model.first) X) (λ column. bit (get_or q (column - model.first) false)) model.columns
-        (λ k d less.
-        ap (λ (ts : List Trit). get_or ts (get_or model.columns k d - model.first) X) same
-        ∙ get_or-map bit q (get_or model.columns k d - model.first) false X (has.each k d less))
-        ∙ sym (map-map {C = Trit} bit (λ column. get_or q (column - model.first) false) model.columns)
-
     holds-is : (q v : List Bool) → HasValues q model → next net (bits v) ≡ bits q → holds_at model q ≡ is_bit true (get_or (outs model.net (reads v)) 0 X)
     holds-is q v has same =
-        ap (λ (ts : List Trit). is_one (get_or (outs model.net ts) 0 X)) (sym (reads-bits q v has same))
+        ap (λ (ts : List Trit). is_one (get_or (outs model.net ts) 0 X)) (sym (ap (read_by model) same ∙ read-bits model q has))
         ∙ one-bit (get_or (outs model.net (reads v)) 0 X)
 
 -- ---- care vectors whose next state is not in the invariant
@@ -124,7 +115,7 @@ next-inside net care valid bound loads = by care.invariant refl
     by : (o : Option CareModel) → care.invariant ≡ o → IsNextInside net care
     by None none = record {
       of = λ v. true;
-      made = record { of = is_care_vector net care; listed = SaysCare (λ v. refl); by = λ t. true; same = λ v long. refl };
+      made = made-constant true (λ v. refl);
       same = λ v long counts. ap (λ p. option_map_or (λ model. holds_at model (next_state net v)) p true) none;
     }
     by (Some model) there = record {

@@ -1,6 +1,6 @@
 -- Gates that are unknown on care where no observed one is, and the sweeps of loops where there are some.
-use Rattle.std.proofs.Common.{◌≡◌, ◌≢◌, inl, inr, ℕ, ◌+◌, ◌<◌, Bool, true, false, not, ◌↔◌, List, [], ◌∷◌, ◌++◌, length, Option, Some, None, refl, sym, ap, ap₂, ◌∙◌, subst, arith, Contains, true≢false}
-use Rattle.verdict.proofs.Common.{find, is_none, is_some, option_or, and_from, cases_lt, get_or_default, get_or_past, length_push, X, bits, vectors, Parts, IsNetlist, gate_sig, fix_gates, Blocks, Cut, AreBlocksOf, block_at, home_of, IsCutOf, loops_by, value_in, home_gate, is_marked, ListsMarked, unsettled_loops_decide, CareSet, columns, is_care_vector, IsCareVector, Observe, Refusal, is_undetermined, is_x, leaves_refusal, refusal, none_passes, gate_wire, care_vector_is, AreFedKnown, IsLeastCount, is_unknown_at, SettleInOneSweep, AreLoopCounts, AreScattered, AreUnknownMarks, MayGoOn, are_care_values}
+use Rattle.std.proofs.Common.{◌≡◌, ◌≢◌, inl, inr, ℕ, ◌<◌, Bool, true, false, not, ◌↔◌, List, length, Option, Some, None, refl, sym, ap, ◌∙◌, subst, arith, Contains, true≢false}
+use Rattle.verdict.proofs.Common.{find, is_none, is_some, and_from, cases_lt, get_or_default, get_or_past, X, bits, vectors, Parts, IsNetlist, gate_sig, fix_gates, Blocks, Cut, AreBlocksOf, block_at, home_of, IsCutOf, loops_by, value_in, home_gate, is_marked, ListsMarked, unsettled_loops_decide, CareSet, columns, is_care_vector, IsCareVector, is_undetermined, is_x, none_passes, gate_wire, care_vector_is, AreFedKnown, IsLeastCount, is_unknown_at, SettleInOneSweep, AreLoopCounts, AreScattered, AreUnknownMarks, are_care_values}
 use Rattle.loops.specs.declared.structure.SweepCounts.{SweepCounts}
 use Rattle.loops.proofs.Told.{blocks_tell_loops}
 use Rattle.isolation.proofs.CountLemmas.{one_sweep_is_exact}
@@ -8,13 +8,12 @@ use Rattle.refusals.specs.Acceptance.{SomeCareVector}
 use Rattle.clause_decision.specs.Tests.{is_unknown, TellEachUnknown}
 use Rattle.verdict.specs.Fanout.{AreReached}
 use Rattle.clause_decision.specs.Scopes.{AreKnownOnCare}
-use Rattle.verdict.specs.Loose.{AreCandidates, AreKnownAround, AreWithout, IsLooseNumber, IsLoopCount}
-use Rattle.verdict.specs.Verdicts.{AreSweepsOnCare, IsAcceptance}
+use Rattle.verdict.specs.Loose.{AreCandidates, AreKnownAround, AreWithout, IsLoopCount}
+use Rattle.verdict.specs.Verdicts.{AreSweepsOnCare}
 use Rattle.verdict.proofs.CountLemmas.{care-values}
-use Rattle.verdict.proofs.DeterminationLemmas.{determined-around, each-more, least-count}
+use Rattle.verdict.proofs.DeterminationLemmas.{determined-around, least-count}
 use Rattle.verdict.proofs.PartLemmas.{IsKnownOnCare, known-here}
 use Rattle.verdict.proofs.CandidateLemmas.{none-some}
-use Rattle.verdict.proofs.VerdictLemmas.{accepts-is, refused-on-care}
 
 -- what a test says that isn't so
 pub says-not : {P : Type 0} (b : Bool) → ((b ≡ true) ↔ P) → not b ≡ true → ¬ P
@@ -73,22 +72,22 @@ module _ (net : Parts) (care : CareSet) (marks : List Bool) (are : AreUnknownMar
 
   -- ---- loops around which all is known on care
 
-  pub fed-known : (gates : List ℕ) (others : List Bool) → AreWithout gates marks others → ¬ AreReached net gates others → AreFedKnown net care gates
-  fed-known gates others without apart v counts m n feeds inside outside = by (is_marked marks m) refl
+  known-unless : (n : ℕ) → n < length net.gates → (is_marked marks n ≡ true → ⊥) → (v : List Bool) → IsCareVector net care v → value_in (fix_gates net (bits v)) n ≢ X
+  known-unless n less isnt = by (is_marked marks n) refl
     where
-      by : (b : Bool) → is_marked marks m ≡ b → value_in (fix_gates net (bits v)) m ≢ X
-      by true is = absurd (apart (record { gate = n; among = inside; mark = inr (record { gate = m; feeds = feeds; marked = without.kept m outside ∙ is }) }))
-      by false is = unmarked-value m feeds.source is v counts
+      by : (b : Bool) → is_marked marks n ≡ b → (v : List Bool) → IsCareVector net care v → value_in (fix_gates net (bits v)) n ≢ X
+      by true is = absurd (isnt is)
+      by false is = unmarked-value n less is
+
+  pub fed-known : (gates : List ℕ) (others : List Bool) → AreWithout gates marks others → ¬ AreReached net gates others → AreFedKnown net care gates
+  fed-known gates others without apart v counts m n feeds inside outside =
+      known-unless m feeds.source (λ is. apart (record { gate = n; among = inside; mark = inr (record { gate = m; feeds = feeds; marked = without.kept m outside ∙ is }) })) v counts
 
   pub unreached-known : (gates : List ℕ) → ((n : ℕ) → Contains gates n → n < length net.gates) → ¬ AreReached net gates marks → AreKnownAround net care gates
   unreached-known gates within apart = record {
-    own = λ v counts n among. by n (within n among) v counts (λ is. apart (record { gate = n; among = among; mark = inl is })) (is_marked marks n) refl;
-    feeding = λ v counts m n among feeds. by m feeds.source v counts (λ is. apart (record { gate = n; among = among; mark = inr (record { gate = m; feeds = feeds; marked = is }) })) (is_marked marks m) refl;
+    own = λ v counts n among. known-unless n (within n among) (λ is. apart (record { gate = n; among = among; mark = inl is })) v counts;
+    feeding = λ v counts m n among feeds. known-unless m feeds.source (λ is. apart (record { gate = n; among = among; mark = inr (record { gate = m; feeds = feeds; marked = is }) })) v counts;
   }
-    where
-      by : (n : ℕ) → n < length net.gates → (v : List Bool) → IsCareVector net care v → (is_marked marks n ≡ true → ⊥) → (b : Bool) → is_marked marks n ≡ b → value_in (fix_gates net (bits v)) n ≢ X
-      by n less v counts isnt true is = absurd (isnt is)
-      by n less v counts isnt false is = unmarked-value n less is v counts
 
 -- where no gate at all is unknown
 pub all-known : (net : Parts) (care : CareSet) (gates : List ℕ) → AreKnownOnCare net care → ((n : ℕ) → Contains gates n → n < length net.gates) → AreKnownAround net care gates
@@ -101,7 +100,7 @@ module _ (net : Parts) (valid : IsNetlist net) (blocks : Blocks) (are : AreBlock
   one-sweep some settled soon place within looped marked known = record {
     loops = λ loop gate.
         one_sweep_is_exact net blocks (loops_by blocks cut) valid are (blocks_tell_loops net blocks cut are cut_is) place within looped (soon place within looped marked)
-        (are_care_values net care) (determined-around net care (block_at blocks place).gates known.own known.feeding)
+        (are_care_values net care) (determined-around net care (block_at blocks place).gates known)
         (bits some.vector) (care-values net care some.vector some.counts.width (care_vector_is net care some.vector some.counts)) gate;
     others = λ plain. absurd (true≢false (sym looped ∙ plain));
   }
@@ -116,14 +115,6 @@ module _ (net : Parts) (valid : IsNetlist net) (blocks : Blocks) (are : AreBlock
 
 -- ---- the sweeps of all loops
 
--- one place more is counted
-pub loop-counts-more : (net : Parts) (blocks : Blocks) (cut : Cut) (care : CareSet) (n count : ℕ) (counts : List ℕ) → AreLoopCounts net blocks cut care n counts → IsLoopCount net blocks cut care n count →
-    AreLoopCounts net blocks cut care (n + 1) (counts ++ count ∷ [])
-loop-counts-more net blocks cut care n count counts before is = record {
-  width = length_push counts count ∙ ap (λ m. m + 1) before.width;
-  each = each-more (IsLoopCount net blocks cut care) 0 count n counts before.width before.each is;
-}
-
 -- all of them
 pub loop-counts-all : (net : Parts) (blocks : Blocks) → AreBlocksOf net blocks → (cut : Cut) (care : CareSet) (n : ℕ) (counts : SweepCounts) → n ≡ length blocks.list → AreLoopCounts net blocks cut care n counts.per_block →
     AreSweepsOnCare net blocks cut care counts
@@ -136,17 +127,3 @@ loop-counts-all net blocks are cut care n counts all at = record {
     | inr past ↦ get_or_past counts.per_block b 0 (let w = at.width in omega (arith, past, w))
   ];
 }
-
--- ---- the verdict
-
-pub determined-accepts : (net : Parts) (blocks : Blocks) (cut : Cut) (care : CareSet) (what : Observe) (counts : SweepCounts) (loose : ℕ) → IsNetlist net → MayGoOn net care → IsLooseNumber net care what loose →
-    AreSweepsOnCare net blocks cut care counts → leaves_refusal net care ≡ None → IsAcceptance net blocks cut care what counts loose
-determined-accepts net blocks cut care what counts loose valid begins is sweeps stays = record {
-  accepts = accepts-is net care what valid (refused-on-care net care what None begins.initial begins.some (ap₂ option_or is.none stays));
-  sweeps = sweeps;
-  loose_is = is.number;
-}
-
--- a next state that leaves the invariant refuses the netlist
-pub leaving-refuses : (net : Parts) (care : CareSet) (what : Observe) (loose : ℕ) (r : Refusal) → MayGoOn net care → IsLooseNumber net care what loose → leaves_refusal net care ≡ Some r → refusal net care what ≡ Some r
-leaving-refuses net care what loose r begins is leaves = refused-on-care net care what (Some r) begins.initial begins.some (ap₂ option_or is.none leaves)

@@ -1,6 +1,6 @@
 -- What the least vectors of sets say of the parts of acceptance.
 use Rattle.std.proofs.Common.{◌≡◌, ◌≢◌, inl, inr, ℕ, zero, suc, ◌+◌, ◌<◌, ◌≤◌, Bool, true, false, not, ◌&&◌, cond, List, [], ◌∷◌, length, map, take, drop, get_or, Option, Some, None, refl, sym, ap, ap₂, ◌∙◌, subst, arith, Err, Ok, Result, replicate, IfOk, add-one}
-use Rattle.verdict.proofs.Common.{find, is_none, option_or, option_map, cases_lt, take_all, Node, Arena, den, IsNodeOf, KeepsNodes, nodes, nodes-alike, Sig, X, bits, Rails, trit_of, value_of, Parts, gate_sig, next, fix_gates, IsLayout, by_variable, laid, order, order-is, CareModel, IsCareOf, CareSet, columns, state_of, is_in_invariant, is_care_vector, IsCareVector, Initial, Undetermined, Leaves, Observe, gate_sigs, observed, is_x, is_undetermined, care_vectors, next_state, leaves, initial_refusal, undetermined_refusal, leaves_refusal, vectors, care_vector_decides, gate_wire, AreMarksOf, Tells, AreFixed, starts, has_state_inside, difference, ReadsWithin, AreLoose, is_unknown_at, value_in}
+use Rattle.verdict.proofs.Common.{find, is_none, option_or, option_map, cases_lt, take_all, Node, Arena, den, IsNodeOf, KeepsNodes, nodes, nodes-alike, Sig, X, bits, Rails, trit_of, value_of, Parts, gate_sig, next, fix_gates, IsLayout, by_variable, laid, order, order-is, CareModel, IsCareOf, CareSet, columns, state_of, is_in_invariant, is_care_vector, IsCareVector, Initial, Undetermined, Leaves, Observe, gate_sigs, observed, is_x, is_undetermined, care_vectors, next_state, leaves, initial_refusal, undetermined_refusal, leaves_refusal, vectors, care_vector_decides, gate_wire, Tells, AreFixed, starts, has_state_inside, difference, ReadsWithin, AreLoose, is_unknown_at, value_in}
 use Rattle.std.specs.Prelude.{filter, IfSome}
 use Rattle.std.specs.Option.{option_and_then}
 use Rattle.std.proofs.lemmas.List.Filters.{length-filter_more}
@@ -18,6 +18,7 @@ use Rattle.refusals.proofs.FirstLemmas.{find-filter, any-find}
 use Rattle.refusals.proofs.RefusalLemmas.{length-gate_sigs, gate_sig_at, known-is_x, fails_after, find_none-all, no_first, next_state_is}
 use Rattle.refusals.proofs.LawLemmas.{care_test, observed_test, is_loose}
 use Rattle.clause_decision.specs.Loads.{LoadsAreKnown}
+use Rattle.verdict.specs.Unknown.{IsFirstToRefuse}
 
 -- ---- sets
 
@@ -139,45 +140,38 @@ known-loose net care k known = some-unknown net care (gate_sig net k) ∙ ap (λ
 abbrev pub AreKnownBelow : Parts → CareSet → List Bool → ℕ → Type 0
 AreKnownBelow net care marks n = (k : ℕ) → k < n → get_or marks k false ≡ true → IsKnownOnCare net care k
 
-module _ (net : Parts) (care : CareSet) (what : Observe) (marks : List Bool) (marked : AreMarksOf net (observed net what) marks) where
-  -- a gate that is known where it is marked
-  passes-not : (k : ℕ) → k < length net.gates → (get_or marks k false ≡ true → IsKnownOnCare net care k) →
-      (is_among (observed net what) (gate_sig net k) && is_loose net care (gate_sig net k)) ≡ false
-  passes-not k inside known =
-      fails_after (is_among (observed net what) (gate_sig net k)) (is_loose net care (gate_sig net k))
-      (λ seen. known-loose net care k (known (marked.each k inside ∙ seen)))
+module _ (net : Parts) (care : CareSet) (what : Observe) where
+  abbrev seen_loose : Sig → Bool
+  seen_loose s = is_among (observed net what) s && is_loose net care s
+
+  -- a gate that is known where it is observed
+  passes-not : (k : ℕ) (d : Sig) → k < length net.gates → (is_among (observed net what) (gate_sig net k) ≡ true → IsKnownOnCare net care k) → seen_loose (get_or (gate_sigs net) k d) ≡ false
+  passes-not k d inside known =
+      ap seen_loose (gate_sig_at net k d inside) ∙ fails_after (is_among (observed net what) (gate_sig net k)) (is_loose net care (gate_sig net k)) (λ seen. known-loose net care k (known seen))
 
   -- the first gate that is unknown and observed
-  pub undetermined-found : (k : ℕ) (v : List Bool) → k < length net.gates → AreKnownBelow net care marks k → get_or marks k false ≡ true →
-      find (is_unknown_at net care k) (vectors (columns net)) ≡ Some v →
+  pub undetermined-found : (k : ℕ) (v : List Bool) → k < length net.gates → IsFirstToRefuse net care what k → find (is_unknown_at net care k) (vectors (columns net)) ≡ Some v →
       undetermined_refusal net care what ≡ Some (Undetermined v (gate_sig net k))
-  undetermined-found k v inside before mark found =
+  undetermined-found k v inside is found =
       let none : Sig = gate_sig net k in
-      let long = length-gate_sigs net in
-      let test : Sig → Bool = λ s. is_among (observed net what) s && is_loose net care s in
       let here : get_or (gate_sigs net) k none ≡ gate_sig net k = gate_sig_at net k none inside in
-      let passes : test (gate_sig net k) ≡ true =
-      ap₂ (λ x y. x && y) (sym (marked.each k inside) ∙ mark) (some-unknown net care (gate_sig net k) ∙ ap (λ o. not (is_none o)) found) in
+      let passes : seen_loose (gate_sig net k) ≡ true = ap₂ (λ x y. x && y) is.seen (some-unknown net care (gate_sig net k) ∙ ap (λ o. not (is_none o)) found) in
       let first : find (is_loose net care) (observed_gates net what) ≡ Some (gate_sig net k) =
       observed_test net what (is_loose net care)
-      ∙ first-place test (gate_sigs net) k none (omega (arith, long, inside)) (ap test here ∙ passes)
-      (λ j less. ap test (gate_sig_at net j none (omega (arith, less, inside))) ∙ passes-not j (omega (arith, less, inside)) (before j less))
+      ∙ first-place seen_loose (gate_sigs net) k none (omega (arith, length-gate_sigs net, inside)) (ap seen_loose here ∙ passes) (λ j less. passes-not j none (omega (arith, less, inside)) (is.before j less))
       ∙ ap (λ s. Some s) here in
       ap (option_map (λ (u : Sig × List Bool). Undetermined u.1 u.0)) (
       ap (option_and_then (λ (s : Sig). option_map (λ (w : List Bool). let p : Sig × List Bool = (s, w) in p) (find (is_undetermined net s) (care_vectors net care)))) first
       ∙ ap (option_map (λ (w : List Bool). let p : Sig × List Bool = (gate_sig net k, w) in p)) (care_test net care (is_undetermined net (gate_sig net k)) ∙ found))
 
   -- or none is
-  pub undetermined-none : (n : ℕ) → length net.gates ≤ n → AreKnownBelow net care marks n → undetermined_refusal net care what ≡ None
-  undetermined-none n all before =
-      let long = length-gate_sigs net in
-      let test : Sig → Bool = λ s. is_among (observed net what) s && is_loose net care s in
+  pub undetermined-none : ((k : ℕ) → k < length net.gates → is_among (observed net what) (gate_sig net k) ≡ true → IsKnownOnCare net care k) → undetermined_refusal net care what ≡ None
+  undetermined-none known =
       ap (option_map (λ (u : Sig × List Bool). Undetermined u.1 u.0)) (no_first (is_undetermined net) (observed_gates net what) (care_vectors net care)
       (observed_test net what (is_loose net care)
-      ∙ find_none-all test (gate_sigs net)
-      (λ k d inside.
-      let gate : k < length net.gates = omega (arith, inside, long) in
-      ap test (gate_sig_at net k d gate) ∙ passes-not k gate (before k (omega (arith, gate, all))))))
+      ∙ find_none-all seen_loose (gate_sigs net) (λ k d inside.
+      let gate : k < length net.gates = omega (arith, inside, length-gate_sigs net) in
+      passes-not k d gate (known k gate))))
 
 -- one gate more, which is known or not marked
 pub known-more : (net : Parts) (care : CareSet) (marks : List Bool) (n : ℕ) → AreKnownBelow net care marks n → (get_or marks n false ≡ true → IsKnownOnCare net care n) →

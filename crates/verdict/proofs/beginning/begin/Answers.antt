@@ -1,6 +1,6 @@
 use Rattle.std.proofs.Common.{◌≡◌, ◌∙◌, ◌+◌, ◌*◌, true, false, None, sym, arith}
 use Rattle.verdict.proofs.PartLemmas.{Tells-kept}
-use Rattle.verdict.proofs.Common.{KeepsNodes, within_only, within_one, within_moved, within_more, within_answered, within_refused, columns, initial_refusal, invariant_effort, start_cost, GrowsInDecision, AreColumns-kept}
+use Rattle.verdict.proofs.Common.{KeepsNodes, within_only, within_one, within_moved, within_more, within_answered, within_refused, columns, initial_refusal, invariant_effort, GrowsInDecision, AreColumns-kept}
 use Rattle.bdd_store.proofs.GrowthLemmas.{KeepsNodes-chain}
 use Rattle.verdict.proofs.DecisionLemmas.{decision-then, starts-fit, outside-fits}
 use Rattle.verdict.proofs.VerdictLemmas.{refused-empty, empty-is}
@@ -65,10 +65,6 @@ after-refusal c before =
     let inside = Tells-kept c.starts_on.ensures.grows.keeps c.in_ok-inside.ensures.told in
     decision-then before (within_only (within_one (λ w wide. outside-fits c.starts_on.new.d c.in_ok-permitted.permitted c.in_ok-inside.inside (before.keeps.vars ∙ c.requires.vars) permitted inside wide) c.initial_refusal.ensures.grows))
 
-after-set : (c : After-care_on) → GrowsInDecision c.initial_refusal.result c.args.d.now c.initial_refusal.new.d c.args.question.now.net c.args.question.now.care (2 * invariant_effort c.args.question.now.care + columns c.args.question.now.net + 1) →
-    GrowsInDecision c.care_on.result c.args.d.now c.care_on.new.d c.args.question.now.net c.args.question.now.care (start_cost c.args.question.now.net c.args.question.now.care)
-after-set c before = decision-then before c.care_on.ensures.grows
-
 pub returns-in_err-inside-clause-grows : goal.returns-in_err-inside-clause-grows
 returns-in_err-inside-clause-grows c = within_more (omega arith) (within_refused c.in_err-inside.was c.from_residual.ensures.1 c.inside_on.ensures.grows)
 
@@ -89,14 +85,14 @@ returns-in-Some-clause-grows g =
 pub returns-in_err-set-clause-grows : goal.returns-in_err-set-clause-grows
 returns-in_err-set-clause-grows g =
     let at = goal.at.returns-in_err-set-clause-grows g in
-    within_refused g.in_err-set.was g.from_residual-in_err-set.ensures.1 (after-set at.After-care_on (after-refusal at.After-initial_refusal (after-starts at.After-starts_on)))
+    within_refused g.in_err-set.was g.from_residual-in_err-set.ensures.1 (decision-then (after-refusal at.After-initial_refusal (after-starts at.After-starts_on)) g.care_on.ensures.grows)
 
 pub returns-then-is_never-clause-grows : goal.returns-then-is_never-clause-grows
 returns-then-is_never-clause-grows g =
     let at = goal.at.returns-then-is_never-clause-grows g in
-    within_answered (after-set at.After-care_on (after-refusal at.After-initial_refusal (after-starts at.After-starts_on)))
+    within_answered (decision-then (after-refusal at.After-initial_refusal (after-starts at.After-starts_on)) g.care_on.ensures.grows)
 
 pub returns-clause-grows : goal.returns-clause-grows
 returns-clause-grows g =
     let at = goal.at.returns-clause-grows g in
-    within_answered (after-set at.After-care_on (after-refusal at.After-initial_refusal (after-starts at.After-starts_on)))
+    within_answered (decision-then (after-refusal at.After-initial_refusal (after-starts at.After-starts_on)) g.care_on.ensures.grows)

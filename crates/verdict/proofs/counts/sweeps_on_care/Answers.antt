@@ -1,12 +1,18 @@
-use Rattle.std.proofs.Common.{List, Bool, length, ap, arith}
-use Rattle.verdict.proofs.LooseLemmas.{loop-counts-all, loop-counts-more}
+use Rattle.std.proofs.Common.{List, Bool, length, ap, arith, ◌+◌, ◌∙◌}
+use Rattle.verdict.specs.Loose.{IsLoopCount}
+use Rattle.verdict.proofs.Common.{length_push}
+use Rattle.verdict.proofs.DeterminationLemmas.{each-more}
+use Rattle.verdict.proofs.LooseLemmas.{loop-counts-all}
 use Rattle.verdict.proofs.counts.sweeps_on_care.Goals as goal
 
 pub loop-place-preserved : goal.loop-place-preserved
 loop-place-preserved c =
     let s = c.args.search.now in
-    rw c.in_ok-push.ensures.items
-    (loop-counts-more s.net s.blocks s.cut s.care c.loop-place.place c.in-Some.count c.loop-place.counts.items c.loop-place.invariant (rw c.in-Some.is at c.in_ok-count.ensures))
+    let before = c.loop-place.invariant in
+    rw c.in_ok-push.ensures.items (record {
+      width = length_push c.loop-place.counts.items c.in-Some.count ∙ ap (λ n. n + 1) before.width;
+      each = each-more (IsLoopCount s.net s.blocks s.cut s.care) 0 c.in-Some.count c.loop-place.place c.loop-place.counts.items before.width before.each (rw c.in-Some.is at c.in_ok-count.ensures);
+    })
 
 pub returns : goal.returns
 returns c =

@@ -1,11 +1,10 @@
 use Rattle.std.proofs.Common.{◌≡◌, ◌∙◌, Option, None, sym, ap, ap₂, arith}
-use Rattle.verdict.proofs.Common.{option_or, within_more, within_answered, within_refused, Refusal, undetermined_refusal, leaves_refusal, GrowsInDecision, AreLoose}
+use Rattle.verdict.proofs.Common.{option_or, within_more, within_answered, within_refused, Refusal, undetermined_refusal, leaves_refusal, AreLoose}
 use Rattle.refusals.proofs.LawLemmas.{sources_determined}
-use Rattle.verdict.specs.Costs.{care_cost}
 use Rattle.verdict.proofs.DecisionLemmas.{decision-then}
 use Rattle.verdict.proofs.PartLemmas.{AreFixed-kept}
 use Rattle.verdict.proofs.diagrams.verdict_on_care.Goals as goal
-use Rattle.verdict.proofs.diagrams.verdict_on_care.Goals.{After-leaves, In-Determined}
+use Rattle.verdict.proofs.diagrams.verdict_on_care.Goals.{In-Determined}
 
 pub leaves-requires-clause-fixed : goal.leaves-requires-clause-fixed
 leaves-requires-clause-fixed c = AreFixed-kept c.verdict_of_gates.ensures.grows.keeps c.requires.fixed
@@ -35,9 +34,6 @@ leaves-requires-clause-loads g v counts =
 
 -- ---- what it does to the diagrams
 
-both : (c : After-leaves) → GrowsInDecision c.leaves.result c.args.d.now c.leaves.new.d c.args.question.now.net c.args.question.now.care (care_cost c.args.question.now.net c.args.question.now.care)
-both c = decision-then c.verdict_of_gates.ensures.grows c.leaves.ensures.grows
-
 pub returns-in_err-gates-clause-grows : goal.returns-in_err-gates-clause-grows
 returns-in_err-gates-clause-grows g = within_more (omega arith) (within_refused g.in_err-gates.was g.from_residual.ensures.1 g.verdict_of_gates.ensures.grows)
 
@@ -45,10 +41,10 @@ pub returns-in-Refused-clause-grows : goal.returns-in-Refused-clause-grows
 returns-in-Refused-clause-grows g = within_more (omega arith) (within_answered g.verdict_of_gates.ensures.grows)
 
 pub returns-in_err-left-clause-grows : goal.returns-in_err-left-clause-grows
-returns-in_err-left-clause-grows g = within_refused g.in_err-left.was g.from_residual-in_err-left.ensures.1 (both (goal.at.returns-in_err-left-clause-grows g).After-leaves)
+returns-in_err-left-clause-grows g = within_refused g.in_err-left.was g.from_residual-in_err-left.ensures.1 (decision-then g.verdict_of_gates.ensures.grows g.leaves.ensures.grows)
 
 pub returns-in-Some-clause-grows : goal.returns-in-Some-clause-grows
-returns-in-Some-clause-grows g = within_answered (both (goal.at.returns-in-Some-clause-grows g).After-leaves)
+returns-in-Some-clause-grows g = within_answered (decision-then g.verdict_of_gates.ensures.grows g.leaves.ensures.grows)
 
 pub returns-in-None-clause-grows : goal.returns-in-None-clause-grows
-returns-in-None-clause-grows g = within_answered (both (goal.at.returns-in-None-clause-grows g).After-leaves)
+returns-in-None-clause-grows g = within_answered (decision-then g.verdict_of_gates.ensures.grows g.leaves.ensures.grows)

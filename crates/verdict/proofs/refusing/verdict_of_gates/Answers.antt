@@ -56,8 +56,10 @@ returns-in-Some-clause-gates c =
     let marked = rw (c.net-net.ensures.net, c.observe.ensures) at c.in_ok-observed.ensures.marks in
     let inside = gate-inside (goal.at.returns-in-Some-clause-gates c).After-gate_unknown in
     let width = marked.width in
-    undetermined-found q.net q.care q.what marks marked gate c.in-Some.vector.items inside c.loop-gate.invariant.known
-    (get_or_default marks gate false c.index.result.now (omega (arith, inside, width)) ∙ sym c.index.ensures ∙ c.if-index.true)
+    undetermined-found q.net q.care q.what gate c.in-Some.vector.items inside (record {
+      seen = sym (marked.each gate inside) ∙ get_or_default marks gate false c.index.result.now (omega (arith, inside, width)) ∙ sym c.index.ensures ∙ c.if-index.true;
+      before = λ k less seen. c.loop-gate.invariant.known k less (marked.each k (omega (arith, less, inside)) ∙ seen);
+    })
     (sym (rw c.in-Some.is at (c.in_ok-vector.ensures _ c.in_ok-unknown.ensures.told)))
     ∙ sym (ap₂ (λ (v : List Bool) (s : Sig). Some (Undetermined v s)) c.of.ensures (rw c.net-net.ensures.net at c.gate_sig.ensures.sig))
 
@@ -111,6 +113,6 @@ returns-clause-gates c =
     let gates = rw c.net-net.ensures.net at c.gates-gate-end.ensures.gates in
     let marked = rw (c.net-net.ensures.net, c.observe.ensures) at c.in_ok-observed.ensures.marks in
     let all : length q.net.gates ≤ c.loop-gate.gate = omega (arith, c.loop-gate-test.false, gates) in (
-      undetermined-none q.net q.care q.what c.in_ok-observed.observed.items marked c.loop-gate.gate all c.loop-gate.invariant.known,
+      undetermined-none q.net q.care q.what (λ k less seen. c.loop-gate.invariant.known k (omega (arith, less, all)) (marked.each k less ∙ seen)),
       loose-all q.net q.care c.loop-gate.gate c.loop-gate.loose all c.loop-gate.invariant.loose,
     )
