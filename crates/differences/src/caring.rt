@@ -37,5 +37,5 @@ pub(crate) fn care_on(
     let latches = &rails[first as usize..];
     let inside = invariant_on(alloc, d, care, first, latches)?;
     let allowed = assume_on(alloc, d, care, rails)?;
-    Ok(d.and(inside, allowed)?)
+    d.and(inside, allowed)
 }
