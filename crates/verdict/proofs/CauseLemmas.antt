@@ -1,9 +1,9 @@
 -- Why a decision finds the diagrams full.
 use Rattle.std.proofs.Common.{◌≡◌, inl, inr, ◌≤◌, ℕ, Err, Result, length, subst, ◌∙◌, arith}
-use Rattle.verdict.proofs.Common.{StoreFault, Arena, AddsWithin, adds_more, IsWide, Parts, CareSet, columns, decision_cost, IsLaid, IsFullFor}
+use Rattle.verdict.proofs.Common.{StoreFault, Arena, AddsWithin, adds_more, IsWide, Parts, CareSet, columns, decision_cost, IsLaid, IsFullFor, HasCoverOver}
 use Rattle.bdd_store.specs.declared.fault.StoreFault.TheVariants.{Full}
 use Rattle.dual_rail.proofs.WidthLemmas.{IsWide-some}
-use Rattle.verdict.specs.Causes.{HasCoverOver, IsStoreFor, IsOutOfNodes}
+use Rattle.verdict.specs.Causes.{IsStoreFor, IsOutOfNodes}
 use Rattle.verdict.specs.Enough.{IsBelowEnough}
 use Rattle.verdict.proofs.EnoughLemmas.{costs-enough, over-cover}
 

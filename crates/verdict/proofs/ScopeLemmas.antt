@@ -1,7 +1,6 @@
 -- Which gates the clauses of a question speak of.
 use Rattle.std.proofs.Common.{◌≡◌, inl, inr, ℕ, ◌+◌, ◌-◌, ◌<◌, Bool, true, false, not, List, [], length, map, get_or, slice_get, Option, Some, subst, refl, sym, ap, ◌∙◌, arith, true≢false, Contains}
-use Rattle.std.specs.List.{All}
-use Rattle.verdict.proofs.Common.{option_map_or, cases_lt, get_or_from_slice_get, Sig, get_or-map, get_or_default, Parts, Latch, gate_sig, IsNetlist, Blocks, AreBlocksOf, is_marked, unsettled_loops_decide, CareModel, CareSet, SettleInOneSweep, AreDriversBefore}
+use Rattle.verdict.proofs.Common.{option_map_or, cases_lt, get_or_from_slice_get, Sig, get_or-map, get_or_default, Parts, Latch, gate_sig, IsNetlist, Blocks, AreBlocksOf, is_marked, unsettled_loops_decide, CareModel, CareSet, SettleInOneSweep, AreDriversBefore, All, AreCandidates}
 use Rattle.std.proofs.lemmas.Bool.{not-true}
 use Rattle.loops.proofs.Walks.{leads-step}
 use Rattle.isolation.specs.Cones.{IsConeOf}
@@ -9,7 +8,6 @@ use Rattle.isolation.proofs.UpstreamLemmas.{upstream-trans}
 use Rattle.clause_decision.specs.declared.scope.Scope.{Scope}
 use Rattle.clause_decision.specs.Loads.{HasLoads}
 use Rattle.clause_decision.specs.Scopes.{AreClosed, AreInScope, AreNeverUnknown}
-use Rattle.verdict.specs.Loose.{AreCandidates}
 use Rattle.verdict.specs.Scopes.{AreDrivers}
 use Rattle.verdict.proofs.CareLemmas.{model_is}
 use Rattle.verdict.proofs.WorkLemmas.{there_each}

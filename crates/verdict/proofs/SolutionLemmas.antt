@@ -1,8 +1,7 @@
 -- The functions that the fixpoint and the comparison of its sweeps work with are made of those of the decision.
 use Rattle.std.proofs.Common.{◌≡◌, inl, inr, ℕ, Bool, List, refl, sym, ap, ◌∙◌, subst}
-use Rattle.verdict.proofs.Common.{Node, Arena, den, IsWide, Parts, Blocks, Cut, AreBlocksOf, IsCutOf, Loops, Vectors, IsWorking, CareSet, columns, is_care_vector, IsLaid, SaysCare, Tells, laid, AreColumnVectors}
+use Rattle.verdict.proofs.Common.{Node, Arena, den, IsWide, Parts, Blocks, Cut, AreBlocksOf, IsCutOf, Loops, Vectors, IsWorking, CareSet, columns, is_care_vector, IsLaid, SaysCare, Tells, laid, AreColumnVectors, All}
 use Rattle.std.proofs.lemmas.List.Elements.{All-contains}
-use Rattle.std.specs.List.{All}
 use Rattle.dual_rail.proofs.WidthLemmas.{IsWide-fewer}
 use Rattle.loops.specs.Found.{loops_of}
 use Rattle.fixpoint.specs.declared.solved.SweptLoop.{SweptLoop}

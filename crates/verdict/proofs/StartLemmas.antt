@@ -1,11 +1,10 @@
 -- The states that the inits permit, latch by latch.
-use Rattle.std.proofs.Common.{◌≡◌, inl, inr, ℕ, zero, suc, ◌+◌, ◌-◌, ◌<◌, ◌≤◌, Bool, true, false, ◌&&◌, List, [], ◌∷◌, ◌++◌, length, map, replicate, take, drop, get_or, slice_get, Some, refl, sym, ap, ap₂, ◌∙◌, arith}
-use Rattle.verdict.proofs.Common.{list_all, cases_lt, get_or-map, get_or-replicate, get_or_append_left, get_or_default, get_or_from_slice_get, length-drop, length-map, Node, Arena, den, IsNodeOf, nodes, nodes-alike, by_variable, conjunction, Trit, X, bit, Rails, value_of, values_of, Latch, Parts, rails_at, columns, state_of, AreColumns, laid, order, order-is, BoundsStarts, Tells, starts}
+use Rattle.std.proofs.Common.{◌≡◌, inl, inr, ℕ, zero, suc, ◌+◌, ◌-◌, ◌<◌, ◌≤◌, Bool, true, false, ◌&&◌, List, [], ◌∷◌, ◌++◌, length, map, replicate, take, drop, get_or, refl, sym, ap, ap₂, ◌∙◌, arith}
+use Rattle.verdict.proofs.Common.{list_all, cases_lt, get_or-map, get_or-replicate, get_or_append_left, get_or_default, length-drop, length-map, Node, Arena, den, IsNodeOf, nodes, nodes-alike, by_variable, conjunction, Trit, X, bit, Rails, value_of, values_of, Latch, Parts, rails_at, columns, state_of, AreColumns, laid, order, order-is, BoundsStarts, starts, length-replicate}
 use Rattle.std.specs.List.{AllPass, zip}
 use Rattle.std.proofs.Math.Seq.{drop-nil}
-use Rattle.std.proofs.lemmas.List.{drop_more, get_or-append-add, get_or-drop, length-replicate, length-take-le}
+use Rattle.std.proofs.lemmas.List.{drop_more, get_or-append-add, get_or-drop, length-take-le}
 use Rattle.std.proofs.lemmas.List.Sums.{AllPass-from_list_all, list_all-from_AllPass}
-use Rattle.std.proofs.lemmas.Option.{slice_get_within}
 use Rattle.std.proofs.lemmas.Slice.Zip.{get_or-zip, length-zip}
 use Rattle.bdd_ops.proofs.PossibleLemmas.{by_variable-read}
 use Rattle.cyc_base.proofs.TruthLemmas.{same_truth}
@@ -13,7 +12,7 @@ use Rattle.bdd_store.specs.Subfunctions.{IsPart}
 use Rattle.netlist.specs.declared.parts.Init.{Init}
 use Rattle.netlist.specs.declared.parts.Init.TheVariants as inits
 use Rattle.refusals.specs.Refusals.{may_start}
-use Rattle.fixpoint.proofs.LayoutLemmas.{length-by_variable, variable_of}
+use Rattle.fixpoint.proofs.LayoutLemmas.{variable_of}
 use Rattle.verdict.proofs.CareLemmas.{value_at-place}
 use Rattle.verdict.proofs.DecisionLemmas.{vector_of, length-vector_of, laid-vector_of}
 use Rattle.verdict.proofs.SizeLemmas.{nodes-part}
@@ -28,13 +27,13 @@ inits_of net = replicate (length net.inputs) inits.Either ++ map (λ (l : Latch)
 abbrev pub may_start_at : Parts → ℕ → Bool → Bool
 may_start_at net column b = may_start (get_or (inits_of net) column inits.Either) b
 
-input-may : (net : Parts) (column : ℕ) (b : Bool) → column < length net.inputs → may_start_at net column b ≡ true
+pub input-may : (net : Parts) (column : ℕ) (b : Bool) → column < length net.inputs → may_start_at net column b ≡ true
 input-may net column b low =
     let free : List Init = replicate (length net.inputs) inits.Either in
     ap (λ (i : Init). may_start i b) (get_or_append_left free (map (λ (l : Latch). l.init) net.latches) inits.Either column (omega (arith, low, length-replicate (length net.inputs) inits.Either))
     ∙ get_or-replicate (length net.inputs) column inits.Either inits.Either low)
 
-latch-may : (net : Parts) (i : ℕ) (d : Latch) (b : Bool) → i < length net.latches → may_start_at net (length net.inputs + i) b ≡ may_start (get_or net.latches i d).init b
+pub latch-may : (net : Parts) (i : ℕ) (d : Latch) (b : Bool) → i < length net.latches → may_start_at net (length net.inputs + i) b ≡ may_start (get_or net.latches i d).init b
 latch-may net i d b inside =
     let free : List Init = replicate (length net.inputs) inits.Either in
     ap (λ n. may_start_at net (n + i) b) (sym (length-replicate (length net.inputs) inits.Either))
@@ -51,20 +50,12 @@ pub record TellsLater (net : Parts) (a : Arena) (set : Node) (k : ℕ) : Type 0 
   pub node : IsNodeOf a set
   pub value : (w : List Bool) → length w ≡ a.vars → den a set w ≡ all_may_start_at net (drop k (order net)) (drop k w)
 
-next_column : (net : Parts) (cs : List ℕ) (w : List Bool) (k : ℕ) → k < length cs → k < length w →
-    all_may_start_at net (drop k cs) (drop k w) ≡ (may_start_at net (get_or cs k 0) (get_or w k false) && all_may_start_at net (drop (k + 1) cs) (drop (k + 1) w))
-next_column net cs w k inside within = ap₂ (all_may_start_at net) (drop_more cs k 0 inside) (drop_more w k false within)
-
--- an input's column
-pub later-input : (net : Parts) (a : Arena) (set : Node) (m k : ℕ) → m ≡ k + 1 → a.vars ≡ columns net → k < columns net → get_or (order net) k 0 < length net.inputs → TellsLater net a set m → TellsLater net a set k
-later-input net a set m k m_is vars inside low later = record {
-  node = later.node;
-  value = λ w wide.
-      later.value w wide
-      ∙ ap (λ j. all_may_start_at net (drop j (order net)) (drop j w)) m_is
-      ∙ sym (next_column net (order net) w k (omega (arith, (order-is net).long, inside)) (omega (arith, wide, vars, inside))
-      ∙ ap (λ t. t && all_may_start_at net (drop (k + 1) (order net)) (drop (k + 1) w)) (input-may net (get_or (order net) k 0) (get_or w k false) low));
-}
+-- one column, and those after it
+pub next_column : (net : Parts) (w : List Bool) (m k : ℕ) → m ≡ k + 1 → k < columns net → length w ≡ columns net →
+    all_may_start_at net (drop k (order net)) (drop k w) ≡ (may_start_at net (get_or (order net) k 0) (get_or w k false) && all_may_start_at net (drop m (order net)) (drop m w))
+next_column net w m k m_is inside wide =
+    ap₂ (all_may_start_at net) (drop_more (order net) k 0 (omega (arith, (order-is net).long, inside))) (drop_more w k false (omega (arith, wide, inside)))
+    ∙ ap (λ j. may_start_at net (get_or (order net) k 0) (get_or w k false) && all_may_start_at net (drop j (order net)) (drop j w)) (sym m_is)
 
 -- the value of a variable's column
 pub variable-bit : (net : Parts) (a : Arena) (rails : List Rails) (k : ℕ) (w : List Bool) → a.vars ≡ columns net → AreColumns a (order net) rails → k < columns net → length w ≡ a.vars →
@@ -83,22 +74,6 @@ variable-bit net a rails k w vars are inside wide =
     ∙ ap (λ (ts : List Trit). get_or ts c X) (are.values v (lv ∙ sym vars))
     ∙ get_or-map bit v c false X (omega (arith, lv, low))
     ∙ ap bit (sym (by_variable-read (order net) v k (omega (arith, lo, inside))) ∙ ap (λ (u : List Bool). get_or u k false) back)
-
--- a latch's column, and those after it
-pub later-both : (net : Parts) (s : Arena) (rails : List Rails) (column : Rails) (set one : Node) (m k : ℕ) (latch : Latch) →
-    m ≡ k + 1 → s.vars ≡ columns net → k < columns net → AreColumns s (order net) rails → column ≡ rails_at rails (get_or (order net) k 0) →
-    length net.inputs ≤ get_or (order net) k 0 → slice_get net.latches (get_or (order net) k 0 - length net.inputs) ≡ Some latch → TellsLater net s set m →
-    ((b : Bool) (w : List Bool) → value_of s column w ≡ bit b → den s one w ≡ may_start latch.init b) →
-    (w : List Bool) → length w ≡ s.vars → conjunction s one set w ≡ all_may_start_at net (drop k (order net)) (drop k w)
-later-both net s rails column set one m k latch m_is vars inside are column_is high found later starts w wide =
-    let b : Bool = get_or w k false in
-    let i : ℕ = get_or (order net) k 0 - length net.inputs in
-    let is : length net.inputs + i ≡ get_or (order net) k 0 = omega (arith, high) in
-    ap₂ (λ x y. x && y)
-    (starts b w (ap (λ (r : Rails). value_of s r w) column_is ∙ variable-bit net s rails k w vars are inside wide)
-    ∙ sym (ap (λ n. may_start_at net n b) (sym is) ∙ latch-may net i latch b (slice_get_within net.latches i latch found) ∙ ap (λ (l : Latch). may_start l.init b) (get_or_from_slice_get net.latches i latch latch found)))
-    (later.value w wide ∙ ap (λ j. all_may_start_at net (drop j (order net)) (drop j w)) m_is)
-    ∙ sym (next_column net (order net) w k (omega (arith, (order-is net).long, inside)) (omega (arith, wide, vars, inside)))
 
 -- ---- all columns are the state
 
@@ -151,17 +126,6 @@ module _ (net : Parts) (v : List Bool) (wide : length v ≡ columns net) where
       (λ all. list_all-from_AllPass (starts_at net v) (order net) (λ k d inside.
       let low : k < columns net = omega (arith, inside, (order-is net).long) in
       state-column all (get_or (order net) k d) (rw (get_or_default (order net) k d 0 inside) ((order-is net).within k low))))
-
-pub starts-told : (net : Parts) (a : Arena) (set : Node) (k : ℕ) → k ≡ 0 → a.vars ≡ columns net → TellsLater net a set k → Tells net a set (starts net)
-starts-told net a set k none vars later = record {
-  node = later.node;
-  value = λ v wide.
-      let l = length-by_variable (order net) v in
-      let lo = (order-is net).long in
-      later.value (laid net v) (omega (arith, l, lo, vars))
-      ∙ ap (λ j. all_may_start_at net (drop j (order net)) (drop j (laid net v))) none
-      ∙ starts-laid net v (wide ∙ vars);
-}
 
 -- ---- the columns from one variable on are a part of all
 

@@ -1,6 +1,5 @@
 use Rattle.std.proofs.Common.{◌≡◌, ◌+◌, ◌∙◌, true, false, length, ap, arith}
-use Rattle.verdict.proofs.Common.{Blocks, block_at, length_push}
-use Rattle.isolation.specs.Settled.{SettleInSweeps}
+use Rattle.verdict.proofs.Common.{Blocks, block_at, length_push, SettleInSweeps}
 use Rattle.verdict.proofs.DeterminationLemmas.{each-more}
 use Rattle.verdict.proofs.alone.settled_loops.Goals as goal
 

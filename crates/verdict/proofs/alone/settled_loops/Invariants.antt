@@ -1,6 +1,5 @@
 use Rattle.std.proofs.Common.{◌≡◌, ℕ, ◌<◌, true, length}
-use Rattle.verdict.proofs.Common.{block_at, is_marked}
-use Rattle.isolation.specs.Settled.{SettleInSweeps}
+use Rattle.verdict.proofs.Common.{block_at, is_marked, SettleInSweeps}
 use Rattle.verdict.proofs.alone.settled_loops.Given as goal
 
 abbrev pub invariant-loop-place : goal.invariant-loop-place

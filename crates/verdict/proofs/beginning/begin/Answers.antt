@@ -10,9 +10,6 @@ use Rattle.verdict.proofs.beginning.begin.Goals.{After-starts_on, After-initial_
 pub starts_on-requires-clause-columns : goal.starts_on-requires-clause-columns
 starts_on-requires-clause-columns c = rw c.net.ensures.net (AreColumns-kept c.inside_on.ensures.grows.keeps c.requires.columns)
 
-pub initial_refusal-requires-clause-starts : goal.initial_refusal-requires-clause-starts
-initial_refusal-requires-clause-starts c = rw c.net.ensures.net at c.in_ok-permitted.ensures.starts
-
 pub initial_refusal-requires-clause-inside : goal.initial_refusal-requires-clause-inside
 initial_refusal-requires-clause-inside c = Tells-kept c.starts_on.ensures.grows.keeps c.in_ok-inside.ensures.told
 

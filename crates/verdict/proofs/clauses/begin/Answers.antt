@@ -6,6 +6,3 @@ begin_with_care-requires-clause-initial c = initial-none c.args.net.now c.args.c
 
 pub returns-in-Least : goal.returns-in-Least
 returns-in-Least c what = rw c.of.ensures (initial-refuses c.args.net.now c.args.care.now what c.in-Least.state.items (rw c.in-Least.is at c.in_ok-state.ensures))
-
-pub returns-in-Unknown : goal.returns-in-Unknown
-returns-in-Unknown c = tt

@@ -7,6 +7,3 @@ returns-in-Some-true c = care-some c.args.net.now c.args.care.now ((rw c.in-Some
 
 pub returns-in-Some-false : goal.returns-in-Some-false
 returns-in-Some-false c what = care-none c.args.net.now c.args.care.now what ((rw c.in-Some-false.is at c.in_ok-is_possible.ensures) ∙ c.in-Some-false.field-0-test) c.requires.initial
-
-pub returns-in-None : goal.returns-in-None
-returns-in-None c = tt

@@ -1,16 +1,12 @@
-use Rattle.std.proofs.Common.{◌+◌, ◌≤◌, subst, arith}
+use Rattle.std.proofs.Common.{◌+◌, ◌≤◌, arith}
 use Rattle.verdict.proofs.Common.{adds_then, adds_more, adds_refused, AreColumns-kept, start_cost}
 use Rattle.bdd_store.proofs.GrowthLemmas.{adds_answered}
 use Rattle.verdict.specs.Costs.{whole_cost}
-use Rattle.verdict.specs.Verdicts.{IsStart}
 use Rattle.verdict.proofs.DecisionLemmas.{decision-adds}
 use Rattle.verdict.proofs.diagrams.judge.Goals as goal
 
 pub judge_whole-requires-clause-columns : goal.judge_whole-requires-clause-columns
 judge_whole-requires-clause-columns c = AreColumns-kept c.begin.ensures.grows.keeps c.requires.columns
-
-pub judge_whole-requires-clause-start : goal.judge_whole-requires-clause-start
-judge_whole-requires-clause-start c = subst (IsStart c.args.question.now.net c.args.question.now.care c.begin.new.d) c.in-Care.is c.in_ok-set.ensures.start
 
 pub returns-in_err-set-clause-adds : goal.returns-in_err-set-clause-adds
 returns-in_err-set-clause-adds g =

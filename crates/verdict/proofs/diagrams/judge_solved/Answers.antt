@@ -12,15 +12,6 @@ use Rattle.verdict.proofs.VerdictLemmas.{refused-on-care, accepts-is}
 use Rattle.verdict.proofs.diagrams.judge_solved.Goals as goal
 use Rattle.verdict.proofs.diagrams.judge_solved.Goals.{After-sweeps, In-Determined}
 
-pub verdict_on_care-requires-clause-fixed : goal.verdict_on_care-requires-clause-fixed
-verdict_on_care-requires-clause-fixed c = c.requires.solved.fixed
-
-pub verdict_on_care-requires-clause-vars : goal.verdict_on_care-requires-clause-vars
-verdict_on_care-requires-clause-vars c = c.requires.solved.vars
-
-pub verdict_on_care-requires-clause-set : goal.verdict_on_care-requires-clause-set
-verdict_on_care-requires-clause-set c = c.requires.start.told
-
 -- what is known once nothing refuses
 
 kept-solution : (c : In-Determined) → IsSolution c.args.question.now.net c.args.question.now.blocks c.args.question.now.cut c.verdict_on_care.new.d c.requires.solved.points c.args.found.now.solved

@@ -1,5 +1,5 @@
-use Rattle.std.proofs.Common.{◌∙◌, ◌+◌, ◌*◌, ℕ, inl, length, ap, sym, subst, arith}
-use Rattle.verdict.proofs.Common.{IsLawful, adds_then, adds_moved, adds_more, adds_refused, values_of, IsWide, Looped, loops_by, columns, HasLargeCover, effort, AddsInDecision, IsLaid, AreColumnVectors}
+use Rattle.std.proofs.Common.{◌∙◌, ◌+◌, ◌*◌, ℕ, inl, length, sym, subst, arith}
+use Rattle.verdict.proofs.Common.{IsLawful, adds_then, adds_moved, adds_more, adds_refused, values_of, IsWide, loops_by, columns, HasLargeCover, effort, AddsInDecision, IsLaid, AreColumnVectors}
 use Rattle.bdd_store.proofs.GrowthLemmas.{adds_caused}
 use Rattle.verdict.specs.Verdicts.{IsSolvedWhole}
 use Rattle.verdict.proofs.CountLemmas.{column-vectors}
@@ -10,15 +10,6 @@ use Rattle.verdict.proofs.SolutionLemmas.{working-wide}
 use Rattle.verdict.proofs.VerdictLemmas.{fixed-is}
 use Rattle.verdict.proofs.diagrams.judge_whole.Goals as goal
 use Rattle.verdict.proofs.diagrams.judge_whole.Goals.{After-solve_beside, In_ok-found}
-
-pub solve_beside-requires-clause-width : goal.solve_beside-requires-clause-width
-solve_beside-requires-clause-width c = c.requires.columns.width ∙ c.requires.vars ∙ ap (λ (l : Looped). columns l.net) (sym c.looped-looped.ensures.looped)
-
-pub solve_beside-requires-clause-rails : goal.solve_beside-requires-clause-rails
-solve_beside-requires-clause-rails c = c.requires.columns.proper
-
-pub solve_beside-requires-clause-set : goal.solve_beside-requires-clause-set
-solve_beside-requires-clause-set c = c.requires.start.told.node
 
 -- the vectors that the given rails stand for
 points-are : (c : After-solve_beside) → AreColumnVectors c.args.question.now.net (values_of c.args.d.now c.args.rails.now)

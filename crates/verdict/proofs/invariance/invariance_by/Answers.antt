@@ -1,6 +1,5 @@
 use Rattle.std.proofs.Common.{Some, sym, ap, ◌∙◌}
-use Rattle.verdict.proofs.Common.{Refusal, columns, found_wide}
-use Rattle.clause_decision.specs.Tests.{is_leaving}
+use Rattle.verdict.proofs.Common.{Refusal, columns, found_wide, is_leaving}
 use Rattle.verdict.proofs.PartLemmas.{leaves-is}
 use Rattle.verdict.proofs.invariance.invariance_by.Goals as goal
 

@@ -3,11 +3,6 @@ use Rattle.verdict.proofs.Common.{block_at}
 use Rattle.verdict.proofs.LooseLemmas.{fed-known, says-not}
 use Rattle.verdict.proofs.loose.is_fed_known.Goals as goal
 
-pub returns-in-Nowhere : goal.returns-in-Nowhere
-returns-in-Nowhere c known v counts m n feeds inside outside =
-    let all = rw c.in-Nowhere.is at c.requires.unknown in
-    all v counts m feeds.source
-
 pub returns-in_ok-others-in-Marked : goal.returns-in_ok-others-in-Marked
 returns-in_ok-others-in-Marked c known =
     let s = c.args.search.now in

@@ -61,11 +61,6 @@ returns-clause-grows c =
     let inside = rw c.net-net.ensures.net at c.latches-number-end.ensures.latches in
     within_more (omega (arith, c.loop-number.auto.number-end, inside)) (within_answered c.loop-number.invariant.grows)
 
-pub returns-clause-width : goal.returns-clause-width
-returns-clause-width c =
-    let latches = rw c.net-net.ensures.net at c.latches-number-end.ensures.latches in
-    omega (arith, c.loop-number.invariant.first.width, c.loop-number-test.false, c.loop-number.auto.number-end, latches)
-
 pub returns-clause-values : goal.returns-clause-values
 returns-clause-values c =
     let latches = rw c.net-net.ensures.net at c.latches-number-end.ensures.latches in

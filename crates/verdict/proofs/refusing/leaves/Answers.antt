@@ -1,8 +1,7 @@
 use Rattle.std.proofs.Common.{◌≡◌, ◌∙◌, ◌+◌, ◌*◌, Some, Bool, true, List, length, refl, sym, ap, arith}
 use Rattle.verdict.proofs.PartLemmas.{Tells-kept, invariant-reads, leaves-is, leaving-value}
-use Rattle.verdict.proofs.Common.{Node, IsNodeOf, difference, den, KeepsNodes, within_only, within_one, within_moved, within_more, within_answered, within_refused, within_memory, bits, Rails, Refusal, Tells, values_of, next, found_wide, columns, is_in_invariant, laid, invariant_effort, GrowsInDecision}
+use Rattle.verdict.proofs.Common.{Node, IsNodeOf, difference, den, KeepsNodes, within_only, within_one, within_moved, within_more, within_answered, within_refused, within_memory, bits, Rails, Refusal, Tells, values_of, next, found_wide, columns, is_in_invariant, laid, invariant_effort, GrowsInDecision, is_leaving}
 use Rattle.bdd_store.proofs.GrowthLemmas.{KeepsNodes-chain}
-use Rattle.clause_decision.specs.Tests.{is_leaving}
 use Rattle.verdict.specs.Costs.{leaving_cost}
 use Rattle.verdict.proofs.DecisionLemmas.{decision-then}
 use Rattle.verdict.proofs.LeavesLemmas.{within-set, leaves-fit}

@@ -14,9 +14,6 @@ gate_unknown-requires-clause-fixed c = AreFixed-kept c.loop-gate.invariant.grows
 pub gate_unknown-requires-clause-set : goal.gate_unknown-requires-clause-set
 gate_unknown-requires-clause-set c = Tells-kept c.loop-gate.invariant.grows.keeps c.requires.set
 
-pub gate_unknown-requires-clause-gate : goal.gate_unknown-requires-clause-gate
-gate_unknown-requires-clause-gate c = let gates = rw c.net-net.ensures.net at c.gates-gate-end.ensures.gates in omega (arith, c.loop-gate-test.true, gates)
-
 -- ---- what the gates cost
 
 step : (c : After-gate_unknown) → GrowsInDecision c.gate_unknown.result c.args.d.now c.gate_unknown.new.d c.args.question.now.net c.args.question.now.care (2 * c.loop-gate.gate + 2)

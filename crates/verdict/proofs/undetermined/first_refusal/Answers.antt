@@ -1,8 +1,7 @@
 use Rattle.std.proofs.Common.{◌≡◌, ◌<◌, ◌∙◌, ℕ, List, length, get_or, subst, sym, ap, arith}
-use Rattle.verdict.proofs.Common.{get_or_default, ListsMarked}
+use Rattle.verdict.proofs.Common.{get_or_default, ListsMarked, IsFirstToRefuse}
 use Rattle.isolation.specs.Excerpts.{gate_in}
 use Rattle.clause_decision.specs.Tests.{IsFirstUnknown}
-use Rattle.verdict.specs.Unknown.{IsFirstToRefuse}
 use Rattle.verdict.proofs.CandidateLemmas.{listed-within, first-refuses}
 use Rattle.verdict.proofs.undetermined.first_refusal.Goals as goal
 use Rattle.verdict.proofs.undetermined.first_refusal.Goals.{After-deref-2, After-index}

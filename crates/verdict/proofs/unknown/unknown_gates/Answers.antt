@@ -1,6 +1,5 @@
 use Rattle.std.proofs.Common.{◌≡◌, length, arith}
-use Rattle.verdict.proofs.Common.{ListsMarked}
-use Rattle.verdict.specs.Loose.{AreCandidates}
+use Rattle.verdict.proofs.Common.{ListsMarked, AreCandidates}
 use Rattle.verdict.proofs.LooseLemmas.{unknown-marked}
 use Rattle.verdict.proofs.CandidateLemmas.{listed-within}
 use Rattle.verdict.proofs.unknown.unknown_gates.Goals as goal
