@@ -1,5 +1,5 @@
 -- The states of vectors on rails.
-use Rattle.std.proofs.Common.{◌≡◌, ◌-◌, ℕ, Bool, List, length, drop, take, ap, sym, ◌∙◌}
+use Rattle.std.proofs.Common.{◌≡◌, ◌-◌, ℕ, Bool, List, length, drop, take, Result, Ok, Err, IfOk, ap, sym, ◌∙◌}
 use Rattle.std.proofs.lemmas.List.{drop-map, take_rest}
 use Rattle.differences.proofs.Common.{Arena, bits, Rails, value_of, values_of, Parts, state_of}
 use Rattle.cyc_base.specs.Values.{bit}
@@ -12,3 +12,8 @@ state-values net a rails first values v is are =
     ∙ sym (drop-map (λ (r : Rails). value_of a r v) (length net.inputs) rails)
     ∙ ap (drop (length net.inputs)) are
     ∙ drop-map bit (length net.inputs) values
+
+-- what two clauses say together of an answer
+pub IfOk-both : {T E : Type 0} (r : Result T E) {P Q R : T → Type 0} → ((x : T) → P x → Q x → R x) → IfOk r P → IfOk r Q → IfOk r R
+IfOk-both (Ok x) both p q = both x p q
+IfOk-both (Err e) both p q = tt

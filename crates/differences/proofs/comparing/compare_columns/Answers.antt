@@ -1,5 +1,5 @@
-use Rattle.std.proofs.Common.{◌≡◌, ◌∙◌, inl, inr, Bool, List, length, sym, ap, arith}
-use Rattle.differences.proofs.Common.{within_only, by_variable, bits, values_of, columns, is_care_vector, TellsBy}
+use Rattle.std.proofs.Common.{◌≡◌, ◌∙◌, inl, inr, Bool, List, length, sym, arith}
+use Rattle.differences.proofs.Common.{within_only, by_variable, bits, values_of, columns}
 use Rattle.bdd_store.proofs.GrowthLemmas.{adds_then, adds_caused, adds_moved, adds_more, adds_refused}
 use Rattle.dual_rail.proofs.SurelyLemmas.{All-rails-kept}
 use Rattle.loops.specs.Cuts.{loops_by}
@@ -11,15 +11,6 @@ use Rattle.differences.proofs.ComparingLemmas.{fixed-is, TellsBy-same}
 use Rattle.differences.proofs.LaidLemmas.{working-wide}
 use Rattle.differences.proofs.comparing.compare_columns.Goals as goal
 use Rattle.differences.proofs.comparing.compare_columns.Goals.{After-care_on, After-solve_beside}
-
-pub care_on-requires-clause-width : goal.care_on-requires-clause-width
-care_on-requires-clause-width c = c.requires.columns.width ∙ c.requires.vars ∙ ap columns (sym c.net-net.ensures.net)
-
-pub care_on-requires-clause-rails : goal.care_on-requires-clause-rails
-care_on-requires-clause-rails c = c.requires.columns.proper
-
-pub solve_beside-requires-clause-width : goal.solve_beside-requires-clause-width
-solve_beside-requires-clause-width c = c.requires.columns.width ∙ c.requires.vars
 
 pub solve_beside-requires-clause-rails : goal.solve_beside-requires-clause-rails
 solve_beside-requires-clause-rails c = All-rails-kept c.care_on.ensures.grows.keeps c.args.rails.now c.requires.columns.proper
@@ -46,32 +37,18 @@ compare_solved-requires-clause-fixed g =
 pub compare_solved-requires-clause-set : goal.compare_solved-requires-clause-set
 compare_solved-requires-clause-set g =
     let found = g.in_ok-found.ensures.fixpoint in
-    let counts = rw g.net-net.ensures.net at g.in_ok-set.ensures.counts in
-    let told : TellsBy g.args.comparison.now.order.now g.care_on.new.d g.in_ok-set.set (is_care_vector g.args.comparison.now.looped.now.net g.args.comparison.now.care.now) = record {
-      node = g.in_ok-set.ensures.node;
-      value = λ v wide. counts v (by_variable g.args.comparison.now.order.now v) (g.requires.columns.values v (wide ∙ g.care_on.ensures.grows.keeps.vars));
-    } in
-    TellsBy-same g.solve_beside.ensures.vars found.node found.function told
+    TellsBy-same g.solve_beside.ensures.vars found.node found.function g.in_ok-set.ensures.told
 
 -- ---- what it does to the diagrams
 
 care-adds : (c : After-care_on) → AddsInComparison c.care_on.result c.args.d.now c.care_on.new.d c.args.comparison.now.order.now c.args.comparison.now.looped.now.net c.args.comparison.now.care.now (care_cost c.args.comparison.now.care.now)
-care-adds c =
-    let grows = rw c.net-net.ensures.net at c.care_on.ensures.grows in
-    adds_caused (λ over. inr over)
-    (adds_moved (λ w wide. record {
-      order = c.args.comparison.now.order.now;
-      layout = c.args.comparison.now.laid;
-      vars = c.requires.vars;
-      are_columns = c.requires.columns;
-      wide = wide;
-    }) grows.adds)
+care-adds c = adds_caused (λ over. inr over) c.care_on.ensures.grows.adds
 
 -- the working list of the fixpoint
 solving-adds : (c : After-solve_beside) → AddsInComparison c.solve_beside.result c.care_on.new.d c.solve_beside.new.d c.args.comparison.now.order.now c.args.comparison.now.looped.now.net c.args.comparison.now.care.now (solving_cost c.args.comparison.now.looped.now.net)
 solving-adds c =
     let l = c.args.comparison.now.looped.now in
-    let is = c.net-net.ensures.looped in
+    let is = c.care_on.ensures.looped in
     adds_caused {cause = HasLargeCover l.net} (λ over. inl over)
     (adds_moved (λ w wide.
     working-wide c.args.comparison.now.order.now l.net c.args.comparison.now.care.now c.args.comparison.now.laid wide c.care_on.new.d.vars (care-vars c) (values_of c.care_on.new.d c.args.rails.now) (points-are c)
@@ -92,9 +69,3 @@ returns-clause-adds g =
     let at = goal.at.returns-clause-adds g in
     adds_then g.care_on.ensures.grows.keeps.limit (care-adds at.After-care_on)
     (adds_then g.solve_beside.ensures.limit (solving-adds at.After-solve_beside) (within_only g.compare_solved.ensures.grows).adds)
-
-pub returns-clause-vars : goal.returns-clause-vars
-returns-clause-vars g = g.compare_solved.ensures.grows.keeps.vars ∙ g.solve_beside.ensures.vars ∙ g.care_on.ensures.grows.keeps.vars
-
-pub returns-clause-limit : goal.returns-clause-limit
-returns-clause-limit g = g.compare_solved.ensures.grows.keeps.limit ∙ g.solve_beside.ensures.limit ∙ g.care_on.ensures.grows.keeps.limit

@@ -4,12 +4,6 @@ use Rattle.std.proofs.lemmas.Result.{IfOk-weaker}
 use Rattle.differences.proofs.ComparingLemmas.{has-rails, least-is, pairs-bounded}
 use Rattle.differences.proofs.comparing.compare_solved.Goals as goal
 
-pub least_of_pairs-requires-clause-layout : goal.least_of_pairs-requires-clause-layout
-least_of_pairs-requires-clause-layout c = rw c.requires.vars c.args.comparison.now.laid
-
-pub least_of_pairs-requires-clause-rails : goal.least_of_pairs-requires-clause-rails
-least_of_pairs-requires-clause-rails c = rw c.items.ensures c.requires.fixed.proper
-
 pub least_of_pairs-requires-clause-pairs : goal.least_of_pairs-requires-clause-pairs
 least_of_pairs-requires-clause-pairs c =
     rw c.items.ensures
