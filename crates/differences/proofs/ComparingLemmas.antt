@@ -1,7 +1,6 @@
 -- What the least vector of pairs says, where rails stand for the fixpoint and a set for the care vectors.
-use Rattle.std.proofs.Common.{◌≡◌, ℕ, suc, ◌+◌, ◌<◌, Bool, true, false, ◌&&◌, ◌||◌, List, [], ◌∷◌, length, map, get_or, refl, sym, ap, ap₂, ◌∙◌, arith, true≢false, Ok, Err, Result}
+use Rattle.std.proofs.Common.{◌≡◌, ℕ, suc, ◌+◌, ◌<◌, Bool, true, false, ◌&&◌, ◌||◌, List, [], ◌∷◌, length, map, get_or, refl, sym, ap, ap₂, ◌∙◌, arith, true≢false}
 use Rattle.differences.proofs.Common.{find, Node, Arena, den, IsLayout, by_variable, bits, vectors, find-alike, Rails, AreRailsOf, value_of, IsWide, Parts, rails_at, rails_at-proper, CareSet, columns, is_care_vector, Pair, IsLaidBy, TellsBy, AreFixedBy, some_differ, BoundsPairs}
-use Rattle.std.specs.Prelude.{IfOk}
 use Rattle.std.specs.List.{All, list_any}
 use Rattle.std.proofs.lemmas.List.{length-append}
 use Rattle.bdd_store.specs.Arena.{IsNodeOf}
@@ -112,8 +111,3 @@ fixed-is order net blocks cut a points solved vars are is = record {
 -- another node of the same function, in other diagrams
 pub TellsBy-same : {order : List ℕ} {s t : Arena} {m n : Node} {test : List Bool → Bool} → t.vars ≡ s.vars → IsNodeOf t n → ((w : List Bool) → den t n w ≡ den s m w) → TellsBy order s m test → TellsBy order t n test
 TellsBy-same {order} vars node same is = record { node = node; value = λ v wide. same (by_variable order v) ∙ is.value v (wide ∙ vars) }
-
--- what holds of an answer where something else does
-pub ok-moved : {T E : Type 0} (r : Result T E) (P Q : T → Type 0) → ((x : T) → P x → Q x) → IfOk r P → IfOk r Q
-ok-moved (Ok x) P Q into is = into x is
-ok-moved (Err e) P Q into is = tt

@@ -1,10 +1,9 @@
 -- The lesser of two vectors, and what it is the first to pass.
-use Rattle.std.proofs.Common.{◌≡◌, inl, inr, ℕ, zero, suc, ◌<◌, ◌≤◌, Bool, true, false, not, ◌||◌, List, [], ◌∷◌, length, take, get_or, Some, None, refl, sym, ap, subst, ◌∙◌, arith, true≢false}
+use Rattle.std.proofs.Common.{◌≡◌, inl, inr, ℕ, Bool, true, false, ◌||◌, List, [], ◌∷◌, length, Some, None, ap, ◌∙◌, arith}
 use Rattle.differences.proofs.Common.{find, vectors, find-alike}
-use Rattle.std.specs.Bool.{beq}
-use Rattle.std.proofs.Math.Dec.{leb}
+use Rattle.std.specs.Cmp.Lexicographic.{slice_cmp}
+use Rattle.std.specs.Ordering.{bool_cmp, is_lt}
 use Rattle.std.proofs.lemmas.Bool.{or_cases, or_left}
-use Rattle.std.proofs.lemmas.Bool.Decides.{leb_tells}
 use Rattle.bdd_ops.specs.Least.{IsLeast}
 use Rattle.cyc_base.specs.Vectors.{AtMost}
 use Rattle.cyc_base.proofs.TruthLemmas.{or_without_second, or_comm}
@@ -13,39 +12,24 @@ use Rattle.verdict.proofs.SetLemmas.{least-first}
 
 -- ---- the order
 
-head-of : List Bool → Bool
-head-of [] = false
-head-of (x ∷ xs) = x
+-- a lesser vector is at most the other
+pub below-from_cmp : (v w : List Bool) → is_lt (slice_cmp bool_cmp v w) ≡ true → AtMost v w
+below-from_cmp [] w is = tt
+below-from_cmp (x ∷ v) [] is = absurd cc
+below-from_cmp (false ∷ v) (false ∷ w) is = below-from_cmp v w is
+below-from_cmp (false ∷ v) (true ∷ w) is = tt
+below-from_cmp (true ∷ v) (false ∷ w) is = absurd cc
+below-from_cmp (true ∷ v) (true ∷ w) is = below-from_cmp v w is
 
-tail-of : List Bool → List Bool
-tail-of [] = []
-tail-of (x ∷ xs) = xs
-
-behind : (x : Bool) (v w : List Bool) → AtMost v w → AtMost (x ∷ v) (x ∷ w)
-behind true v w is = is
-behind false v w is = is
-
-behind-same : (x y : Bool) (v w : List Bool) → x ≡ y → AtMost v w → AtMost (x ∷ v) (y ∷ w)
-behind-same x y v w same is = subst (λ z. AtMost (x ∷ v) (z ∷ w)) same (behind x v w is)
-
--- at the first place where they differ the first has 0
-pub differs-below : (v w : List Bool) (k : ℕ) → k < length v → k < length w → take k v ≡ take k w → get_or v k false ≡ false → get_or w k false ≡ true → AtMost v w
-unfolding head-of tail-of
-differs-below [] w k inside there same low high = tt
-differs-below (x ∷ v) [] k inside there same low high = absurd (omega (arith, there))
-differs-below (x ∷ v) (y ∷ w) zero inside there same low high =
-    subst (λ z. AtMost (z ∷ v) (y ∷ w)) (sym low) (subst (λ z. AtMost (false ∷ v) (z ∷ w)) (sym high) tt)
-differs-below (x ∷ v) (y ∷ w) (suc k) inside there same low high =
-    behind-same x y v w (ap head-of same) (differs-below v w k (omega (arith, inside)) (omega (arith, there)) (ap tail-of same) low high)
-
--- the first begins the second
-pub begins-at_most : (v w : List Bool) (k : ℕ) → length v ≤ k → length v ≤ length w → take k v ≡ take k w → AtMost v w
-unfolding head-of tail-of
-begins-at_most [] w k all more same = tt
-begins-at_most (x ∷ v) [] k all more same = absurd (omega (arith, more))
-begins-at_most (x ∷ v) (y ∷ w) zero all more same = absurd (omega (arith, all))
-begins-at_most (x ∷ v) (y ∷ w) (suc k) all more same =
-    behind-same x y v w (ap head-of same) (begins-at_most v w k (omega (arith, all)) (omega (arith, more)) (ap tail-of same))
+-- and the other is at most one that isn't
+pub above-from_cmp : (v w : List Bool) → is_lt (slice_cmp bool_cmp v w) ≡ false → AtMost w v
+above-from_cmp [] [] is = tt
+above-from_cmp [] (y ∷ w) is = absurd cc
+above-from_cmp (x ∷ v) [] is = tt
+above-from_cmp (false ∷ v) (false ∷ w) is = above-from_cmp v w is
+above-from_cmp (false ∷ v) (true ∷ w) is = absurd cc
+above-from_cmp (true ∷ v) (false ∷ w) is = tt
+above-from_cmp (true ∷ v) (true ∷ w) is = above-from_cmp v w is
 
 at_most-trans : (u v w : List Bool) → AtMost u v → AtMost v w → AtMost u w
 at_most-trans [] v w first second = tt
@@ -58,20 +42,6 @@ at_most-trans (false ∷ u) (true ∷ v) (true ∷ w) first second = tt
 at_most-trans (true ∷ u) (false ∷ v) w first second = absurd first
 at_most-trans (true ∷ u) (true ∷ v) (false ∷ w) first second = absurd second
 at_most-trans (true ∷ u) (true ∷ v) (true ∷ w) first second = at_most-trans u v w first second
-
--- a bit that isn't the other
-pub other-bit : (x y : Bool) → not (beq x y) ≡ true → y ≡ true → x ≡ false
-other-bit false y apart is = refl
-other-bit true true apart is = absurd (true≢false (sym apart))
-other-bit true false apart is = absurd (true≢false (sym is))
-
-pub one-bit : (x y : Bool) → not (beq x y) ≡ true → y ≡ false → x ≡ true
-one-bit true y apart is = refl
-one-bit false true apart is = absurd (true≢false is)
-one-bit false false apart is = absurd (true≢false (sym apart))
-
-pub longer : (m n : ℕ) → leb m n ≡ false → n < m
-longer m n is = elim (leb_tells m n) [ inl there ↦ absurd (true≢false (sym there.0 ∙ is)) | inr above ↦ above.1 ]
 
 -- ---- the first to pass one of two tests
 

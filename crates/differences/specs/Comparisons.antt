@@ -3,15 +3,13 @@ use Rattle.std.specs.Prelude.{◌≡◌, ◌<◌, ◌+◌, ◌*◌, ◌⊎◌, �
 use Rattle.bdd_store.specs.declared.fault.StoreFault.{StoreFault}
 use Rattle.bdd_store.specs.Arena.{Arena}
 use Rattle.bdd_store.specs.Growth.{AddsWithin, IsFullOnlyPast}
-use Rattle.bdd_ops.specs.Least.{IsLayout, by_variable}
+use Rattle.bdd_ops.specs.Least.{by_variable}
 use Rattle.bdd_ops.specs.Operations.{bit_at}
 use Rattle.cyc_base.specs.Values.{bits}
-use Rattle.dual_rail.specs.declared.rail.Rails.{Rails}
 use Rattle.dual_rail.specs.WorkingLists.{IsWide}
 use Rattle.netlist.specs.declared.parts.Parts.{Parts}
 use Rattle.loops.specs.Found.{loops_of}
 use Rattle.fixpoint.specs.Working.{IsGatePart, effort}
-use Rattle.isolation.specs.Columns.{AreColumns}
 use Rattle.care_sets.specs.Care.{CareSet, columns, state_of, is_care_vector}
 use Rattle.verdict.specs.Causes.{HasCoverOver, IsStoreFor}
 use Rattle.verdict.specs.Costs.{assume_effort, invariant_effort}
@@ -58,14 +56,6 @@ comparison_cost net care pairs = 2 + whole_cost net care pairs
 -- large cover.
 abbrev pub AddsInComparison : {T : Type 0} → Result T StoreFault → Arena → Arena → List ℕ → Parts → CareSet → ℕ → Type 0
 AddsInComparison result old new order net care number = AddsWithin result old new (HasCoverOver net care) (IsWide (columns net) (IsLaidBy order net care)) number
-
--- w is wide for a comparison of a netlist whose columns have these rails
-pub record IsWideOnColumns (net : Parts) (care : CareSet) (a : Arena) (rails : List Rails) (w : ℕ) : Type 0 where
-  pub order : List ℕ
-  pub layout : IsLayout (columns net) order
-  pub vars : a.vars ≡ columns net
-  pub are_columns : AreColumns a order rails
-  pub wide : IsWide (columns net) (IsLaidBy order net care) w
 
 -- ---- what is enough
 

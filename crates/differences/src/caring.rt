@@ -1,20 +1,20 @@
 //! The care vectors as a node.
 
-ghost use Rattle.std.specs.Prelude.{◌≡◌, Bool, List, length, All, IfOk};
-ghost use Rattle.bdd_store.specs.Arena.{den, IsNodeOf};
+ghost use Rattle.std.specs.Prelude.{◌≡◌, IfOk};
 ghost use Rattle.bdd_store.specs.Growth.{GrowsWithin};
-ghost use Rattle.cyc_base.specs.Values.{bits};
-ghost use Rattle.dual_rail.specs.Rails.{AreRailsOf, values_of};
+ghost use Rattle.dual_rail.specs.WorkingLists.{IsWide};
+ghost use Rattle.loops.specs.Looped.{IsLooped};
+ghost use Rattle.isolation.specs.Columns.{AreColumns};
 ghost use Rattle.care_sets.specs.Binding.{IsCareOf};
 ghost use Rattle.care_sets.specs.Care.{columns, is_care_vector};
 ghost use Rattle.verdict.specs.Causes.{HasModelOver};
-ghost use Rattle.differences.specs.Comparisons.{care_cost, IsWideOnColumns};
+ghost use Rattle.differences.specs.Comparisons.{care_cost, IsLaidBy};
+ghost use Rattle.differences.specs.Sets.{TellsBy};
 
+use crate::comparison::Comparison;
 use bdd_ops::Diagrams;
 use bdd_store::{Node, StoreFault};
-use care_sets::Care;
 use dual_rail::Rails;
-use netlist::Netlist;
 use std::alloc::Global;
 use verdict::{assume_on, invariant_on};
 
@@ -22,20 +22,19 @@ use verdict::{assume_on, invariant_on};
 pub(crate) fn care_on(
     alloc: Global,
     d: &mut Diagrams,
-    net: &Netlist,
-    care: &Care,
+    comparison: &Comparison<'_>,
     rails: &[Rails],
 ) -> Result<Node, StoreFault>
-    requires care { IsCareOf net.now care.now }
-    requires width { length rails.now ≡ columns net.now }
-    requires rails { All (AreRailsOf d.old) rails.now }
-    ensures node { IfOk result (IsNodeOf d.new) }
-    ensures counts { IfOk result (λ set. (values v : List Bool) → values_of d.old rails.now v ≡ bits values → den d.new set v ≡ is_care_vector net.now care.now values) }
-    ensures grows { GrowsWithin result d.old d.new (HasModelOver care.now) (IsWideOnColumns net.now care.now d.old rails.now) (care_cost care.now) }
+    requires care { IsCareOf comparison.now.looped.now.net comparison.now.care.now }
+    requires vars { d.old.vars ≡ columns comparison.now.looped.now.net }
+    requires columns { AreColumns d.old comparison.now.order.now rails.now }
+    ensures told { IfOk result (λ set. TellsBy comparison.now.order.now d.new set (is_care_vector comparison.now.looped.now.net comparison.now.care.now)) }
+    ensures looped { IsLooped comparison.now.looped.now }
+    ensures grows { GrowsWithin result d.old d.new (HasModelOver comparison.now.care.now) (IsWide (columns comparison.now.looped.now.net) (IsLaidBy comparison.now.order.now comparison.now.looped.now.net comparison.now.care.now)) (care_cost comparison.now.care.now) }
 {
-    let first = net.inputs();
+    let first = comparison.looped.net().inputs();
     let latches = &rails[first as usize..];
-    let inside = invariant_on(alloc, d, care, first, latches)?;
-    let allowed = assume_on(alloc, d, care, rails)?;
-    Ok(d.and(inside, allowed)?)
+    let inside = invariant_on(alloc, d, comparison.care, first, latches)?;
+    let allowed = assume_on(alloc, d, comparison.care, rails)?;
+    d.and(inside, allowed)
 }

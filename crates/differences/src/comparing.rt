@@ -61,8 +61,7 @@ fn compare_columns(
     ensures limit { d.new.limit ≡ d.old.limit }
     ensures adds { AddsInComparison result d.old d.new comparison.now.order.now comparison.now.looped.now.net comparison.now.care.now (whole_cost comparison.now.looped.now.net comparison.now.care.now comparison.now.pairs.now) }
 {
-    let net = comparison.looped.net();
-    let set = care_on(alloc, d, net, comparison.care, rails)?;
+    let set = care_on(alloc, d, comparison, rails)?;
     d.store().laws();
     let found = solve_beside(alloc, d, comparison.looped, rails, set)?;
     compare_solved(alloc, d, comparison, &found)

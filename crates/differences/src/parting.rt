@@ -32,7 +32,7 @@ fn above(d: &mut Diagrams, compared: ComparedRails) -> Result<Node, StoreFault>
     ensures grows { GrowsWithin result d.old d.new NoOtherCause (BoundsAbove d.old compared.set compared.here compared.there) 2 }
 {
     let both = d.and(compared.here.one, compared.there.zero)?;
-    Ok(d.and(compared.set, both)?)
+    d.and(compared.set, both)
 }
 
 /// The least vector of the set at which the first rails are 1 and the second 0. `order` has the column of each variable.

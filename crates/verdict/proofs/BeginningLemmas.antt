@@ -1,11 +1,10 @@
 -- What is decided without the gates: initial states and the care set.
 use Rattle.std.proofs.Common.{◌≡◌, Bool, true, false, not, List, length, Option, Some, None, refl, sym, ap, ◌∙◌}
-use Rattle.verdict.proofs.Common.{find, is_none, is_some, option_map, vectors, Parts, CareSet, columns, is_in_invariant, is_care_vector, Observe, Refusal, Initial, EmptyCare, care_vectors, initial_refusal, refusal, empty-filter, MayGoOn}
-use Rattle.std.specs.Prelude.{if◌then◌else◌}
-use Rattle.refusals.specs.Refusals.{is_initial, is_empty}
+use Rattle.verdict.proofs.Common.{find, is_none, is_some, option_map, vectors, Parts, CareSet, columns, is_in_invariant, is_care_vector, Observe, Initial, EmptyCare, initial_refusal, refusal, MayGoOn}
+use Rattle.refusals.specs.Refusals.{is_initial}
 use Rattle.refusals.proofs.FirstLemmas.{find-filter}
 use Rattle.clause_decision.specs.Tests.{is_outside}
-use Rattle.verdict.proofs.VerdictLemmas.{refused-initial, refused-empty}
+use Rattle.verdict.proofs.VerdictLemmas.{refused-initial, refused-empty, empty-is}
 
 -- the refusal is that of the first permitted state outside the invariant
 pub initial-first : (net : Parts) (care : CareSet) → initial_refusal net care ≡ option_map Initial (find (is_outside net care) (vectors (length net.latches)))
@@ -22,15 +21,8 @@ some-none : (o : Option (List Bool)) → is_none o ≡ not (is_some o)
 some-none None = refl
 some-none (Some v) = refl
 
-empty-is : (net : Parts) (care : CareSet) (some : Bool) → is_some (find (is_care_vector net care) (vectors (columns net))) ≡ some → is_empty (care_vectors net care) ≡ not some
-empty-is net care some is = empty-filter (is_care_vector net care) (vectors (columns net)) ∙ some-none _ ∙ ap not is
-
 pub care-some : (net : Parts) (care : CareSet) → is_some (find (is_care_vector net care) (vectors (columns net))) ≡ true → initial_refusal net care ≡ None → MayGoOn net care
-care-some net care is initial = record {
-  initial = initial;
-  some = ap (λ (t : Bool). let nothing : Option Refusal = None in if t then Some EmptyCare else nothing) (empty-is net care true is);
-}
+care-some net care is initial = record { initial = initial; some = empty-is net care false (sym (some-none _ ∙ ap not is)) }
 
 pub care-none : (net : Parts) (care : CareSet) (what : Observe) → is_some (find (is_care_vector net care) (vectors (columns net))) ≡ false → initial_refusal net care ≡ None → refusal net care what ≡ Some EmptyCare
-care-none net care what is initial =
-    refused-empty net care what initial (ap (λ (t : Bool). let nothing : Option Refusal = None in if t then Some EmptyCare else nothing) (empty-is net care false is))
+care-none net care what is initial = refused-empty net care what initial (empty-is net care true (sym (some-none _ ∙ ap not is)))

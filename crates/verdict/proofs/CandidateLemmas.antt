@@ -1,53 +1,13 @@
 -- The refusal of the first observed gate that is unknown on care.
-use Rattle.std.proofs.Common.{◌≡◌, inl, inr, ℕ, ◌<◌, ◌≤◌, Bool, true, false, not, List, length, map, get_or, Option, Some, None, refl, sym, ap, ◌∙◌, subst, arith, Contains, true≢false}
-use Rattle.verdict.proofs.Common.{find, is_some, and_from, cases_lt, get_or-map, get_or_default, get_or_past, length-map, vectors, Parts, IsNetlist, gate_sig, Blocks, AreBlocksOf, is_marked, ListsMarked, unsettled_loops_decide, CareSet, columns, is_care_vector, Observe, Undetermined, observed, is_undetermined, is_x, undetermined_refusal, none_passes, gate_wire, care_vector_is, is_unknown_at, SettleInOneSweep, AreMarksOf, AreAsked}
-use Rattle.std.specs.List.{All}
+use Rattle.std.proofs.Common.{◌≡◌, inl, inr, ℕ, ◌<◌, Bool, true, false, not, List, length, map, get_or, Option, Some, None, refl, sym, ap, ◌∙◌, subst, arith, Contains, true≢false}
+use Rattle.verdict.proofs.Common.{find, is_some, and_from, cases_lt, get_or-map, get_or_default, length-map, vectors, Parts, IsNetlist, gate_sig, Blocks, AreBlocksOf, is_marked, ListsMarked, unsettled_loops_decide, CareSet, columns, is_care_vector, Observe, observed, is_undetermined, is_x, none_passes, gate_wire, care_vector_is, is_unknown_at, SettleInOneSweep, AreMarksOf, All, IsFirstToRefuse}
 use Rattle.std.proofs.lemmas.Bool.{cases_eq}
 use Rattle.isolation.specs.Excerpts.{gate_in}
 use Rattle.clause_decision.specs.Tests.{is_unknown, IsFirstUnknown}
 use Rattle.verdict.specs.Determination.{AreDeterminedOnCare, IsOpen}
 use Rattle.verdict.specs.Scopes.{AreOpenGates}
-use Rattle.verdict.specs.Unknown.{AreAskedCandidates, IsFirstToRefuse}
-use Rattle.verdict.proofs.DeterminationLemmas.{known-here, marks_of, marks-are}
-use Rattle.verdict.proofs.PartLemmas.{undetermined-found}
-
-marked-within : (marks : List Bool) (n : ℕ) → is_marked marks n ≡ true → n < length marks
-marked-within marks n marked = elim (cases_lt n (length marks)) [
-  | inl low ↦ low
-  | inr past ↦ absurd (true≢false (sym marked ∙ get_or_past marks n false past))
-]
-
--- ---- the gates that are asked for
-
--- all that are observed
-pub asked-all : (net : Parts) (what : Observe) (marks : List Bool) → AreMarksOf net (observed net what) marks → AreAsked net what marks
-asked-all net what marks are = record {
-  width = are.width;
-  seen = λ n marked. sym (are.each n (let l = marked-within marks n marked in let w = are.width in omega (arith, l, w))) ∙ marked;
-  earlier = λ m n less marked seen. are.each m (let l = marked-within marks n marked in let w = are.width in omega (arith, l, w, less)) ∙ seen;
-}
-
--- and those of them up to a gate
-pub asked-first : (net : Parts) (what : Observe) (last : ℕ) (marks first : List Bool) → AreMarksOf net (observed net what) marks → length first ≡ length marks →
-    ((k : ℕ) → k ≤ last → is_marked first k ≡ is_marked marks k) → ((k : ℕ) → last < k → is_marked first k ≡ false) → AreAsked net what first
-asked-first net what last marks first are width kept cleared = record {
-  width = width ∙ are.width;
-  seen = λ n marked. all.seen n (sym (kept n (early n marked)) ∙ marked);
-  earlier = λ m n less marked seen.
-      let low : n ≤ last = early n marked in
-      kept m (omega (arith, less, low)) ∙ all.earlier m n less (sym (kept n low) ∙ marked) seen;
-}
-  where
-    all : AreAsked net what marks
-    all = asked-all net what marks are
-
-    early : (n : ℕ) → is_marked first n ≡ true → n ≤ last
-    early n marked = elim (cases_lt last n) [
-      | inl late ↦ absurd (true≢false (sym marked ∙ cleared n late))
-      | inr low ↦ low
-    ]
-
--- ---- the gates that may be unknown
+use Rattle.verdict.specs.Unknown.{AreAskedCandidates, IsAskedFor}
+use Rattle.verdict.proofs.PartLemmas.{known-here}
 
 -- ---- the first of them that is unknown
 
@@ -57,11 +17,11 @@ none-some None is = refl
 none-some (Some v) is = absurd (true≢false is)
 
 -- it refuses the netlist
-pub first-refuses : (net : Parts) → IsNetlist net → (blocks : Blocks) → AreBlocksOf net blocks → (settled asked marks : List Bool) → SettleInOneSweep net blocks settled → AreAskedCandidates net blocks settled asked marks →
-    (care : CareSet) (what : Observe) → AreAsked net what asked → (gates : List ℕ) → ListsMarked marks (length net.gates) gates → (place : ℕ) → IsFirstUnknown net care gates place → IsFirstToRefuse net care what (gate_in gates place)
-first-refuses net valid blocks are settled asked marks soon candidates care what asks gates listed place first = record {
-  seen = asks.seen here (candidates.only here (at here-listed).1);
-  before = λ m less seen. by m less (asks.earlier m here less (candidates.only here (at here-listed).1) seen);
+pub first-refuses : (net : Parts) → IsNetlist net → (blocks : Blocks) → AreBlocksOf net blocks → (settled seen marks : List Bool) (last : ℕ) → SettleInOneSweep net blocks settled → AreAskedCandidates net blocks settled seen last marks →
+    (care : CareSet) (what : Observe) → AreMarksOf net (observed net what) seen → (gates : List ℕ) → ListsMarked marks (length net.gates) gates → (place : ℕ) → IsFirstUnknown net care gates place → IsFirstToRefuse net care what (gate_in gates place)
+first-refuses net valid blocks are settled seen marks last soon candidates care what seen_is gates listed place first = record {
+  seen = sym (seen_is.each here (at here-listed).0) ∙ asked.seen;
+  before = λ m less is. by m less (record { seen = seen_is.each m (omega (arith, less, (at here-listed).0)) ∙ is; early = omega (arith, less, asked.early) });
 }
   where
     here : ℕ
@@ -72,6 +32,9 @@ first-refuses net valid blocks are settled asked marks soon candidates care what
 
     at : Contains gates here → (here < length net.gates) × (is_marked marks here ≡ true)
     at c = (listed.each here).0 c
+
+    asked : IsAskedFor seen last here
+    asked = candidates.only here (at here-listed).1
 
     known : (m : ℕ) → Contains gates m → m < here → find (is_unknown_at net care m) (vectors (columns net)) ≡ None
     known m c less =
@@ -85,7 +48,7 @@ first-refuses net valid blocks are settled asked marks soon candidates care what
         ] in
         subst (λ (n : ℕ). find (is_unknown_at net care n) (vectors (columns net)) ≡ None) same (none-some _ (first.before c.0 early))
 
-    by : (m : ℕ) → m < here → is_marked asked m ≡ true → find (is_unknown_at net care m) (vectors (columns net)) ≡ None
+    by : (m : ℕ) → m < here → IsAskedFor seen last m → find (is_unknown_at net care m) (vectors (columns net)) ≡ None
     by m less wanted = two (is_marked marks m) refl
       where
         inside : m < length net.gates
@@ -96,15 +59,6 @@ first-refuses net valid blocks are settled asked marks soon candidates care what
         two false apart = known-here net care m inside (λ v counts.
             unsettled_loops_decide net blocks (is_marked settled) valid are (λ b within loop marked. (soon b within loop marked).alone) v counts.width m inside
             (λ g low up loop unsettled. absurd (true≢false (sym (candidates.each m wanted (record { gate = g; opened = record { within = low; looped = loop; unsettled = unsettled }; upstream = up })) ∙ apart))))
-
--- with its least vector
-pub refuses-at : (net : Parts) (care : CareSet) (what : Observe) (gate : ℕ) (v : List Bool) → gate < length net.gates → IsFirstToRefuse net care what gate →
-    find (is_unknown_at net care gate) (vectors (columns net)) ≡ Some v → undetermined_refusal net care what ≡ Some (Undetermined v (gate_sig net gate))
-refuses-at net care what gate v within first found =
-    let marks = marks-are net (observed net what) in
-    undetermined-found net care what (marks_of net (observed net what)) marks gate v within
-    (λ k less marked. first.before k less (sym (marks.each k (omega (arith, less, within))) ∙ marked))
-    (marks.each gate within ∙ first.seen) found
 
 -- ---- the gates of loops that aren't settled
 

@@ -1,13 +1,13 @@
 -- Care models on rails.
 use Rattle.std.proofs.Common.{◌≡◌, ℕ, ◌-◌, ◌*◌, ◌<◌, Result, Bool, true, false, List, [], length, map, get_or, Option, Some, None, refl, sym, ap, ap₂, ◌∙◌, subst, arith}
-use Rattle.std.specs.Prelude.{IfSome}
-use Rattle.verdict.proofs.Common.{IsSomeAnd, option_map, option_map_or, get_or-map, length-map, Node, StoreFault, GrowsWithin, within_more, within_moved, Arena, den, Sig, Trit, X, bit, bits, Rails, AreRailsOf, trit_of, value_of, values_of, BoundsEach, Parts, wire, fix, IsNetlist, count, map_agree, HasLargeCover, effort, HasModelOver, CareModel, CareSet, is_one, holds_at, rails_at, rails_at-proper, read_by, IsOfModel, BoundsModel, model_of, ReadsWithin}
+use Rattle.verdict.proofs.Common.{IsSomeAnd, option_map, option_map_or, get_or-map, length-map, Node, StoreFault, GrowsWithin, within_more, within_moved, Arena, den, Sig, Trit, X, bit, bits, Rails, AreRailsOf, trit_of, value_of, values_of, BoundsEach, Parts, wire, fix, IsNetlist, count, map_agree, HasLargeCover, effort, HasModelOver, CareModel, CareSet, is_one, holds_at, rails_at, rails_at-proper, read_by, IsOfModel, BoundsModel, model_of, ReadsWithin, IfSome, All, HasValues}
 use Rattle.std.proofs.Math.Path.{fun_ext}
 use Rattle.bdd_store.proofs.GrowthLemmas.{within_caused}
 use Rattle.std.proofs.lemmas.List.Elements.{All-map}
 use Rattle.std.proofs.lemmas.Option.{same_Some}
-use Rattle.std.specs.List.{All, slice_index_or}
+use Rattle.std.specs.List.{slice_index_or}
 use Rattle.cyc_base.proofs.ListLemmas.{map-map}
+use Rattle.cyc_base.proofs.OrderLemmas.{bits-at}
 use Rattle.care_sets.specs.Care.{inputs_at}
 use Rattle.fixpoint.specs.Sweeping.{unknown}
 use Rattle.fixpoint.specs.Working.{no_loops, IsGatePart}
@@ -25,40 +25,42 @@ one_rail a r v = by (den a r.one v) (den a r.zero v)
 pub value_at-place : (a : Arena) (rails : List Rails) (k : ℕ) (v : List Bool) → k < length rails → value_of a (rails_at rails k) v ≡ get_or (values_of a rails v) k X
 value_at-place a rails k v less = sym (get_or-map (λ (r : Rails). value_of a r v) rails k unknown X less)
 
--- where the rails stand for bits, so do those of some columns
+-- what a model reads of bits
+pub read-bits : (model : CareModel) (values : List Bool) → HasValues values model → read_by model (bits values) ≡ bits (inputs_at model values)
+read-bits model values has =
+    map_agree (λ column. get_or (bits values) (column - model.first) X) (λ column. bit (get_or values (column - model.first) false)) model.columns
+    (λ k d less. bits-at values (get_or model.columns k d - model.first) (has.each k d less))
+    ∙ sym (map-map {C = Trit} bit (λ column. get_or values (column - model.first) false) model.columns)
+
+-- the rails of some columns stand for what the model reads of all
+inputs-read : (a : Arena) (net : Parts) (columns : List ℕ) (first : ℕ) (rails list : List Rails) → All (λ column. column - first < length rails) columns → list ≡ map (λ column. rails_at rails (column - first)) columns →
+    (v : List Bool) → values_of a list v ≡ read_by (model_of net first columns) (values_of a rails v)
+inputs-read a net columns first rails list within is v =
+    ap (λ (l : List Rails). values_of a l v) is
+    ∙ map-map {C = Trit} (λ r. value_of a r v) (λ column. rails_at rails (column - first)) columns
+    ∙ map_agree (λ column. value_of a (rails_at rails (column - first)) v) (λ column. get_or (values_of a rails v) (column - first) X) columns
+    (λ k d less. value_at-place a rails (get_or columns k d - first) v (within k d less))
+
+-- where the rails stand for bits, so do those
 pub inputs-values : (a : Arena) (net : Parts) (columns : List ℕ) (first : ℕ) (rails list : List Rails) (values v : List Bool) →
     All (λ column. column - first < length rails) columns → list ≡ map (λ column. rails_at rails (column - first)) columns →
     values_of a rails v ≡ bits values → values_of a list v ≡ bits (inputs_at (model_of net first columns) values)
 inputs-values a net columns first rails list values v within is are =
-    ap (λ (l : List Rails). values_of a l v) is
-    ∙ map-map {C = Trit} (λ r. value_of a r v) (λ column. rails_at rails (column - first)) columns
-    ∙ map_agree (λ column. value_of a (rails_at rails (column - first)) v) (λ column. bit (get_or values (column - first) false)) columns
-    (λ k d less.
-    let place : ℕ = get_or columns k d - first in
-    let inside : place < length rails = within k d less in
     let long : length rails ≡ length values = sym (length-map rails (λ (r : Rails). value_of a r v)) ∙ ap length are ∙ length-map values bit in
-    value_at-place a rails place v inside
-    ∙ ap (λ (ts : List Trit). get_or ts place X) are
-    ∙ get_or-map bit values place false X (omega (arith, inside, long)))
-    ∙ sym (map-map {C = Trit} bit (λ column. get_or values (column - first) false) columns)
+    inputs-read a net columns first rails list within is v ∙ ap (read_by (model_of net first columns)) are
+    ∙ read-bits (model_of net first columns) values (record { each = λ k d less. let low = within k d less in omega (arith, low, long) })
 
 pub inputs-proper : (a : Arena) (columns : List ℕ) (first : ℕ) (rails list : List Rails) → All (AreRailsOf a) rails →
     list ≡ map (λ column. rails_at rails (column - first)) columns → All (AreRailsOf a) list
 inputs-proper a columns first rails list proper is = subst (All (AreRailsOf a)) (sym is)
     (All-map (AreRailsOf a) (λ column. rails_at rails (column - first)) columns (λ k d less. rails_at-proper a rails proper (slice_index_or columns k d - first)))
 
--- what those of some columns read is what the model reads of all
+-- so they cost what the model works with
 pub inputs-bounded : (a : Arena) (net : Parts) (columns : List ℕ) (first : ℕ) (rails list : List Rails) →
     All (λ column. column - first < length rails) columns → list ≡ map (λ column. rails_at rails (column - first)) columns → {w : ℕ} →
     BoundsEach a.vars (IsOfModel (model_of net first columns) (values_of a rails)) w → BoundsEach a.vars (IsGatePart net no_loops (values_of a list)) w
-inputs-bounded a net columns first rails list within is {w} bounds = subst (λ v. BoundsEach a.vars (IsGatePart net no_loops v) w) (sym (fun_ext reads)) bounds
-  where
-    reads : (v : List Bool) → values_of a list v ≡ read_by (model_of net first columns) (values_of a rails v)
-    reads v =
-        ap (λ (l : List Rails). values_of a l v) is
-        ∙ map-map {C = Trit} (λ r. value_of a r v) (λ column. rails_at rails (column - first)) columns
-        ∙ map_agree (λ column. value_of a (rails_at rails (column - first)) v) (λ column. get_or (values_of a rails v) (column - first) X) columns
-        (λ k d less. value_at-place a rails (get_or columns k d - first) v (within k d less))
+inputs-bounded a net columns first rails list within is {w} bounds =
+    subst (λ v. BoundsEach a.vars (IsGatePart net no_loops v) w) (sym (fun_ext (inputs-read a net columns first rails list within is))) bounds
 
 -- so the output's first rail tells whether the model holds
 pub output-holds : (a : Arena) (net : Parts) (columns : List ℕ) (first : ℕ) (wires : List Rails) (none : Sig) (values v : List Bool) →

@@ -1,11 +1,11 @@
 -- Why a decision finds the diagrams full.
 use Rattle.std.proofs.Common.{◌≡◌, inl, inr, ◌≤◌, ℕ, Err, Result, length, subst, ◌∙◌, arith}
-use Rattle.verdict.proofs.Common.{StoreFault, Arena, AddsWithin, adds_more, IsWide, Parts, CareSet, columns, decision_cost, IsLaid, IsFullFor}
+use Rattle.verdict.proofs.Common.{StoreFault, Arena, AddsWithin, adds_more, IsWide, Parts, CareSet, columns, decision_cost, IsLaid, IsFullFor, HasCoverOver}
 use Rattle.bdd_store.specs.declared.fault.StoreFault.TheVariants.{Full}
 use Rattle.dual_rail.proofs.WidthLemmas.{IsWide-some}
-use Rattle.verdict.specs.Causes.{HasCoverOver, IsStoreFor, IsOutOfNodes}
+use Rattle.verdict.specs.Causes.{IsStoreFor, IsOutOfNodes}
 use Rattle.verdict.specs.Enough.{IsBelowEnough}
-use Rattle.verdict.proofs.EnoughLemmas.{costs-enough, over-net, over-model}
+use Rattle.verdict.proofs.EnoughLemmas.{costs-enough, over-cover}
 
 -- after so many functions of the decision
 pub full_for : {T : Type 0} {r : Result T StoreFault} {old new : Arena} {net : Parts} {care : CareSet} {n : ℕ} → IsStoreFor new net old.limit → n ≤ decision_cost net care →
@@ -30,7 +30,7 @@ below_enough {old} {new} {net} {care} {limit} most none is =
     let store : IsStoreFor new net old.limit = is.store in
     record {
       below = λ w wide. elim (is.cause w wide) [
-        | inl over ↦ elim (subst (HasCoverOver net care) most over) [ inl large ↦ over-net net care w limit wide large | inr large ↦ over-model net care w limit wide large ]
+        | inl over ↦ over-cover net care w limit wide (subst (HasCoverOver net care) most over)
         | inr past ↦ omega (arith, past.past, none, most, store.most, costs-enough net care w wide)
       ];
     }

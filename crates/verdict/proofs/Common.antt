@@ -10,12 +10,11 @@ unfoldable pub use Rattle.bdd_store.specs.Subfunctions.{nodes}
 pub use Rattle.bdd_store.specs.declared.fault.StoreFault.{StoreFault}
 pub use Rattle.bdd_store.specs.declared.node.Node.{Node}
 pub use Rattle.care_sets.specs.Binding.{IsCareOf}
-pub use Rattle.care_sets.specs.Care.{CareSet, IsCareVector, columns, holds_at, is_care_vector, is_in_invariant, is_one, state_of}
+pub use Rattle.care_sets.specs.Care.{CareSet, IsCareVector, columns, holds_at, is_care_vector, is_in_invariant, is_one, state_of, HasValues}
 pub use Rattle.care_sets.specs.declared.model.CareModel.{CareModel}
 pub use Rattle.clause_decision.specs.Changes.{AreFedKnown}
 pub use Rattle.clause_decision.specs.Sweeping.{IsLeastCount}
-pub use Rattle.clause_decision.specs.Tests.{is_unknown_at}
-pub use Rattle.clause_queries.specs.Vectors.{IsFirstOf}
+pub use Rattle.clause_decision.specs.Tests.{is_unknown_at, is_leaving}
 pub use Rattle.cyc_base.specs.Values.{bit, bits}
 pub use Rattle.cyc_base.specs.Vectors.{vectors}
 pub use Rattle.cyc_base.specs.declared.sig.Sig.{Sig}
@@ -59,22 +58,23 @@ pub use Rattle.refusals.specs.declared.observe.Observe.{Observe}
 pub use Rattle.refusals.specs.declared.refusal.Refusal.{Refusal}
 pub use Rattle.refusals.specs.declared.refusal.Refusal.TheVariants.{EmptyCare, Initial, Leaves, Undetermined}
 pub use Rattle.std.proofs.lemmas.Bool.{and_from, and_parts, cases_lt, eqb-true}
-pub use Rattle.std.proofs.lemmas.List.{get_or-map, get_or-replicate, get_or_append_left, get_or_default, get_or_past, length-drop, length-map, length_push, take_all, take_at}
-pub use Rattle.std.proofs.lemmas.Option.{get_or_from_slice_get}
+pub use Rattle.std.proofs.lemmas.List.{get_or-map, get_or-replicate, get_or_append_left, get_or_default, get_or_past, length-drop, length-map, length_push, take_all, take_at, length-replicate}
+pub use Rattle.std.proofs.lemmas.Option.{get_or_from_slice_get, slice_get_within}
 pub use Rattle.std.proofs.lemmas.Result.{IfOk-weaker}
-pub use Rattle.std.specs.List.{list_all}
+pub use Rattle.std.specs.List.{list_all, All}
 pub use Rattle.std.specs.Option.{option_map, option_map_or, option_or}
-pub use Rattle.std.specs.Prelude.{IsSomeAnd, find, is_none, is_some}
+pub use Rattle.std.specs.Prelude.{IsSomeAnd, find, is_none, is_some, IfSome}
 pub use Rattle.verdict.specs.Fanout.{AreFanoutMarks}
-pub use Rattle.verdict.specs.Causes.{HasModelOver}
+pub use Rattle.verdict.specs.Causes.{HasModelOver, HasCoverOver}
 pub use Rattle.verdict.specs.Costs.{assume_effort, decision_cost, invariant_effort, start_cost}
-pub use Rattle.verdict.specs.Determination.{AreCountsBelow, SettleInOneSweep}
+pub use Rattle.verdict.specs.Determination.{SettleInOneSweep}
 pub use Rattle.verdict.specs.Enough.{AddsInDecision, BoundsModel, GrowsInDecision, IsFullFor, IsLaid, IsOfModel, SaysCare, read_by}
-pub use Rattle.verdict.specs.Loose.{AreLoopCounts, AreScattered, AreUnknownMarks}
-pub use Rattle.verdict.specs.Next.{BoundsSignals, next_within}
+pub use Rattle.verdict.specs.Loose.{AreLoopCounts, AreScattered, AreUnknownMarks, AreCandidates}
+pub use Rattle.verdict.specs.Next.{next_within}
 pub use Rattle.verdict.specs.Observed.{AreMarksOf}
-pub use Rattle.verdict.specs.Scopes.{AreCountsAt, AreDriversBefore, MayGoOn}
+pub use Rattle.verdict.specs.Scopes.{AreDriversBefore, MayGoOn}
 pub use Rattle.verdict.specs.Sets.{AreFixed, BoundsBoth, BoundsStarts, ReadsWithin, Tells, difference, has_state_inside, model_of, starts}
 pub use Rattle.verdict.specs.Solving.{AreColumnVectors}
-pub use Rattle.verdict.specs.Unknown.{AreAsked}
 pub use Rattle.verdict.specs.Verdicts.{AreLoose, are_care_values}
+pub use Rattle.verdict.specs.Unknown.{IsFirstToRefuse}
+pub use Rattle.isolation.specs.Settled.{SettleInSweeps}

@@ -1,6 +1,6 @@
 -- Numbers of sweeps on the vectors of a care set.
 use Rattle.std.proofs.Common.{◌≡◌, ◌==◌, ℕ, zero, suc, ◌<◌, ◌≤◌, Bool, true, false, not, ◌&&◌, if◌then◌else◌, List, [], ◌∷◌, length, map, get_or, slice_get, Option, Some, None, refl, sym, ap, ap₂, ◌∙◌, subst, arith}
-use Rattle.verdict.proofs.Common.{list_all, option_map_or, and_parts, and_from, eqb-true, length-map, Node, Arena, den, IsLayout, Trit, X, bit, bits, Rails, trit_of, value_of, values_of, Parts, Loops, IsCountOfSweeps, map_agree, CareSet, columns, is_one, is_care_vector, is_x, Tells, AreColumnVectors, AreColumns, order, laid, by_column, length-by_column, variables-back, order-is, Vectors, are_care_values}
+use Rattle.verdict.proofs.Common.{list_all, option_map_or, and_parts, and_from, eqb-true, length-map, Node, Arena, den, IsLayout, Trit, X, bit, bits, Rails, trit_of, value_of, values_of, Parts, Loops, IsCountOfSweeps, map_agree, CareSet, columns, is_one, is_care_vector, is_x, Tells, AreColumnVectors, AreColumns, order, laid, by_column, length-by_column, variables-back, order-is, Vectors, are_care_values, IsCareVector, care_vector_decides, care_vector_is}
 use Rattle.std.proofs.lemmas.Bool.{eq-eqb}
 use Rattle.bdd_store.specs.declared.node.Entry.{Entry}
 use Rattle.bdd_store.specs.Arena.{index, is_marked, flipped, chosen, den_within}
@@ -84,6 +84,22 @@ pub care-values : (net : Parts) (care : CareSet) (w : List Bool) → length w �
 care-values net care w wide counts =
     and_from _ _ (bits-known w) (and_from _ _ (eq-eqb (length (bits w)) (columns net) (length-bits w ∙ wide)) (ap (is_care_vector net care) (bits_back w) ∙ counts))
 
+-- values of a care vector as one
+pub record IsBitsOf (net : Parts) (care : CareSet) (v : List Trit) : Type 0 where
+  pub vector : List Bool
+  pub is : v ≡ bits vector
+  pub counts : IsCareVector net care vector
+
+pub bits-of-care : (net : Parts) (care : CareSet) (v : List Trit) → are_care_values net care v ≡ true → IsBitsOf net care v
+bits-of-care net care v is =
+    let first = and_parts (list_all (λ value. not (is_x value)) v) (length v == columns net && is_care_vector net care (map is_one v)) is in
+    let second = and_parts (length v == columns net) (is_care_vector net care (map is_one v)) first.1 in
+    record {
+      vector = map is_one v;
+      is = known-bits v first.0;
+      counts = care_vector_decides net care (map is_one v) (length-map v is_one ∙ eqb-true (length v) (columns net) second.0) second.1;
+    }
+
 -- a number of sweeps on the vectors of a set is one on care
 pub count-on-care : (net : Parts) (care : CareSet) (loops : Loops) (a : Arena) (points : Vectors) (set : Node) (gate k : ℕ) → IsSound a.vars a.entries → AreColumnVectors net points → a.vars ≡ columns net →
     Tells net a set (is_care_vector net care) →
@@ -92,11 +108,9 @@ pub count-on-care : (net : Parts) (care : CareSet) (loops : Loops) (a : Arena) (
     IsCountOfSweeps net loops (are_care_values net care) gate k
 count-on-care net care loops a points set gate k sound are vars told enough least = record {
   enough = λ v is.
-      let first = and_parts (list_all (λ value. not (is_x value)) v) (length v == columns net && is_care_vector net care (map is_one v)) is in
-      let second = and_parts (length v == columns net) (is_care_vector net care (map is_one v)) first.1 in
-      let w : List Bool = map is_one v in
-      let wide : length w ≡ a.vars = length-map v is_one ∙ eqb-true (length v) (columns net) second.0 ∙ sym vars in
-      subst (λ (u : List Trit). CutsAreFixed net loops u gate k) (are.laid_are w (wide ∙ vars) ∙ sym (known-bits v first.0)) (enough (laid net w) (told.value w wide ∙ second.1));
+      let b = bits-of-care net care v is in
+      subst (λ (u : List Trit). CutsAreFixed net loops u gate k) (are.laid_are b.vector b.counts.width ∙ sym b.is)
+      (enough (laid net b.vector) (told.value b.vector (b.counts.width ∙ sym vars) ∙ care_vector_is net care b.vector b.counts));
   least = λ j fixed. least j (λ bs is.
       let u : List Bool = fit a.vars bs in
       let layout : IsLayout a.vars (order net) = subst (λ n. IsLayout n (order net)) (sym vars) (order-is net) in

@@ -1,6 +1,8 @@
 -- Functions that are made of those of a decision.
-use Rattle.std.proofs.Common.{◌≡◌, inl, inr, ℕ, ◌<◌, ◌≤◌, Bool, true, false, not, ◌&&◌, ◌⊎◌, List, length, refl, sym, ap, ap₂, subst, ◌∙◌, arith}
-use Rattle.verdict.proofs.Common.{Node, Arena, den, KeepsNodes, nodes, nodes-alike, Trit, bit, bits, Rails, AreRailsOf, value_of, IsWide, is_bit, Parts, fix, count, value_in, order, laid, rails_at, one-of, zero-of, by_column, length-by_column, variables-back, order-is, rails_at-proper, CareSet, columns, is_care_vector, is_x, IsLaid, SaysCare, BoundsSignals, Tells, AreFixed, BoundsStarts, starts, has_state_inside, difference}
+use Rattle.std.proofs.Common.{◌≡◌, inl, inr, ℕ, ◌+◌, ◌<◌, ◌≤◌, Result, Bool, true, false, not, ◌&&◌, ◌⊎◌, List, length, refl, sym, ap, ap₂, subst, ◌∙◌, arith}
+use Rattle.verdict.proofs.Common.{Node, StoreFault, Arena, den, KeepsNodes, adds_moved, within_then, within_moved, conjunction, nodes, nodes-alike, Trit, bit, bits, Rails, AreRailsOf, value_of, IsWide, is_bit, Parts, fix, count, value_in, order, laid, rails_at, one-of, zero-of, by_column, length-by_column, variables-back, order-is, rails_at-proper, CareSet, columns, is_care_vector, IsLaid, AddsInDecision, GrowsInDecision, SaysCare, Tells, AreFixed, BoundsBoth, BoundsStarts, starts, has_state_inside, difference}
+use Rattle.bdd_store.proofs.GrowthLemmas.{adds_caused}
+use Rattle.verdict.specs.Sets.{unknown_in}
 use Rattle.bdd_ops.specs.Operations.{bit_at}
 use Rattle.fixpoint.proofs.LayoutLemmas.{columns-back}
 use Rattle.verdict.specs.Enough.{IsOfDecision, IsColumn, SaysStart, SaysInside, IsOfNetlist}
@@ -23,6 +25,13 @@ IsMade net care g = IsMadeOf net care (λ v. g (laid net v))
 pub made-listed : {net : Parts} {care : CareSet} {f h : List Bool → Bool} → IsOfDecision net care f → ((v : List Bool) → length v ≡ columns net → h v ≡ f v) → IsMadeOf net care h
 made-listed {f = f} is same = record { of = f; listed = is; by = λ x. x; same = same }
 
+-- the same function in other words
+pub made-same : {net : Parts} {care : CareSet} {g h : List Bool → Bool} → ((v : List Bool) → length v ≡ columns net → h v ≡ g v) → IsMadeOf net care g → IsMadeOf net care h
+made-same same m = record { of = m.of; listed = m.listed; by = m.by; same = λ v long. same v long ∙ m.same v long }
+
+pub made-constant : {net : Parts} {care : CareSet} {h : List Bool → Bool} (b : Bool) → ((v : List Bool) → h v ≡ b) → IsMadeOf net care h
+made-constant {net} {care} b is = record { of = is_care_vector net care; listed = SaysCare (λ v. refl); by = λ t. b; same = λ v long. is v }
+
 -- a vector by variable is one by column, laid out
 pub vector_of : Parts → List Bool → List Bool
 vector_of net u = by_column (order net) u
@@ -40,7 +49,7 @@ unfolding vector_of
 vector_of-laid net v wide = columns-back (columns net) (order net) (order-is net) v wide
 
 pub made-laid : {net : Parts} {care : CareSet} {h : List Bool → Bool} → IsMadeOf net care h → IsMade net care (λ u. h (vector_of net u))
-made-laid {net} {h = h} x = record { of = x.of; listed = x.listed; by = x.by; same = λ v long. ap h (vector_of-laid net v long) ∙ x.same v long }
+made-laid {net} {h = h} x = made-same (λ v long. ap h (vector_of-laid net v long)) x
 
 made-at : {net : Parts} {care : CareSet} (g : List Bool → Bool) (x : IsMade net care g) (u : List Bool) → length u ≡ columns net → g u ≡ x.by (x.of (vector_of net u))
 made-at {net} g x u long = ap g (sym (laid-vector_of net u long)) ∙ x.same (vector_of net u) (length-vector_of net u)
@@ -63,6 +72,15 @@ made-wide {net} {care} {w} wide = record {
 
 pub wide-kept : {net : Parts} {care : CareSet} {s t : Arena} {w : ℕ} → KeepsNodes s t → IsWide s.vars (IsLaid net care) w → IsWide t.vars (IsLaid net care) w
 wide-kept {net} {care} {w = w} keeps wide = subst (λ n. IsWide n (IsLaid net care) w) (sym keeps.vars) wide
+
+-- a part of a decision, and another after it
+pub decision-then : {T U : Type 0} {r : Result T StoreFault} {q : Result U StoreFault} {s t u : Arena} {net : Parts} {care : CareSet} {m n : ℕ} →
+    GrowsInDecision r s t net care m → GrowsInDecision q t u net care n → GrowsInDecision q s u net care (m + n)
+decision-then first after = within_then first (within_moved (λ w wide. wide-kept first.keeps wide) after)
+
+-- what it adds, by the netlist's columns
+pub decision-adds : {T : Type 0} {r : Result T StoreFault} {s t : Arena} {net : Parts} {care : CareSet} {n : ℕ} → s.vars ≡ columns net → GrowsInDecision r s t net care n → AddsInDecision r s t net care n
+decision-adds {net = net} {care} vars grows = adds_caused (λ over. inr over) (adds_moved (λ w wide. subst (λ k. IsWide k (IsLaid net care) w) (sym vars) wide) grows.adds)
 
 -- three of them, two, and one
 
@@ -106,45 +124,43 @@ module _ (net : Parts) (care : CareSet) where
   pub made-signal : (signal : ℕ) → signal < count net → (b : Bool) → IsMadeOf net care (λ v. is_bit b (value_in (fix net (bits v)) signal))
   made-signal signal within b = made-working (signal-is net signal within b)
 
-  pub signals-bounded : (a : Arena) (set : Node) {w : ℕ} → a.vars ≡ columns net → Tells net a set (is_care_vector net care) → IsWide a.vars (IsLaid net care) w → BoundsSignals net a set w
-  signals-bounded a set vars told wide signal b within g is =
-      made-two vars wide (λ p q. p && q) (den a set) (λ u. is_bit b (value_in (fix net (bits (vector_of net u))) signal)) g
-      (made-told vars (SaysCare (λ v. refl)) told) (made-laid (made-signal signal within b))
-      (λ u long.
-      let v : List Bool = vector_of net u in
-      let back : laid net v ≡ u = laid-vector_of net u (long ∙ vars) in
-      ap g (sym back) ∙ is v (length-vector_of net u ∙ sym vars) ∙ ap (λ x. den a set x && is_bit b (value_in (fix net (bits v)) signal)) back)
-
   -- and the rails that stand for them
 
   module _ (a : Arena) (rails : List Rails) (vars : a.vars ≡ columns net) (fixed : AreFixed net a rails) (signal : ℕ) (within : signal < count net) where
-    signal-value : (v : List Bool) → length v ≡ columns net → value_of a (rails_at rails signal) (laid net v) ≡ value_in (fix net (bits v)) signal
+    pub signal-value : (v : List Bool) → length v ≡ columns net → value_of a (rails_at rails signal) (laid net v) ≡ value_in (fix net (bits v)) signal
     signal-value v long =
         let wide = fixed.width in
         value_at-place a rails signal (laid net v) (omega (arith, wide, within)) ∙ ap (λ (ts : List Trit). value_in ts signal) (fixed.values v (long ∙ sym vars))
 
-    pub made-one_rail : IsMade net care (den a (rails_at rails signal).one)
-    made-one_rail =
-        let r : Rails = rails_at rails signal in
-        let m = made-signal signal within true in
-        record { of = m.of; listed = m.listed; by = m.by; same = λ v long. sym (one-of (den a r.one (laid net v)) (den a r.zero (laid net v))) ∙ ap (is_bit true) (signal-value v long) ∙ m.same v long }
+    abbrev signal_rails : Rails
+    signal_rails = rails_at rails signal
 
-    pub made-zero_rail : IsMade net care (den a (rails_at rails signal).zero)
+    made-rail : (b : Bool) (node : Node) → ((v : List Bool) → den a node v ≡ is_bit b (value_of a signal_rails v)) → IsMade net care (den a node)
+    made-rail b node says = made-same (λ v long. says (laid net v) ∙ ap (is_bit b) (signal-value v long)) (made-signal signal within b)
+
+    made-one_rail : IsMade net care (den a signal_rails.one)
+    made-one_rail = made-rail true signal_rails.one (λ v. sym (one-of (den a signal_rails.one v) (den a signal_rails.zero v)))
+
+    made-zero_rail : IsMade net care (den a signal_rails.zero)
     made-zero_rail =
-        let r : Rails = rails_at rails signal in
-        let proper : AreRailsOf a r = rails_at-proper a rails fixed.proper signal in
-        let m = made-signal signal within false in
-        record { of = m.of; listed = m.listed; by = m.by; same = λ v long. sym (zero-of (den a r.one (laid net v)) (den a r.zero (laid net v)) (proper.proper (laid net v))) ∙ ap (is_bit false) (signal-value v long) ∙ m.same v long }
+        let proper : AreRailsOf a signal_rails = rails_at-proper a rails fixed.proper signal in
+        made-rail false signal_rails.zero (λ v. sym (zero-of (den a signal_rails.one v) (den a signal_rails.zero v) (proper.proper v)))
 
-    -- where one is unknown in a set
     module _ (set : Node) (told : Tells net a set (is_care_vector net care)) {w : ℕ} (wide : IsWide a.vars (IsLaid net care) w) where
-      pub open-fits : nodes a.vars (difference a set (rails_at rails signal).one) ≤ w
-      open-fits =
-          made-two vars wide (λ p q. p && not q) (den a set) (den a (rails_at rails signal).one) (difference a set (rails_at rails signal).one)
-          (made-told vars (SaysCare (λ v. refl)) told) made-one_rail (λ v long. refl)
+      made-set : IsMade net care (den a set)
+      made-set = made-told vars (SaysCare (λ v. refl)) told
 
-      pub unknown-fits : nodes a.vars (λ v. den a set v && is_x (value_of a (rails_at rails signal) v)) ≤ w
-      unknown-fits =
-          let r : Rails = rails_at rails signal in
-          made-three vars wide (λ p q o. (p && not q) && not o) (den a set) (den a r.one) (den a r.zero) (λ v. den a set v && is_x (value_of a r v))
-          (made-told vars (SaysCare (λ v. refl)) told) made-one_rail made-zero_rail (λ v long. sym (unknown-values (den a set v) (den a r.one v) (den a r.zero v)))
+      -- where one is unknown on care
+      pub unknown-bounded : BoundsBoth a.vars (difference a set signal_rails.one) (unknown_in a set signal_rails) w
+      unknown-bounded = record {
+        first = made-two vars wide (λ p q. p && not q) (den a set) (den a signal_rails.one) (difference a set signal_rails.one) made-set made-one_rail (λ v long. refl);
+        second = made-three vars wide (λ p q o. (p && not q) && not o) (den a set) (den a signal_rails.one) (den a signal_rails.zero) (unknown_in a set signal_rails) made-set made-one_rail made-zero_rail
+            (λ v long. sym (unknown-values (den a set v) (den a signal_rails.one v) (den a signal_rails.zero v)));
+      }
+
+      -- where one is 1 there, and where it is 0
+      pub known-bounded : BoundsBoth a.vars (conjunction a set signal_rails.one) (conjunction a set signal_rails.zero) w
+      known-bounded = record {
+        first = made-two vars wide (λ p q. p && q) (den a set) (den a signal_rails.one) (conjunction a set signal_rails.one) made-set made-one_rail (λ v long. refl);
+        second = made-two vars wide (λ p q. p && q) (den a set) (den a signal_rails.zero) (conjunction a set signal_rails.zero) made-set made-zero_rail (λ v long. refl);
+      }

@@ -1,13 +1,13 @@
 -- What a decision costs, added up, and covers over the limit.
 use Rattle.std.proofs.Common.{inl, inr, ℕ, ◌+◌, ◌*◌, ◌<◌, ◌≤◌, Option, Some, None, length, arith}
-use Rattle.verdict.proofs.Common.{IsSomeAnd, option_map_or, IsWide, Parts, HasLargeCover, effort, CareModel, CareSet, columns, HasModelOver, assume_effort, invariant_effort, decision_cost, IsLaid}
+use Rattle.verdict.proofs.Common.{IsSomeAnd, option_map_or, IsWide, Parts, HasLargeCover, effort, CareModel, CareSet, columns, assume_effort, invariant_effort, decision_cost, IsLaid, HasCoverOver}
 use Rattle.std.proofs.lemmas.List.Sums.{get_or-le-sum_by}
-use Rattle.std.proofs.Math.Nat.{mul-le-mul_left, mul-le-mul_right}
-use Rattle.isolation.proofs.WidthLemmas.{gates-effort}
+use Rattle.std.proofs.Math.Nat.{mul-le-mul_left}
+use Rattle.isolation.proofs.WidthLemmas.{effort-enough, gates-effort}
 use Rattle.dual_rail.specs.Local.{size}
 use Rattle.netlist.specs.declared.parts.Gate.{Gate}
 use Rattle.netlist.specs.Netlists.{no_gate}
-use Rattle.verdict.specs.Enough.{enough}
+use Rattle.verdict.specs.Enough.{enough, in_all}
 
 -- ---- the sum
 
@@ -41,25 +41,12 @@ pub model-effort : (o : Option CareModel) (limit : ℕ) → IsSomeAnd o (λ mode
 model-effort None limit is = absurd is
 model-effort (Some model) limit is = large-effort model.net limit is
 
-effort-enough : (limit x e w gates v : ℕ) → limit < x → x ≤ e → v + 1 ≤ w → limit < 16 * w * (gates + 2) * (e + v + 4)
-effort-enough limit x e w gates v less within wide =
-    let one : 1 * e ≤ w * e = mul-le-mul_right {m = 1} {n = w} e (omega (arith, wide)) in
-    omega (arith, less, within, wide, one)
-
-pub over-net : (net : Parts) (care : CareSet) (w limit : ℕ) → IsWide (columns net) (IsLaid net care) w → HasLargeCover net limit → limit < enough net care w
-over-net net care w limit wide is =
-    effort-enough limit (effort net) (effort net + (assume_effort care + invariant_effort care)) w
-    (length net.gates + (option_map_or (λ model. length model.net.gates) care.assume 0 + option_map_or (λ model. length model.net.gates) care.invariant 0))
-    (columns net) (large-effort net limit is) (omega arith) wide.variables
-
-pub over-model : (net : Parts) (care : CareSet) (w limit : ℕ) → IsWide (columns net) (IsLaid net care) w → HasModelOver care limit → limit < enough net care w
-over-model net care w limit wide is = elim is [
-  | inl over ↦ by (assume_effort care) (model-effort care.assume limit over) (omega arith)
-  | inr over ↦ by (invariant_effort care) (model-effort care.invariant limit over) (omega arith)
-]
+pub over-cover : (net : Parts) (care : CareSet) (w limit : ℕ) → IsWide (columns net) (IsLaid net care) w → HasCoverOver net care limit → limit < enough net care w
+over-cover net care w limit wide is =
+    effort-enough limit (in_all effort net care) w (in_all (λ n. length n.gates) net care) (columns net) below wide.variables
   where
-    by : (x : ℕ) → limit < x → x ≤ effort net + (assume_effort care + invariant_effort care) → limit < enough net care w
-    by x less within =
-        effort-enough limit x (effort net + (assume_effort care + invariant_effort care)) w
-        (length net.gates + (option_map_or (λ model. length model.net.gates) care.assume 0 + option_map_or (λ model. length model.net.gates) care.invariant 0))
-        (columns net) less within wide.variables
+    below : limit < in_all effort net care
+    below = elim is [
+      | inl over ↦ omega (arith, large-effort net limit over)
+      | inr models ↦ elim models [ inl over ↦ omega (arith, model-effort care.assume limit over) | inr over ↦ omega (arith, model-effort care.invariant limit over) ]
+    ]

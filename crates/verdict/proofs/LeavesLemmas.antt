@@ -1,21 +1,20 @@
 -- The invariant on the next state, as a function of the decision.
-use Rattle.std.proofs.Common.{◌≡◌, inl, inr, ℕ, ◌-◌, ◌≤◌, Bool, true, false, not, ◌&&◌, if◌then◌else◌, List, [], ◌∷◌, length, map, get_or, Option, Some, None, refl, sym, ap, ◌∙◌, arith}
+use Rattle.std.proofs.Common.{◌≡◌, inl, inr, ℕ, ◌-◌, ◌<◌, ◌≤◌, Bool, true, false, not, ◌&&◌, if◌then◌else◌, List, [], ◌∷◌, length, map, get_or, Option, Some, None, refl, sym, ap, ◌∙◌, arith}
 use Rattle.std.specs.Prelude.{replicate}
-use Rattle.verdict.proofs.Common.{option_map_or, cases_lt, get_or-map, get_or_past, get_or_append_left, length-map, Node, Arena, den, nodes, Sig, Trit, X, bit, bits, IsWide, is_bit, Latch, Parts, wire, fix, fix_gates, next, IsNetlist, value_in, map_agree, laid, CareModel, IsCareOf, CareSet, columns, is_one, holds_at, is_in_invariant, is_care_vector, next_state, care_vector_decides, read_by, IsOfModel, IsLaid, SaysCare, next_within, Tells, difference}
+use Rattle.verdict.proofs.Common.{option_map_or, cases_lt, get_or-map, get_or_past, get_or_append_left, length-map, Node, Arena, den, nodes, Sig, Trit, X, bit, bits, IsWide, is_bit, Latch, Parts, wire, fix, fix_gates, next, IsNetlist, value_in, laid, CareModel, IsCareOf, CareSet, columns, is_one, holds_at, is_in_invariant, is_care_vector, leaves, next_state, care_vector_decides, read_by, IsOfModel, IsLaid, SaysCare, next_within, Tells, difference, HasValues}
 use Rattle.cyc_base.specs.declared.trit.Trit.TheVariants.{Zero, One}
-use Rattle.cyc_base.proofs.ListLemmas.{map-map}
 use Rattle.netlist.specs.declared.parts.Init.TheVariants as inits
 use Rattle.netlist.specs.Fixpoint.{outs}
 use Rattle.netlist.proofs.FixpointLemmas.{get_or-fix, length-fix_gates}
 use Rattle.loops.proofs.Reading.{wire_of_gate}
 use Rattle.fixpoint.specs.Working.{read_at_fix}
-use Rattle.care_sets.specs.Care.{inputs_at, HasValues}
 use Rattle.care_sets.proofs.CareLemmas.{states_serve_invariant}
 use Rattle.refusals.proofs.RefusalLemmas.{next_state_is, length-next_state}
 use Rattle.verdict.specs.Enough.{IsOfNext}
 use Rattle.clause_decision.specs.Loads.{LoadsAreKnown}
-use Rattle.verdict.proofs.CareLemmas.{model_is}
-use Rattle.verdict.proofs.DecisionLemmas.{IsMadeOf, vector_of, length-vector_of, laid-vector_of, made-laid, made-listed, made-told, made-two, made-signal}
+use Rattle.verdict.proofs.CareLemmas.{model_is, read-bits}
+use Rattle.verdict.proofs.DecisionLemmas.{IsMadeOf, vector_of, length-vector_of, laid-vector_of, made-constant, made-laid, made-listed, made-same, made-two, made-signal}
+use Rattle.verdict.proofs.PartLemmas.{leaving-value}
 use Rattle.verdict.proofs.WorkLemmas.{there_and}
 
 -- what latches load at a vector of the set
@@ -30,10 +29,10 @@ module _ (net : Parts) (care : CareSet) where
   IsKnown x = (b : Bool) → IsMadeOf net care (λ v. is_bit b (x v))
 
   known-same : (x y : List Bool → Trit) → ((v : List Bool) → y v ≡ x v) → IsKnown x → IsKnown y
-  known-same x y same known b = let m = known b in record { of = m.of; listed = m.listed; by = m.by; same = λ v long. ap (is_bit b) (same v) ∙ m.same v long }
+  known-same x y same known b = made-same (λ v long. ap (is_bit b) (same v)) (known b)
 
   unknown : (x : List Bool → Trit) → ((v : List Bool) → x v ≡ X) → IsKnown x
-  unknown x is b = record { of = is_care_vector net care; listed = SaysCare (λ v. refl); by = λ t. is_bit b X; same = λ v long. ap (is_bit b) (is v) }
+  unknown x is b = made-constant (is_bit b X) (λ v. ap (is_bit b) (is v))
 
   module _ (valid : IsNetlist net) (model : CareModel) (there : care.invariant ≡ Some model) where
     -- what the model reads
@@ -46,38 +45,37 @@ module _ (net : Parts) (care : CareSet) where
     abbrev no_latch : Latch
     no_latch = record { name = []; from = record { 0 = 0 }; init = inits.Zero; clocked = false }
 
-    next-known : (place : ℕ) → IsKnown (λ v. get_or (next net (bits v)) place X)
-    next-known place = elim (cases_lt place (length net.latches)) [
-      | inl less ↦ known-same (λ v. value_in (fix net (bits v)) (get_or net.latches place no_latch).from.0) (λ v. get_or (next net (bits v)) place X)
-          (λ v. get_or-map (λ (l : Latch). wire (fix net (bits v)) l.from) net.latches place no_latch X less)
-          (λ b. made-signal net care (get_or net.latches place no_latch).from.0 (valid.sources place no_latch less) b)
-      | inr past ↦ unknown (λ v. get_or (next net (bits v)) place X)
-          (λ v. let long = length-map net.latches (λ (l : Latch). wire (fix net (bits v)) l.from) in get_or_past (next net (bits v)) place X (omega (arith, past, long)))
+    -- what a list has at each place, where it has so many
+    known-within : (xs : List Bool → List Trit) (n i : ℕ) → ((v : List Bool) → length (xs v) ≡ n) → (i < n → IsKnown (λ v. get_or (xs v) i X)) → IsKnown (λ v. get_or (xs v) i X)
+    known-within xs n i long inside = elim (cases_lt i n) [
+      | inl less ↦ inside less
+      | inr past ↦ unknown (λ v. get_or (xs v) i X) (λ v. let wide = long v in get_or_past (xs v) i X (omega (arith, past, wide)))
     ]
+
+    next-known : (place : ℕ) → IsKnown (λ v. get_or (next net (bits v)) place X)
+    next-known place = known-within (λ v. next net (bits v)) (length net.latches) place (λ v. length-map net.latches (λ (l : Latch). wire (fix net (bits v)) l.from)) (λ less.
+        known-same (λ v. value_in (fix net (bits v)) (get_or net.latches place no_latch).from.0) (λ v. get_or (next net (bits v)) place X)
+        (λ v. get_or-map (λ (l : Latch). wire (fix net (bits v)) l.from) net.latches place no_latch X less)
+        (λ b. made-signal net care (get_or net.latches place no_latch).from.0 (valid.sources place no_latch less) b))
 
     read-known : (i : ℕ) → IsKnown (λ v. value_in (reads v) i)
-    read-known i = elim (cases_lt i (length model.columns)) [
-      | inl less ↦ known-same (λ v. get_or (next net (bits v)) (get_or model.columns i 0 - model.first) X) (λ v. value_in (reads v) i)
-          (λ v. get_or-map (λ column. get_or (next net (bits v)) (column - model.first) X) model.columns i 0 X less)
-          (next-known (get_or model.columns i 0 - model.first))
-      | inr past ↦ unknown (λ v. value_in (reads v) i) (λ v. let long = width v in get_or_past (reads v) i X (omega (arith, past, long)))
-    ]
+    read-known i = known-within reads (length model.columns) i width (λ less.
+        known-same (λ v. get_or (next net (bits v)) (get_or model.columns i 0 - model.first) X) (λ v. value_in (reads v) i)
+        (λ v. get_or-map (λ column. get_or (next net (bits v)) (column - model.first) X) model.columns i 0 X less)
+        (next-known (get_or model.columns i 0 - model.first)))
 
     gate-known : (gate : ℕ) → IsKnown (λ v. value_in (fix_gates model.net (reads v)) gate)
-    gate-known gate = elim (cases_lt gate (length model.net.gates)) [
-      | inl less ↦ λ b. made-listed (IsOfNext (there_and care.invariant model (λ m. IsOfModel m (λ v. next net (bits v)) (λ v. is_bit b (value_in (fix_gates model.net (reads v)) gate))) there (record {
-        gate = gate;
-        within = less;
-        first = [];
-        short = omega arith;
-        bit = b;
-        read = λ v. read_at_fix model.net (reads v) gate;
-        reads = inr (record { plain = refl; is = λ v. refl });
-        same = λ v. ap (is_bit b) (get_or-fix model.net (reads v) gate less);
-      }))) (λ v long. refl)
-      | inr past ↦ unknown (λ v. value_in (fix_gates model.net (reads v)) gate)
-          (λ v. let long = length-fix_gates model.net (reads v) in get_or_past (fix_gates model.net (reads v)) gate X (omega (arith, past, long)))
-    ]
+    gate-known gate = known-within (λ v. fix_gates model.net (reads v)) (length model.net.gates) gate (λ v. length-fix_gates model.net (reads v)) (λ less b.
+        made-listed (IsOfNext (there_and care.invariant model (λ m. IsOfModel m (λ v. next net (bits v)) (λ v. is_bit b (value_in (fix_gates model.net (reads v)) gate))) there (record {
+          gate = gate;
+          within = less;
+          first = [];
+          short = omega arith;
+          bit = b;
+          read = λ v. read_at_fix model.net (reads v) gate;
+          reads = inr (record { plain = refl; is = λ v. refl });
+          same = λ v. ap (is_bit b) (get_or-fix model.net (reads v) gate less);
+        }))) (λ v long. refl))
 
     signal-known : (i : ℕ) → IsKnown (λ v. value_in (fix model.net (reads v)) i)
     signal-known i = elim (cases_lt i (length model.columns)) [
@@ -97,17 +95,9 @@ module _ (net : Parts) (care : CareSet) where
     one-bit Zero = refl
     one-bit X = refl
 
-    reads-bits : (q v : List Bool) → HasValues q model → next net (bits v) ≡ bits q → reads v ≡ bits (inputs_at model q)
-    reads-bits q v has same =
-        map_agree (λ column. get_or (next net (bits v)) (column - model.first) X) (λ column. bit (get_or q (column - model.first) false)) model.columns
-        (λ k d less.
-        ap (λ (ts : List Trit). get_or ts (get_or model.columns k d - model.first) X) same
-        ∙ get_or-map bit q (get_or model.columns k d - model.first) false X (has.each k d less))
-        ∙ sym (map-map {C = Trit} bit (λ column. get_or q (column - model.first) false) model.columns)
-
     holds-is : (q v : List Bool) → HasValues q model → next net (bits v) ≡ bits q → holds_at model q ≡ is_bit true (get_or (outs model.net (reads v)) 0 X)
     holds-is q v has same =
-        ap (λ (ts : List Trit). is_one (get_or (outs model.net ts) 0 X)) (sym (reads-bits q v has same))
+        ap (λ (ts : List Trit). is_one (get_or (outs model.net ts) 0 X)) (sym (ap (read_by model) same ∙ read-bits model q has))
         ∙ one-bit (get_or (outs model.net (reads v)) 0 X)
 
 -- ---- care vectors whose next state is not in the invariant
@@ -124,7 +114,7 @@ next-inside net care valid bound loads = by care.invariant refl
     by : (o : Option CareModel) → care.invariant ≡ o → IsNextInside net care
     by None none = record {
       of = λ v. true;
-      made = record { of = is_care_vector net care; listed = SaysCare (λ v. refl); by = λ t. true; same = λ v long. refl };
+      made = made-constant true (λ v. refl);
       same = λ v long counts. ap (λ p. option_map_or (λ model. holds_at model (next_state net v)) p true) none;
     }
     by (Some model) there = record {
@@ -142,16 +132,12 @@ pub leaves-fit : (net : Parts) (care : CareSet) (a : Arena) (set inside : Node) 
     nodes a.vars (difference a set inside) ≤ w
 leaves-fit net care a set inside valid bound loads vars told inside_is wide =
     let n = next-inside net care valid bound loads in
-    made-two vars wide (λ p q. p && not q) (den a set) (λ u. n.of (vector_of net u)) (difference a set inside) (made-told vars (SaysCare (λ v. refl)) told) (made-laid n.made)
+    made-two vars wide (λ p q. p && not q) (λ u. is_care_vector net care (vector_of net u)) (λ u. n.of (vector_of net u)) (difference a set inside)
+    (made-laid (made-listed (SaysCare (λ v. refl)) (λ v long. refl))) (made-laid n.made)
     (λ u long.
     let v : List Bool = vector_of net u in
-    let back : laid net v ≡ u = laid-vector_of net u (long ∙ vars) in
-    ap (difference a set inside) (sym back) ∙ by v (length-vector_of net u ∙ sym vars) n (den a set (laid net v)) refl ∙ ap (λ x. den a set x && not (n.of v)) back)
+    ap (difference a set inside) (sym (laid-vector_of net u (long ∙ vars))) ∙ leaving-value inside vars told loads inside_is v (length-vector_of net u ∙ sym vars) ∙ by n v (length-vector_of net u) (is_care_vector net care v) refl)
   where
-    by : (v : List Bool) → length v ≡ a.vars → (n : IsNextInside net care) → (b : Bool) → den a set (laid net v) ≡ b → (b && not (den a inside (laid net v))) ≡ (b && not (n.of v))
-    by v long n false is = refl
-    by v long n true is =
-        let wide_v : length v ≡ columns net = long ∙ vars in
-        let counts : is_care_vector net care v ≡ true = sym (told.value v long) ∙ is in
-        let state : next net (bits v) ≡ bits (next_state net v) = next_state_is net v (loads v (care_vector_decides net care v wide_v counts)) in
-        ap not (inside_is (next_state net v) v long is state ∙ n.same v wide_v counts)
+    by : (n : IsNextInside net care) (v : List Bool) → length v ≡ columns net → (b : Bool) → is_care_vector net care v ≡ b → (b && leaves net care v) ≡ (b && not (n.of v))
+    by n v long false is = refl
+    by n v long true is = ap not (n.same v long is)

@@ -16,7 +16,6 @@ mod MarkLemmas
 mod NextLemmas
 pub mod PartLemmas
 mod ScopeLemmas
-mod SearchLemmas
 pub mod SetLemmas
 pub mod SignalLemmas
 mod SizeLemmas

@@ -1,20 +1,19 @@
 -- Gates that are unknown on care where no observed one is, and the sweeps of loops where there are some.
-use Rattle.std.proofs.Common.{◌≡◌, ◌≢◌, inl, inr, ℕ, ◌+◌, ◌<◌, Bool, true, false, not, ◌↔◌, List, [], ◌∷◌, ◌++◌, length, Option, Some, None, refl, sym, ap, ap₂, ◌∙◌, subst, arith, Contains, true≢false}
-use Rattle.verdict.proofs.Common.{find, is_none, is_some, option_or, and_from, cases_lt, get_or_append_left, get_or_default, get_or_past, length_push, X, bits, vectors, Parts, IsNetlist, gate_sig, fix_gates, Feeds, Blocks, Cut, AreBlocksOf, block_at, home_of, IsCutOf, loops_by, value_in, IsCountOfSweeps, gate_home, home_gate, is_marked, ListsMarked, unsettled_loops_decide, CareSet, columns, is_care_vector, IsCareVector, Observe, Refusal, is_undetermined, is_x, leaves_refusal, refusal, none_passes, gate_wire, care_vector_is, AreFedKnown, IsLeastCount, is_unknown_at, SettleInOneSweep, AreLoopCounts, AreScattered, AreUnknownMarks, MayGoOn, are_care_values}
-use Rattle.std.proofs.lemmas.List.{get_or_push}
+use Rattle.std.proofs.Common.{◌≡◌, ◌≢◌, inl, inr, ℕ, ◌<◌, Bool, true, false, not, ◌↔◌, List, length, Option, Some, None, refl, sym, ap, ◌∙◌, subst, arith, Contains, true≢false}
+use Rattle.verdict.proofs.Common.{find, is_none, is_some, and_from, cases_lt, get_or_default, get_or_past, X, bits, vectors, Parts, IsNetlist, gate_sig, fix_gates, Blocks, Cut, AreBlocksOf, block_at, home_of, IsCutOf, loops_by, value_in, home_gate, is_marked, ListsMarked, unsettled_loops_decide, CareSet, columns, is_care_vector, IsCareVector, is_undetermined, is_x, none_passes, gate_wire, care_vector_is, AreFedKnown, IsLeastCount, is_unknown_at, SettleInOneSweep, AreLoopCounts, AreScattered, AreUnknownMarks, are_care_values, AreCandidates}
 use Rattle.loops.specs.declared.structure.SweepCounts.{SweepCounts}
 use Rattle.loops.proofs.Told.{blocks_tell_loops}
 use Rattle.isolation.proofs.CountLemmas.{one_sweep_is_exact}
 use Rattle.refusals.specs.Acceptance.{SomeCareVector}
 use Rattle.clause_decision.specs.Tests.{is_unknown, TellEachUnknown}
 use Rattle.verdict.specs.Fanout.{AreReached}
-use Rattle.verdict.specs.Loose.{AreCandidates, AreWithout, IsLooseNumber, IsLoopCount}
-use Rattle.verdict.specs.Verdicts.{AreSweepsOnCare, IsAcceptance}
+use Rattle.clause_decision.specs.Scopes.{AreKnownOnCare}
+use Rattle.verdict.specs.Loose.{AreKnownAround, AreWithout, IsLoopCount}
+use Rattle.verdict.specs.Verdicts.{AreSweepsOnCare}
 use Rattle.verdict.proofs.CountLemmas.{care-values}
-use Rattle.verdict.proofs.DeterminationLemmas.{determined-around, known-here, least-count}
-use Rattle.verdict.proofs.PartLemmas.{IsKnownOnCare}
+use Rattle.verdict.proofs.DeterminationLemmas.{determined-around, least-count}
+use Rattle.verdict.proofs.PartLemmas.{IsKnownOnCare, known-here}
 use Rattle.verdict.proofs.CandidateLemmas.{none-some}
-use Rattle.verdict.proofs.VerdictLemmas.{accepts-is, refused-on-care}
 
 -- what a test says that isn't so
 pub says-not : {P : Type 0} (b : Bool) → ((b ≡ true) ↔ P) → not b ≡ true → ¬ P
@@ -22,12 +21,6 @@ says-not true tells isnt p = true≢false (sym isnt)
 says-not false tells isnt p = true≢false (sym (tells.1 p))
 
 -- ---- which gates are unknown on care
-
--- the candidates, listed
-pub listed-candidates : (net : Parts) (blocks : Blocks) (settled candidates seen : List Bool) (gates : List ℕ) → AreCandidates net blocks settled candidates → seen ≡ candidates → ListsMarked seen (length seen) gates →
-    ListsMarked candidates (length net.gates) gates
-listed-candidates net blocks settled candidates seen gates are same listed =
-    subst (λ (n : ℕ). ListsMarked candidates n gates) are.width (subst (λ (ms : List Bool). ListsMarked ms (length ms) gates) same listed)
 
 module _ (net : Parts) (valid : IsNetlist net) (blocks : Blocks) (are : AreBlocksOf net blocks) (settled : List Bool) (soon : SettleInOneSweep net blocks settled) (care : CareSet)
     (candidates : List Bool) (gates : List ℕ) (found marks : List Bool) (candidates_are : AreCandidates net blocks settled candidates) (listed : ListsMarked candidates (length net.gates) gates)
@@ -77,58 +70,52 @@ module _ (net : Parts) (care : CareSet) (marks : List Bool) (are : AreUnknownMar
       by (Some v) e = refl
       by None e = absurd (true≢false (sym e))
 
-  -- ---- what feeds a loop
+  -- ---- loops around which all is known on care
+
+  known-unless : (n : ℕ) → n < length net.gates → (is_marked marks n ≡ true → ⊥) → (v : List Bool) → IsCareVector net care v → value_in (fix_gates net (bits v)) n ≢ X
+  known-unless n less isnt = by (is_marked marks n) refl
+    where
+      by : (b : Bool) → is_marked marks n ≡ b → (v : List Bool) → IsCareVector net care v → value_in (fix_gates net (bits v)) n ≢ X
+      by true is = absurd (isnt is)
+      by false is = unmarked-value n less is
 
   pub fed-known : (gates : List ℕ) (others : List Bool) → AreWithout gates marks others → ¬ AreReached net gates others → AreFedKnown net care gates
-  fed-known gates others without apart v counts m n feeds inside outside = by (is_marked marks m) refl
-    where
-      by : (b : Bool) → is_marked marks m ≡ b → value_in (fix_gates net (bits v)) m ≢ X
-      by true is = absurd (apart (record { gate = n; among = inside; mark = inr (record { gate = m; feeds = feeds; marked = without.kept m outside ∙ is }) }))
-      by false is = unmarked-value m feeds.source is v counts
+  fed-known gates others without apart v counts m n feeds inside outside =
+      known-unless m feeds.source (λ is. apart (record { gate = n; among = inside; mark = inr (record { gate = m; feeds = feeds; marked = without.kept m outside ∙ is }) })) v counts
 
-  -- ---- a loop that is settled by itself, where all around it is known on care
+  pub unreached-known : (gates : List ℕ) → ((n : ℕ) → Contains gates n → n < length net.gates) → ¬ AreReached net gates marks → AreKnownAround net care gates
+  unreached-known gates within apart = record {
+    own = λ v counts n among. known-unless n (within n among) (λ is. apart (record { gate = n; among = among; mark = inl is })) v counts;
+    feeding = λ v counts m n among feeds. known-unless m feeds.source (λ is. apart (record { gate = n; among = among; mark = inr (record { gate = m; feeds = feeds; marked = is }) })) v counts;
+  }
 
-  module _ (valid : IsNetlist net) (blocks : Blocks) (blocks_are : AreBlocksOf net blocks) (cut : Cut) (cut_is : IsCutOf net cut) (some : SomeCareVector net care) (settled : List Bool) (soon : SettleInOneSweep net blocks settled)
-      (place : ℕ) (within : place < length blocks.list) (looped : (block_at blocks place).looped ≡ true) (settled_here : is_marked settled place ≡ true) (apart : ¬ AreReached net (block_at blocks place).gates marks) where
-    own-known : (n : ℕ) → Contains (block_at blocks place).gates n → (b : Bool) → is_marked marks n ≡ b → (v : List Bool) → IsCareVector net care v → value_in (fix_gates net (bits v)) n ≢ X
-    own-known n among true is = absurd (apart (record { gate = n; among = among; mark = inl is }))
-    own-known n among false is = unmarked-value n (gate_home net blocks blocks_are place n within among).0 is
+-- where no gate at all is unknown
+pub all-known : (net : Parts) (care : CareSet) (gates : List ℕ) → AreKnownOnCare net care → ((n : ℕ) → Contains gates n → n < length net.gates) → AreKnownAround net care gates
+all-known net care gates known within = record { own = λ v counts n among. known v counts n (within n among); feeding = λ v counts m n among feeds. known v counts m feeds.source }
 
-    feeding-known : (m n : ℕ) → Contains (block_at blocks place).gates n → Feeds net m n → (b : Bool) → is_marked marks m ≡ b → (v : List Bool) → IsCareVector net care v → value_in (fix_gates net (bits v)) m ≢ X
-    feeding-known m n among feeds true is = absurd (apart (record { gate = n; among = among; mark = inr (record { gate = m; feeds = feeds; marked = is }) }))
-    feeding-known m n among feeds false is = unmarked-value m feeds.source is
+module _ (net : Parts) (valid : IsNetlist net) (blocks : Blocks) (are : AreBlocksOf net blocks) (cut : Cut) (cut_is : IsCutOf net cut) (care : CareSet) where
+  -- a loop that is settled by itself needs one sweep there
+  pub one-sweep : SomeCareVector net care → (settled : List Bool) → SettleInOneSweep net blocks settled → (place : ℕ) → place < length blocks.list → (block_at blocks place).looped ≡ true → is_marked settled place ≡ true →
+      AreKnownAround net care (block_at blocks place).gates → IsLoopCount net blocks cut care place 1
+  one-sweep some settled soon place within looped marked known = record {
+    loops = λ loop gate.
+        one_sweep_is_exact net blocks (loops_by blocks cut) valid are (blocks_tell_loops net blocks cut are cut_is) place within looped (soon place within looped marked)
+        (are_care_values net care) (determined-around net care (block_at blocks place).gates known)
+        (bits some.vector) (care-values net care some.vector some.counts.width (care_vector_is net care some.vector some.counts)) gate;
+    others = λ plain. absurd (true≢false (sym looped ∙ plain));
+  }
 
-    pub one-sweep : (gate : ℕ) → Contains (block_at blocks place).gates gate → IsCountOfSweeps net (loops_by blocks cut) (are_care_values net care) gate 1
-    one-sweep gate inside =
-        one_sweep_is_exact net blocks (loops_by blocks cut) valid blocks_are (blocks_tell_loops net blocks cut blocks_are cut_is) place within looped (soon place within looped settled_here)
-        (are_care_values net care)
-        (determined-around net care (block_at blocks place).gates (λ v counts n among. own-known n among (is_marked marks n) refl v counts) (λ v counts m n among feeds. feeding-known m n among feeds (is_marked marks m) refl v counts))
-        (bits some.vector) (care-values net care some.vector some.counts.width (care_vector_is net care some.vector some.counts)) gate inside
+  -- another one needs the least number at Boolean care vectors
+  pub least-loop : (place count : ℕ) → (block_at blocks place).looped ≡ true → ((gate : ℕ) → Contains (block_at blocks place).gates gate → IsLeastCount net (loops_by blocks cut) care gate count) →
+      IsLoopCount net blocks cut care place count
+  least-loop place count looped least = record {
+    loops = λ loop gate inside. least-count net (loops_by blocks cut) care gate count (least gate inside);
+    others = λ plain. absurd (true≢false (sym looped ∙ plain));
+  }
 
 -- ---- the sweeps of all loops
 
--- those of a loop, by the least number at Boolean care vectors
-pub least-loop : (net : Parts) (blocks : Blocks) (cut : Cut) (care : CareSet) (place count : ℕ) → (block_at blocks place).looped ≡ true →
-    ((gate : ℕ) → Contains (block_at blocks place).gates gate → IsLeastCount net (loops_by blocks cut) care gate count) → IsLoopCount net blocks cut care place count
-least-loop net blocks cut care place count looped least = record {
-  loops = λ loop gate inside. least-count net (loops_by blocks cut) care gate count (least gate inside);
-  others = λ plain. absurd (true≢false (sym looped ∙ plain));
-}
-
--- one place more is counted
-pub loop-counts-more : (net : Parts) (blocks : Blocks) (cut : Cut) (care : CareSet) (n count : ℕ) (counts : List ℕ) → AreLoopCounts net blocks cut care n counts → IsLoopCount net blocks cut care n count →
-    AreLoopCounts net blocks cut care (n + 1) (counts ++ count ∷ [])
-loop-counts-more net blocks cut care n count counts before is = record {
-  width = length_push counts count ∙ ap (λ m. m + 1) before.width;
-  each = λ place less. elim (cases_lt place n) [
-    | inl low ↦ subst (IsLoopCount net blocks cut care place) (sym (get_or_append_left counts (count ∷ []) 0 place (let w = before.width in omega (arith, w, low)))) (before.each place low)
-    | inr high ↦
-        let here : n ≡ place = omega (arith, less, high) in
-        subst (IsLoopCount net blocks cut care place) (sym (get_or_push counts count 0 place (let w = before.width in omega (arith, w, here)))) (subst (λ p. IsLoopCount net blocks cut care p count) here is)
-  ];
-}
-
--- and so all are
+-- all of them
 pub loop-counts-all : (net : Parts) (blocks : Blocks) → AreBlocksOf net blocks → (cut : Cut) (care : CareSet) (n : ℕ) (counts : SweepCounts) → n ≡ length blocks.list → AreLoopCounts net blocks cut care n counts.per_block →
     AreSweepsOnCare net blocks cut care counts
 loop-counts-all net blocks are cut care n counts all at = record {
@@ -140,17 +127,3 @@ loop-counts-all net blocks are cut care n counts all at = record {
     | inr past ↦ get_or_past counts.per_block b 0 (let w = at.width in omega (arith, past, w))
   ];
 }
-
--- ---- the verdict
-
-pub determined-accepts : (net : Parts) (blocks : Blocks) (cut : Cut) (care : CareSet) (what : Observe) (counts : SweepCounts) (loose : ℕ) → IsNetlist net → MayGoOn net care → IsLooseNumber net care what loose →
-    AreSweepsOnCare net blocks cut care counts → leaves_refusal net care ≡ None → IsAcceptance net blocks cut care what counts loose
-determined-accepts net blocks cut care what counts loose valid begins is sweeps stays = record {
-  accepts = accepts-is net care what valid (refused-on-care net care what None begins.initial begins.some (ap₂ option_or is.none stays));
-  sweeps = sweeps;
-  loose_is = is.number;
-}
-
--- a next state that leaves the invariant refuses the netlist
-pub leaving-refuses : (net : Parts) (care : CareSet) (what : Observe) (loose : ℕ) (r : Refusal) → MayGoOn net care → IsLooseNumber net care what loose → leaves_refusal net care ≡ Some r → refusal net care what ≡ Some r
-leaving-refuses net care what loose r begins is leaves = refused-on-care net care what (Some r) begins.initial begins.some (ap₂ option_or is.none leaves)

@@ -1,7 +1,7 @@
 -- Marks of gates, signal by signal.
 use Rattle.std.proofs.Common.{◌≡◌, ℕ, ◌+◌, ◌<◌, ◌≤◌, Bool, true, false, List, [], ◌∷◌, ◌++◌, length, map, take, get_or, replicate, sym, ap, ◌∙◌, subst, arith}
-use Rattle.verdict.proofs.Common.{take_all, get_or-map, get_or-replicate, length-map, Sig, Latch, Parts, gate_sigs, AreMarksOf}
-use Rattle.std.proofs.lemmas.List.{append_assoc, take_more, length-replicate}
+use Rattle.verdict.proofs.Common.{take_all, get_or-map, get_or-replicate, length-map, Sig, Latch, Parts, gate_sigs, AreMarksOf, length-replicate}
+use Rattle.std.proofs.lemmas.List.{append_assoc, take_more}
 use Rattle.refusals.proofs.ObservedLemmas.{gate_among}
 
 pub marks-more : (net : Parts) (before xs : List Sig) (i : ℕ) (d : Sig) (marks : List Bool) → i < length xs → AreMarksOf net ((before ++ take i xs) ++ get_or xs i d ∷ []) marks →

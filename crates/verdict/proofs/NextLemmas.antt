@@ -1,12 +1,10 @@
 -- The rails of what the latches load, one after another.
-use Rattle.std.proofs.Common.{◌≡◌, ℕ, zero, suc, ◌+◌, ◌<◌, ◌≤◌, Bool, true, false, ◌&&◌, if◌then◌else◌, List, [], ◌∷◌, ◌++◌, length, map, get_or, take, replicate, slice_get, Some, sym, ap, ap₂, ◌∙◌, subst, arith}
-use Rattle.verdict.proofs.Common.{length_push, get_or-map, length-map, get_or-replicate, get_or_from_slice_get, Node, Arena, den, IsNodeOf, KeepsNodes, nodes, nodes-alike, conjunction, Trit, X, bits, Rails, AreRailsOf, value_of, values_of, is_bit, Latch, Parts, wire, fix, next, IsNetlist, count, laid, rails_at, one-of, zero-of, rails_at-proper, is_one, next_state, next_within, BoundsSignals, BoundsBoth, AreFixed}
-use Rattle.std.proofs.lemmas.List.{map-append, take-map, take_more, length-replicate}
+use Rattle.std.proofs.Common.{◌≡◌, ℕ, zero, suc, ◌+◌, ◌<◌, ◌≤◌, Bool, true, false, ◌&&◌, if◌then◌else◌, List, [], ◌∷◌, ◌++◌, length, get_or, take, replicate, slice_get, Some, sym, ap, ap₂, ◌∙◌, subst, arith}
+use Rattle.verdict.proofs.Common.{length_push, take_all, get_or-map, length-map, get_or-replicate, get_or_from_slice_get, Node, Arena, den, IsNodeOf, KeepsNodes, nodes, nodes-alike, conjunction, Trit, X, bits, Rails, AreRailsOf, value_of, values_of, Latch, Parts, wire, fix, next, IsNetlist, count, laid, rails_at, rails_at-proper, next_within, AreFixed, length-replicate, slice_get_within, All}
+use Rattle.std.proofs.lemmas.List.{map-append, take_more}
 use Rattle.std.proofs.lemmas.List.Elements.{All-append}
-use Rattle.std.proofs.lemmas.Option.{slice_get_within}
-use Rattle.std.specs.List.{All}
 use Rattle.dual_rail.proofs.SurelyLemmas.{All-rails-kept, value_of-kept, values_of-kept}
-use Rattle.verdict.proofs.CareLemmas.{one_rail, value_at-place}
+use Rattle.verdict.proofs.CareLemmas.{value_at-place}
 
 -- ---- rails on a set
 
@@ -60,6 +58,15 @@ source-value net a rails n latch v valid fixed found wide =
     value_at-place a rails latch.from.0 (laid net v) (let w = fixed.width in let s = source-within net n latch valid found in omega (arith, w, s))
     ∙ ap (λ (ts : List Trit). get_or ts latch.from.0 X) (fixed.values v wide)
 
+-- what all of them load
+pub next-all : (net : Parts) (s a : Arena) (set : Node) (n : ℕ) (list : List Rails) → length net.latches ≤ n → AreFirstNext net s set a n list →
+    (v : List Bool) → length v ≡ s.vars → values_of a list (laid net v) ≡ next_within net s set v
+next-all net s a set n list all first v wide = first.values v wide ∙ by (den s set (laid net v))
+  where
+    by : (c : Bool) → take n (if c then next net (bits v) else replicate (length net.latches) X) ≡ (if c then next net (bits v) else replicate (length net.latches) X)
+    by true = take_all n (next net (bits v)) (omega (arith, all, length-map net.latches (λ (l : Latch). wire (fix net (bits v)) l.from)))
+    by false = take_all n (replicate (length net.latches) X) (omega (arith, all, length-replicate (length net.latches) X))
+
 module _ (net : Parts) (s d : Arena) (set : Node) (rails : List Rails) (n : ℕ) (latch : Latch) (valid : IsNetlist net) (in_set : IsNodeOf s set) (first : KeepsNodes s d)
     (fixed : AreFixed net s rails) (found : slice_get net.latches n ≡ Some latch) where
   source-kept : (v : List Bool) → length v ≡ s.vars → value_of d (rails_at rails latch.from.0) (laid net v) ≡ wire (fix net (bits v)) latch.from
@@ -80,33 +87,3 @@ module _ (net : Parts) (s d : Arena) (set : Node) (rails : List Rails) (n : ℕ)
         (value (laid net v) ∙ ap₂ (λ (c : Bool) (x : Trit). if c then x else X) (first.function set (laid net v) in_set) (source-kept v wide))
         ∙ sym (within-more net s set v n latch found);
   }
-
-  -- how many nodes the two rails have
-  module _ (w : ℕ) (bounds : BoundsSignals net s set w) where
-    bounded-rail : (bit : Bool) (rail : Node) → ((v : List Bool) → den d rail v ≡ is_bit bit (value_of d (rails_at rails latch.from.0) v)) → nodes d.vars (conjunction d set rail) ≤ w
-    bounded-rail bit rail says =
-        let most : nodes s.vars (conjunction d set rail) ≤ w =
-        bounds latch.from.0 bit (source-within net n latch valid found) (conjunction d set rail)
-        (λ v wide. ap₂ (λ x y. x && y) (first.function set (laid net v) in_set) (says (laid net v) ∙ ap (is_bit bit) (source-kept v wide))) in
-        subst (λ k. nodes k (conjunction d set rail) ≤ w) (sym first.vars) most
-
-    pub rails-bounded : BoundsBoth d.vars (conjunction d set (rails_at rails latch.from.0).one) (conjunction d set (rails_at rails latch.from.0).zero) w
-    rails-bounded =
-        let r : Rails = rails_at rails latch.from.0 in
-        let in_s : AreRailsOf s (rails_at rails latch.from.0) = rails_at-proper s rails fixed.proper latch.from.0 in record {
-          first = bounded-rail true r.one (λ v. sym (one-of (den d r.one v) (den d r.zero v)));
-          second = bounded-rail false r.zero (λ v. sym (zero-of (den d r.one v) (den d r.zero v)
-              (ap₂ (λ x y. x && y) (first.function r.one v in_s.one) (first.function r.zero v in_s.zero) ∙ in_s.proper v)));
-        }
-
--- ---- at one vector
-
-pub state-more : (net : Parts) (a : Arena) (rails : List Rails) (v : List Bool) (n : ℕ) (latch : Latch) (b : Bool) → IsNetlist net → AreFixed net a rails → length v ≡ a.vars →
-    slice_get net.latches n ≡ Some latch → b ≡ den a (rails_at rails latch.from.0).one (laid net v) →
-    take n (next_state net v) ++ b ∷ [] ≡ take (n + 1) (next_state net v)
-state-more net a rails v n latch b valid fixed wide found is =
-    ap₂ (λ (xs : List Bool) (x : Bool). xs ++ x ∷ []) (take-map is_one n (next net (bits v)))
-    (is ∙ one_rail a (rails_at rails latch.from.0) (laid net v) ∙ ap is_one (source-value net a rails n latch v valid fixed found wide))
-    ∙ sym (map-append is_one (take n (next net (bits v))) (wire (fix net (bits v)) latch.from ∷ []))
-    ∙ ap (map is_one) (sym (next-more-list net (bits v) n latch found))
-    ∙ sym (take-map is_one (n + 1) (next net (bits v)))

@@ -1,7 +1,6 @@
 -- The least vector of a set.
-use Rattle.std.proofs.Common.{◌≡◌, ◌==◌, ℕ, ◌<◌, Bool, true, false, not, ◌&&◌, if◌then◌else◌, List, [], ◌∷◌, length, Option, Some, None, refl, sym, ap, subst, ◌∙◌, arith, true≢false}
-use Rattle.std.specs.List.{All}
-use Rattle.verdict.proofs.Common.{find, is_none, get_or_default, eqb-true, Node, Arena, den, IsNodeOf, IsLawful, IsLayout, by_variable, vectors, by_column, length-by_column, variables-back, difference, none_passes, found_wide}
+use Rattle.std.proofs.Common.{◌≡◌, ◌==◌, ℕ, Bool, true, false, not, ◌&&◌, if◌then◌else◌, List, [], ◌∷◌, length, Option, Some, None, refl, sym, ap, ◌∙◌, arith, true≢false}
+use Rattle.verdict.proofs.Common.{find, is_none, eqb-true, Node, Arena, den, IsNodeOf, IsLawful, IsLayout, by_variable, vectors, by_column, length-by_column, variables-back, difference, none_passes, found_wide}
 use Rattle.std.proofs.lemmas.Bool.{eq-eqb}
 use Rattle.bdd_store.specs.Arena.{constant, den_within}
 use Rattle.bdd_ops.specs.Least.{IsLeast}
@@ -29,13 +28,6 @@ least-first n f v wide least = by_found (find f (vectors n)) refl
     by_found (Some u) is =
         let wide_u : length u ≡ n = found_wide n f u is in
         is ∙ ap (λ w. Some w) (sym (same_vectors v u (wide ∙ sym wide_u) (least.before_all u (wide_u ∙ sym wide) (found_passes f (vectors n) u is)) (found_least n f u v is wide least.true_there)))
-
--- the columns of a layout are places of a vector that is as wide
-pub layout-within : (n m : ℕ) (columns : List ℕ) → n ≡ m → IsLayout n columns → All (λ column. column < m) columns
-layout-within n m columns same layout k d inside =
-    let long = layout.long in
-    let low = layout.within k (omega (arith, inside, long)) in
-    subst (λ column. column < m) (get_or_default columns k 0 d inside) (omega (arith, low, same))
 
 -- the constant false finds nothing
 pub never-none : (a : Arena) (columns : List ℕ) (n : Node) → n ≡ constant false → find (λ v. den a n (by_variable columns v)) (vectors a.vars) ≡ None

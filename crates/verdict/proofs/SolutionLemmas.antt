@@ -1,8 +1,7 @@
 -- The functions that the fixpoint and the comparison of its sweeps work with are made of those of the decision.
 use Rattle.std.proofs.Common.{◌≡◌, inl, inr, ℕ, Bool, List, refl, sym, ap, ◌∙◌, subst}
-use Rattle.verdict.proofs.Common.{Node, Arena, den, IsWide, Parts, Blocks, Cut, AreBlocksOf, IsCutOf, Loops, Vectors, IsWorking, CareSet, columns, is_care_vector, IsLaid, SaysCare, Tells, laid, AreColumnVectors}
+use Rattle.verdict.proofs.Common.{Node, Arena, den, IsWide, Parts, Blocks, Cut, AreBlocksOf, IsCutOf, Loops, Vectors, IsWorking, CareSet, columns, is_care_vector, IsLaid, SaysCare, Tells, laid, AreColumnVectors, All}
 use Rattle.std.proofs.lemmas.List.Elements.{All-contains}
-use Rattle.std.specs.List.{All}
 use Rattle.dual_rail.proofs.WidthLemmas.{IsWide-fewer}
 use Rattle.loops.specs.Found.{loops_of}
 use Rattle.fixpoint.specs.declared.solved.SweptLoop.{SweptLoop}
@@ -10,7 +9,7 @@ use Rattle.fixpoint.specs.declared.solved.Solved.{Solved}
 use Rattle.fixpoint.specs.Solved.{AreStepsOf, AreKeptSteps, loop_under}
 use Rattle.fixpoint.specs.Counts.{IsStepNode, IsComparedIn}
 use Rattle.isolation.proofs.WorkingLemmas.{step-is_working, working-is}
-use Rattle.verdict.proofs.DecisionLemmas.{IsMade, made-told, made-wide, made-working}
+use Rattle.verdict.proofs.DecisionLemmas.{IsMade, made-constant, made-same, made-told, made-wide, made-working}
 
 -- ---- the working list on columns
 
@@ -30,20 +29,16 @@ module _ (net : Parts) (care : CareSet) (a : Arena) (vars : a.vars ≡ columns n
     -- a rail of a step
     step-made : (loop : SweptLoop) → AreStepsOf net blocks cut a points loop → (node : Node) → IsStepNode loop.steps node → IsMade net care (den a node)
     step-made loop steps node is = elim (step-is_working net points a blocks cut are cut_is loop steps node is) [
-      | inl c ↦ record { of = is_care_vector net care; listed = SaysCare (λ v. refl); by = λ x. c.value; same = λ v long. c.same (laid net v) }
-      | inr w ↦
-          let m = working-made w.of w.is in
-          record { of = m.of; listed = m.listed; by = m.by; same = λ v long. w.same (laid net v) ∙ m.same v long }
+      | inl c ↦ made-constant c.value (λ v. c.same (laid net v))
+      | inr w ↦ made-same (λ v long. w.same (laid net v)) (working-made w.of w.is)
     ]
 
     compared-made : (set : Node) (solved : Solved) → Tells net a set (is_care_vector net care) → All (AreKeptSteps net blocks cut a points) solved.loops → (g : List Bool → Bool) → IsComparedIn a set solved.loops g → IsMade net care g
     compared-made set solved told all g is = elim is.of [
-      | inl e ↦
-          let m = made-told vars (SaysCare (λ v. refl)) told in
-          record { of = m.of; listed = m.listed; by = m.by; same = λ v long. is.same (laid net v) ∙ ap (λ (n : Node). den a n (laid net v)) e ∙ m.same v long }
+      | inl e ↦ made-same (λ v long. is.same (laid net v) ∙ ap (λ (n : Node). den a n (laid net v)) e) (made-told vars (SaysCare (λ v. refl)) told)
       | inr at ↦
-          let m = step-made (loop_under a at.loop) (All-contains (AreKeptSteps net blocks cut a points) solved.loops at.loop all at.among).steps is.node at.node in
-          record { of = m.of; listed = m.listed; by = m.by; same = λ v long. is.same (laid net v) ∙ m.same v long }
+          let loop = All-contains (AreKeptSteps net blocks cut a points) solved.loops at.loop all at.among in
+          made-same (λ v long. is.same (laid net v)) (step-made (loop_under a at.loop) loop.steps is.node at.node)
     ]
 
     pub compared-wide : (set : Node) (solved : Solved) {w : ℕ} → Tells net a set (is_care_vector net care) → All (AreKeptSteps net blocks cut a points) solved.loops → IsWide a.vars (IsLaid net care) w →

@@ -1,6 +1,6 @@
 -- How the parts make the verdict.
 use Rattle.std.proofs.Common.{◌≡◌, ◌+◌, Bool, List, [], length, map, drop, Option, Some, None, refl, sym, ap, ap₂, ◌∙◌}
-use Rattle.verdict.proofs.Common.{find, is_none, option_or, Node, Arena, den, bit, bits, Rails, value_of, values_of, Parts, IsNetlist, fix, fix_gates, Blocks, Cut, rails_under, Vectors, IsSolution, AreColumnVectors, CareSet, columns, state_of, is_care_vector, Refusal, EmptyCare, Observe, initial_refusal, undetermined_refusal, leaves_refusal, refusal, vectors, empty-filter, Tells, AreFixed, AreColumns, order, laid}
+use Rattle.verdict.proofs.Common.{find, is_none, option_or, Arena, bit, bits, Rails, value_of, values_of, Parts, IsNetlist, fix, fix_gates, Blocks, Cut, rails_under, Vectors, IsSolution, AreColumnVectors, CareSet, columns, state_of, is_care_vector, Refusal, EmptyCare, Observe, initial_refusal, undetermined_refusal, leaves_refusal, refusal, vectors, empty-filter, AreFixed, AreColumns, order, laid}
 use Rattle.std.specs.Prelude.{if◌then◌else◌}
 use Rattle.std.proofs.lemmas.List.{length-append, drop-map}
 use Rattle.netlist.proofs.FixpointLemmas.{length-fix_gates}
@@ -10,7 +10,6 @@ use Rattle.refusals.specs.Acceptance.{Accepts}
 use Rattle.refusals.specs.Refusals.{empty_refusal}
 use Rattle.refusals.proofs.LawLemmas.{accepted_without_refusal}
 use Rattle.verdict.specs.Verdicts.{refusal_on_care}
-use Rattle.verdict.proofs.PartLemmas.{told-first}
 
 -- ---- which part decides
 
@@ -36,15 +35,11 @@ refused-on-care net care what found initial empty is =
 pub accepts-is : (net : Parts) (care : CareSet) (what : Observe) → IsNetlist net → refusal net care what ≡ None → Accepts net care what
 accepts-is net care what valid none = (accepted_without_refusal net care what valid).0 none
 
--- ---- the set of care vectors
+-- whether there is a care vector
+pub empty-is : (net : Parts) (care : CareSet) (b : Bool) → b ≡ is_none (find (is_care_vector net care) (vectors (columns net))) → empty_refusal net care ≡ (let nothing : Option Refusal = None in if b then Some EmptyCare else nothing)
+empty-is net care b is = ap (λ t. let nothing : Option Refusal = None in if t then Some EmptyCare else nothing) (empty-filter (is_care_vector net care) (vectors (columns net)) ∙ sym is)
 
-pub empty-is : (net : Parts) (care : CareSet) (a : Arena) (set : Node) (b : Bool) → a.vars ≡ columns net → Tells net a set (is_care_vector net care) →
-    b ≡ is_none (find (λ v. den a set (laid net v)) (vectors a.vars)) → empty_refusal net care ≡ (let nothing : Option Refusal = None in if b then Some EmptyCare else nothing)
-empty-is net care a set b vars told is =
-    ap (λ t. let nothing : Option Refusal = None in if t then Some EmptyCare else nothing)
-    (empty-filter (is_care_vector net care) (vectors (columns net))
-    ∙ ap is_none (sym (told-first net a set (is_care_vector net care) (columns net) vars (λ v wide. told.value v (wide ∙ sym vars))))
-    ∙ sym is)
+-- ---- values
 
 -- the latches' columns stand for the state
 pub state-values : (net : Parts) (a : Arena) (rails latches : List Rails) (v : List Bool) → AreColumns a (order net) rails → latches ≡ drop (length net.inputs) rails → length v ≡ a.vars →

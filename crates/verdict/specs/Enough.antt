@@ -1,7 +1,6 @@
 -- The functions that a decision works with, and how many nodes are enough for it.
 use Rattle.std.specs.Prelude.{◌≡◌, ◌<◌, ◌≤◌, ◌+◌, ◌-◌, ◌*◌, ◌⊎◌, ℕ, Bool, List, Option, Result, length, map, IfSome, IsSomeAnd, slice_index_or}
 use Rattle.std.specs.Option.{option_map_or}
-use Rattle.bdd_store.specs.declared.node.Node.{Node}
 use Rattle.bdd_store.specs.Arena.{Arena}
 use Rattle.bdd_store.specs.declared.fault.StoreFault.{StoreFault}
 use Rattle.bdd_store.specs.Growth.{IsFullOnlyPast, AddsWithin, GrowsWithin}
@@ -13,16 +12,13 @@ use Rattle.dual_rail.specs.WorkingLists.{IsWide, BoundsEach}
 use Rattle.netlist.specs.declared.parts.Parts.{Parts}
 use Rattle.netlist.specs.Fixpoint.{next}
 use Rattle.loops.specs.Found.{loops_of}
-use Rattle.fixpoint.specs.Orders.{laid, order}
+use Rattle.fixpoint.specs.Orders.{laid}
 use Rattle.fixpoint.specs.Working.{no_loops, IsGatePart, effort}
-use Rattle.dual_rail.specs.declared.rail.Rails.{Rails}
-use Rattle.isolation.specs.Columns.{AreColumns}
-use Rattle.care_sets.specs.Binding.{IsCareOf}
 use Rattle.care_sets.specs.declared.model.CareModel.{CareModel}
 use Rattle.care_sets.specs.Care.{CareSet, columns, state_of, is_allowed, is_care_vector}
 use Rattle.verdict.specs.Causes.{HasModelOver, HasCoverOver, IsStoreFor}
 use Rattle.verdict.specs.Costs.{decision_cost}
-use Rattle.verdict.specs.Sets.{Tells, starts, has_state_inside}
+use Rattle.verdict.specs.Sets.{starts, has_state_inside}
 
 -- the values of a model's inputs, where the columns from its first one on have these values
 abbrev pub read_by : CareModel → List Trit → List Trit
@@ -64,16 +60,6 @@ GrowsInDecision result old new net care count = GrowsWithin result old new (HasM
 -- what a part of a decision does that keeps no nodes but those of roots, where a cover of the netlist may be large too
 abbrev pub AddsInDecision : {T : Type 0} → Result T StoreFault → Arena → Arena → Parts → CareSet → ℕ → Type 0
 AddsInDecision result old new net care count = AddsWithin result old new (HasCoverOver net care) (IsWide (columns net) (IsLaid net care)) count
-
--- w is wide for a decision of a netlist that has this care set, whose columns have these rails, and of whose vectors
--- these have states in the invariant
-pub record IsWideFor (care : CareSet) (a : Arena) (inside : Node) (rails : List Rails) (w : ℕ) : Type 0 where
-  pub net : Parts
-  pub is_care : IsCareOf net care
-  pub vars : a.vars ≡ columns net
-  pub are_columns : AreColumns a (order net) rails
-  pub told : Tells net a inside (has_state_inside net care)
-  pub wide : IsWide a.vars (IsLaid net care) w
 
 -- a number of the netlist and of both care models together
 abbrev pub in_all : (Parts → ℕ) → Parts → CareSet → ℕ

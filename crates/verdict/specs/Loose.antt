@@ -1,17 +1,24 @@
 -- Gates that are unknown on care where no observed one is, and the sweeps of loops where there are some.
-use Rattle.std.specs.Prelude.{◌≡◌, ◌<◌, ℕ, Bool, true, false, None, List, length, Contains, slice_index_or}
+use Rattle.std.specs.Prelude.{◌≡◌, ◌≢◌, ◌<◌, ℕ, Bool, true, false, None, List, length, Contains, slice_index_or}
+use Rattle.cyc_base.specs.declared.trit.Trit.TheVariants.{X}
+use Rattle.cyc_base.specs.Values.{bits}
 use Rattle.netlist.specs.declared.parts.Parts.{Parts}
+use Rattle.netlist.specs.Fixpoint.{fix_gates}
+use Rattle.netlist.specs.Walks.{Feeds}
 use Rattle.loops.specs.declared.structure.Blocks.{Blocks}
 use Rattle.loops.specs.declared.structure.Cut.{Cut}
 use Rattle.loops.specs.Blocks.{block_at}
 use Rattle.loops.specs.Cuts.{loops_by}
-use Rattle.loops.specs.Sweeps.{IsCountOfSweeps}
+use Rattle.loops.specs.Sweeps.{IsCountOfSweeps, value_in}
 use Rattle.isolation.specs.Cones.{is_marked}
 use Rattle.isolation.specs.Excerpts.{gate_in}
-use Rattle.care_sets.specs.Care.{CareSet}
+use Rattle.care_sets.specs.Care.{CareSet, IsCareVector}
 use Rattle.refusals.specs.Refusals.{undetermined_refusal}
 use Rattle.refusals.specs.declared.observe.Observe.{Observe}
+use Rattle.clause_decision.specs.Scopes.{AreKnownOnCare}
 use Rattle.clause_decision.specs.Tests.{is_unknown}
+use Rattle.verdict.specs.declared.loose.Unknown.{Unknown}
+use Rattle.verdict.specs.declared.loose.Unknown.TheVariants as unknowns
 use Rattle.verdict.specs.Unknown.{IsFedByOpen}
 use Rattle.verdict.specs.Verdicts.{are_care_values, AreLoose}
 
@@ -24,6 +31,16 @@ pub record AreCandidates (net : Parts) (blocks : Blocks) (settled marks : List B
 pub record AreUnknownMarks (net : Parts) (care : CareSet) (marks : List Bool) : Type 0 where
   pub width : length marks ≡ length net.gates
   pub each : (n : ℕ) → n < length net.gates → is_unknown net care n ≡ is_marked marks n
+
+-- the gates that are unknown at some care vector: none at all, or those with a mark
+abbrev pub AreUnknown : Parts → CareSet → Unknown → Type 0
+AreUnknown net care unknowns.Nowhere = AreKnownOnCare net care
+AreUnknown net care (unknowns.Marked marks) = AreUnknownMarks net care marks.now
+
+-- at no care vector is one of these gates unknown, nor one that feeds them
+pub record AreKnownAround (net : Parts) (care : CareSet) (gates : List ℕ) : Type 0 where
+  pub own : (v : List Bool) → IsCareVector net care v → (n : ℕ) → Contains gates n → value_in (fix_gates net (bits v)) n ≢ X
+  pub feeding : (v : List Bool) → IsCareVector net care v → (m n : ℕ) → Contains gates n → Feeds net m n → value_in (fix_gates net (bits v)) m ≢ X
 
 -- no observed gate is unknown on care, and so many others are
 pub record IsLooseNumber (net : Parts) (care : CareSet) (what : Observe) (loose : ℕ) : Type 0 where

@@ -1,22 +1,15 @@
 -- What a decision by clauses asks of gates and loops.
-use Rattle.std.specs.Prelude.{◌≡◌, ◌<◌, ◌-◌, ℕ, Bool, true, false, List, length, Contains, All, IfSome, None, Some, slice_index_or}
+use Rattle.std.specs.Prelude.{◌≡◌, ◌<◌, ◌-◌, ℕ, Bool, List, length, Contains, All, IfSome, None, Some, slice_index_or}
 use Rattle.netlist.specs.declared.parts.Latch.{Latch}
 use Rattle.netlist.specs.declared.parts.Parts.{Parts}
 use Rattle.netlist.specs.Netlists.{gate_sig}
 use Rattle.loops.specs.declared.structure.Blocks.{Blocks}
-use Rattle.loops.specs.declared.structure.Cut.{Cut}
-use Rattle.loops.specs.Blocks.{block_at}
-use Rattle.loops.specs.Cuts.{loops_by}
-use Rattle.isolation.specs.Cones.{is_marked}
 use Rattle.care_sets.specs.Care.{CareSet}
 use Rattle.refusals.specs.Refusals.{initial_refusal, empty_refusal, refusal}
 use Rattle.refusals.specs.declared.observe.Observe.{Observe}
-use Rattle.clause_decision.specs.Scopes.{AreInScope, IsScopeOf}
-use Rattle.clause_decision.specs.Sweeping.{IsLeastCount}
 use Rattle.verdict.specs.Determination.{IsOpen}
 use Rattle.verdict.specs.declared.clauses.Beginning.{Beginning}
 use Rattle.verdict.specs.declared.clauses.Beginning.TheVariants as beginnings
-use Rattle.verdict.specs.declared.scopes.ScopedLoop.{ScopedLoop}
 
 -- the gates that drive the latches which the invariant reads
 abbrev pub AreDrivers : Parts → CareSet → List ℕ → Type 0
@@ -33,22 +26,6 @@ pub record AreDriversBefore (net : Parts) (columns : List ℕ) (done : ℕ) (gat
 pub record AreOpenGates (net : Parts) (blocks : Blocks) (settled : List Bool) (gates : List ℕ) : Type 0 where
   pub within : All (λ n. n < length net.gates) gates
   pub all : (n : ℕ) → IsOpen net blocks settled n → Contains gates n
-
--- the block at a place, with a scope that speaks of its gates
-pub record IsScopedAt (net : Parts) (blocks : Blocks) (place : ℕ) (l : ScopedLoop) : Type 0 where
-  pub block : l.block ≡ place
-  pub scope : IsScopeOf net l.scope
-  pub within : AreInScope net l.scope (block_at blocks place).gates
-
--- the number of sweeps that the loop at a place needs on care, where it isn't settled
-abbrev pub IsCountAt : Parts → Blocks → Cut → CareSet → List Bool → ℕ → ℕ → Type 0
-IsCountAt net blocks cut care settled place count = (block_at blocks place).looped ≡ true → is_marked settled place ≡ false →
-    (gate : ℕ) → Contains (block_at blocks place).gates gate → IsLeastCount net (loops_by blocks cut) care gate count
-
--- those of the first n places
-pub record AreCountsAt (net : Parts) (blocks : Blocks) (cut : Cut) (care : CareSet) (settled : List Bool) (n : ℕ) (counts : List ℕ) : Type 0 where
-  pub width : length counts ≡ n
-  pub each : (place : ℕ) → place < n → IsCountAt net blocks cut care settled place (slice_index_or counts place 0)
 
 -- how far the decision comes without the gates: refused whatever is observed, or neither the initial states nor the care
 -- set refuse it; or nothing is said

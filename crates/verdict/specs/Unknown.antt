@@ -1,5 +1,5 @@
 -- The refusal of a gate that is unknown on care, found on cones.
-use Rattle.std.specs.Prelude.{◌≡◌, ◌<◌, ℕ, Bool, true, None, List, length, find}
+use Rattle.std.specs.Prelude.{◌≡◌, ◌<◌, ◌≤◌, ℕ, Bool, true, None, List, length, find}
 use Rattle.netlist.specs.declared.parts.Parts.{Parts}
 use Rattle.netlist.specs.Netlists.{gate_sig}
 use Rattle.loops.specs.declared.structure.Blocks.{Blocks}
@@ -13,11 +13,10 @@ use Rattle.refusals.specs.Refusals.{is_among}
 use Rattle.refusals.specs.declared.observe.Observe.{Observe}
 use Rattle.verdict.specs.Determination.{IsOpen}
 
--- Gates that are asked for: they are observed, and with each of them all observed ones before it are asked for.
-pub record AreAsked (net : Parts) (what : Observe) (asked : List Bool) : Type 0 where
-  pub width : length asked ≡ length net.gates
-  pub seen : (n : ℕ) → is_marked asked n ≡ true → is_among (observed net what) (gate_sig net n) ≡ true
-  pub earlier : (m n : ℕ) → m < n → is_marked asked n ≡ true → is_among (observed net what) (gate_sig net m) ≡ true → is_marked asked m ≡ true
+-- the gate is observed, and none after the last that is asked for
+pub record IsAskedFor (observed : List Bool) (last n : ℕ) : Type 0 where
+  pub seen : is_marked observed n ≡ true
+  pub early : n ≤ last
 
 -- the gate is in a loop at a place without a mark, or in the fanout of one
 pub record IsFedByOpen (net : Parts) (blocks : Blocks) (settled : List Bool) (n : ℕ) : Type 0 where
@@ -26,10 +25,10 @@ pub record IsFedByOpen (net : Parts) (blocks : Blocks) (settled : List Bool) (n 
   pub upstream : IsUpstream net gate n
 
 -- those among the gates asked for are marked, and no others
-pub record AreAskedCandidates (net : Parts) (blocks : Blocks) (settled asked marks : List Bool) : Type 0 where
+pub record AreAskedCandidates (net : Parts) (blocks : Blocks) (settled observed : List Bool) (last : ℕ) (marks : List Bool) : Type 0 where
   pub width : length marks ≡ length net.gates
-  pub each : (n : ℕ) → is_marked asked n ≡ true → IsFedByOpen net blocks settled n → is_marked marks n ≡ true
-  pub only : (n : ℕ) → is_marked marks n ≡ true → is_marked asked n ≡ true
+  pub each : (n : ℕ) → IsAskedFor observed last n → IsFedByOpen net blocks settled n → is_marked marks n ≡ true
+  pub only : (n : ℕ) → is_marked marks n ≡ true → IsAskedFor observed last n
 
 -- an observed gate, before which no observed one is unknown on care
 pub record IsFirstToRefuse (net : Parts) (care : CareSet) (what : Observe) (n : ℕ) : Type 0 where

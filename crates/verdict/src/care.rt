@@ -80,7 +80,7 @@ pub fn assume_on(
     let Some(model) = care.assume() else {
         return Ok(Node::of(true));
     };
-    Ok(holds_on(alloc, d, model, care.assume_columns(), 0, rails)?)
+    holds_on(alloc, d, model, care.assume_columns(), 0, rails)
 }
 
 /// The vectors on which the invariant holds of a state, where the latches have these rails. `first` is the
@@ -101,5 +101,5 @@ pub fn invariant_on(
     let Some(model) = care.invariant() else {
         return Ok(Node::of(true));
     };
-    Ok(holds_on(alloc, d, model, care.invariant_columns(), first, latches)?)
+    holds_on(alloc, d, model, care.invariant_columns(), first, latches)
 }

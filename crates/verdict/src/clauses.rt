@@ -13,9 +13,9 @@ ghost use Rattle.verdict.specs.Questions.{IsVerdictOf};
 ghost use Rattle.verdict.specs.Searches.{IsVerdictWith};
 
 use crate::alone::{open_gates, settled_loops};
-use crate::counts::{counts_of, open_counts};
+use crate::counts::sweeps_on_care;
 use crate::invariance::{Invariance, invariance_of};
-use crate::loose::sweeps_with_loose;
+use crate::loose::Unknown;
 use crate::question::Question;
 use crate::scopes::marked_places;
 use crate::search::Search;
@@ -94,11 +94,10 @@ fn determinacy_of_known(alloc: Global, search: &Search<'_>) -> Result<Determinac
     ensures { (what : Observe) → IfOk result (IsDeterminacy search.now what) }
 {
     search.laws();
-    let Some(others) = open_counts(alloc, search)? else {
-        return Ok(Determinacy::Undecided);
-    };
-    let sweeps = counts_of(alloc, search.blocks(), search.settled(), &others)?;
-    Ok(Determinacy::Determined { sweeps, loose: 0 })
+    match sweeps_on_care(alloc, search, Unknown::Nowhere)? {
+        Some(sweeps) => Ok(Determinacy::Determined { sweeps, loose: 0 }),
+        None => Ok(Determinacy::Undecided),
+    }
 }
 
 /// Whether the gates are determined where these are unknown at some care vector.
@@ -115,7 +114,7 @@ fn determinacy_with_loose(
     let Some(loose) = loose_number(alloc, search.net(), search.care(), observe, unknown)? else {
         return Ok(Determinacy::Undecided);
     };
-    match sweeps_with_loose(alloc, search, unknown)? {
+    match sweeps_on_care(alloc, search, Unknown::Marked(unknown))? {
         Some(sweeps) => Ok(Determinacy::Determined { sweeps, loose }),
         None => Ok(Determinacy::Undecided),
     }

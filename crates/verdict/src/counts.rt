@@ -1,99 +1,94 @@
-//! The sweeps of loops: one for a loop that is settled by itself, and else what a question about it tells.
+//! The sweeps of loops on care: one for a loop that is settled by itself and around which all is known, and else what a
+//! question about it tells.
 
-ghost use Rattle.std.specs.Prelude.{◌≡◌, ◌<◌, ℕ, true, false, length, IfOk, IfSome};
+ghost use Rattle.std.specs.Prelude.{◌≡◌, ◌<◌, ℕ, true, length, Contains, IfOk, IfSome};
 ghost use Rattle.loops.specs.Blocks.{block_at};
+ghost use Rattle.loops.specs.Cuts.{loops_by};
 ghost use Rattle.refusals.specs.Acceptance.{SomeCareVector};
-ghost use Rattle.isolation.specs.Cones.{is_marked};
-ghost use Rattle.clause_decision.specs.Scopes.{AreKnownOnCare};
-ghost use Rattle.verdict.specs.Determination.{count_of, AreCountsBelow};
-ghost use Rattle.verdict.specs.Scopes.{AreCountsAt, IsCountAt};
+ghost use Rattle.clause_decision.specs.Sweeping.{IsLeastCount};
+ghost use Rattle.verdict.specs.Loose.{AreUnknown, IsLoopCount};
+ghost use Rattle.verdict.specs.Verdicts.{AreSweepsOnCare};
 
-use crate::scopes::scoped_loop;
+use crate::loose::{Unknown, is_fed_known, is_known_around};
+use crate::scopes::scope_of;
 use crate::search::Search;
-use clause_decision::sweeps_needed;
+use clause_decision::{sweeps_fed_known, sweeps_needed};
 use cyc_base::Items;
-use loops::{Blocks, SweepCounts};
+use isolation::gates_at;
+use loops::SweepCounts;
 use std::alloc::{AllocError, Global};
 
-/// The sweeps of the block at this place: one for a loop that is settled by itself, and else its number among these.
-fn sweeps_of(blocks: &Blocks, settled: &[bool], others: &[u32], place: usize) -> u32
-    requires place { place < length blocks.now.list }
-    requires settled { length settled.now ≡ length blocks.now.list }
-    ensures { result ≡ count_of blocks.now settled.now others.now place }
-{
-    if !blocks.list.items()[place].looped {
-        return 0;
-    }
-    if settled[place] {
-        return 1;
-    }
-    others.get(place).copied().unwrap_or(0)
-}
-
-/// The sweeps of all blocks.
-pub(crate) fn counts_of(
+/// The sweeps that the loop at this place needs on care, asked of the clauses of its gates and all upstream of them. There
+/// are none where the solver gave up, or where a gate that feeds the loop is unknown.
+fn ask_sweeps(
     alloc: Global,
-    blocks: &Blocks,
-    settled: &[bool],
-    others: &[u32],
-) -> Result<SweepCounts, AllocError>
-    requires settled { length settled.now ≡ length blocks.now.list }
-    ensures { IfOk result (λ counts. AreCountsBelow blocks.now settled.now others.now (length blocks.now.list) counts.per_block) }
-{
-    let mut counts = Vec::with_capacity(alloc, settled.len())?;
-    for place in 0..settled.len() {
-        counts.push(sweeps_of(blocks, settled, others, place))?;
-    }
-    Ok(SweepCounts {
-        per_block: Items::of(counts),
-    })
-}
-
-/// The sweeps that the loop at this place needs on care, asked of the clauses of its gates and all upstream of them.
-fn ask_sweeps(alloc: Global, search: &Search<'_>, place: usize) -> Result<Option<u32>, AllocError>
+    search: &Search<'_>,
+    unknown: Unknown<'_>,
+    place: usize,
+) -> Result<Option<u32>, AllocError>
+    requires some { SomeCareVector search.now.net search.now.care }
+    requires unknown { AreUnknown search.now.net search.now.care unknown }
     requires place { place < length search.now.blocks.list }
     requires looped { (block_at search.now.blocks place).looped ≡ true }
-    requires some { SomeCareVector search.now.net search.now.care }
-    requires known { AreKnownOnCare search.now.net search.now.care }
-    ensures { IfOk result (λ found. IfSome found (IsCountAt search.now.net search.now.blocks search.now.cut search.now.care search.now.settled place)) }
+    ensures { IfOk result (λ found. IfSome found (λ sweeps. (gate : ℕ) → Contains (block_at search.now.blocks place).gates gate →
+        IsLeastCount search.now.net (loops_by search.now.blocks search.now.cut) search.now.care gate sweeps)) }
 {
-    let Some(asked) = scoped_loop(alloc, search, place)? else {
+    if !is_fed_known(alloc, search, unknown, place)? {
+        return Ok(None);
+    }
+    let Ok(block) = u32::try_from(place) else {
         return Ok(None);
     };
     let looped = search.looped();
     let care = search.care();
+    let scope = scope_of(alloc, search, gates_at(looped, place))?;
     let conflicts = search.conflicts();
-    sweeps_needed(alloc, looped, care, &asked.scope, asked.block, conflicts)
-}
-
-/// The sweeps of the block at this place, where it is a loop that isn't settled.
-fn count_at(alloc: Global, search: &Search<'_>, place: usize) -> Result<Option<u32>, AllocError>
-    requires place { place < length search.now.blocks.list }
-    requires some { SomeCareVector search.now.net search.now.care }
-    requires known { AreKnownOnCare search.now.net search.now.care }
-    ensures { IfOk result (λ found. IfSome found (IsCountAt search.now.net search.now.blocks search.now.cut search.now.care search.now.settled place)) }
-{
-    if search.settled()[place] || !search.blocks().list.items()[place].looped {
-        return Ok(Some(0));
+    match unknown {
+        Unknown::Nowhere => sweeps_needed(alloc, looped, care, &scope, block, conflicts),
+        Unknown::Marked(_) => sweeps_fed_known(alloc, looped, care, &scope, block, conflicts),
     }
-    ask_sweeps(alloc, search, place)
 }
 
-/// The sweeps of the loops that aren't settled, by the places of the blocks, or none where the solver gave up.
-pub(crate) fn open_counts(
+/// The sweeps of the block at this place, if they are found.
+fn count_at(
     alloc: Global,
     search: &Search<'_>,
-) -> Result<Option<Vec<u32>>, AllocError>
+    unknown: Unknown<'_>,
+    place: usize,
+) -> Result<Option<u32>, AllocError>
     requires some { SomeCareVector search.now.net search.now.care }
-    requires known { AreKnownOnCare search.now.net search.now.care }
-    ensures { IfOk result (λ found. IfSome found (λ counts. AreCountsAt search.now.net search.now.blocks search.now.cut search.now.care search.now.settled (length search.now.settled) counts.items)) }
+    requires unknown { AreUnknown search.now.net search.now.care unknown }
+    requires place { place < length search.now.blocks.list }
+    ensures { IfOk result (λ found. IfSome found (IsLoopCount search.now.net search.now.blocks search.now.cut search.now.care place)) }
 {
+    if !search.blocks().list.items()[place].looped {
+        return Ok(Some(0));
+    }
+    if search.settled()[place] && is_known_around(search, unknown, place) {
+        return Ok(Some(1));
+    }
+    ask_sweeps(alloc, search, unknown, place)
+}
+
+/// The sweeps of all loops on care, if they are found.
+pub(crate) fn sweeps_on_care(
+    alloc: Global,
+    search: &Search<'_>,
+    unknown: Unknown<'_>,
+) -> Result<Option<SweepCounts>, AllocError>
+    requires some { SomeCareVector search.now.net search.now.care }
+    requires unknown { AreUnknown search.now.net search.now.care unknown }
+    ensures { IfOk result (λ found. IfSome found (AreSweepsOnCare search.now.net search.now.blocks search.now.cut search.now.care)) }
+{
+    search.laws();
     let mut counts = Vec::new(alloc);
     for place in 0..search.settled().len() {
-        let Some(count) = count_at(alloc, search, place)? else {
+        let Some(count) = count_at(alloc, search, unknown, place)? else {
             return Ok(None);
         };
         counts.push(count)?;
     }
-    Ok(Some(counts))
+    Ok(Some(SweepCounts {
+        per_block: Items::of(counts),
+    }))
 }

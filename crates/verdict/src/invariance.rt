@@ -1,23 +1,20 @@
 //! Whether the invariant is one: whether a next state leaves it.
 
-ghost use Rattle.std.specs.Prelude.{◌≡◌, ◌<◌, length, map, IfOk};
-ghost use Rattle.cyc_base.specs.Values.{bits};
-ghost use Rattle.care_sets.specs.Care.{columns as columns_of, is_one as is_one_of};
+ghost use Rattle.std.specs.Prelude.{IfOk};
+ghost use Rattle.care_sets.specs.Care.{columns as columns_of};
 ghost use Rattle.clause_decision.specs.Loads.{LoadsAreKnown};
 ghost use Rattle.clause_queries.specs.Vectors.{IsFirstOf};
 ghost use Rattle.clause_decision.specs.Tests.{is_leaving};
-ghost use Rattle.refusals.specs.Refusals.{next_state};
-ghost use Rattle.verdict.specs.Invariance.{IsLeavingAt, IsInvariance};
+ghost use Rattle.verdict.specs.Invariance.{IsInvariance};
 
+use crate::next::leaves_at;
 use crate::scopes::{drivers_read, scope_of};
 use crate::search::Search;
 use care_sets::Care;
 use clause_decision::{Found, least_leaving};
-use cyc_base::{Bits, Trit};
 use netlist::Netlist;
 use refusals::Refusal;
 use std::alloc::{AllocError, Global};
-use ternary_run::{tick, trits_of};
 
 /// Whether a next state leaves the invariant.
 #[derive(Drop)]
@@ -28,46 +25,6 @@ pub enum Invariance {
     Leaves(Refusal),
     /// The solver gave up.
     Undecided,
-}
-
-/// Whether a value is 1.
-fn is_one(value: Trit) -> bool
-    ensures { result ≡ is_one_of value }
-{
-    match value {
-        Trit::One => true,
-        _ => false,
-    }
-}
-
-/// Which values are 1.
-fn ones_of(alloc: Global, values: &[Trit]) -> Result<Vec<bool>, AllocError>
-    ensures { IfOk result (λ ones. ones.items ≡ map is_one_of values.now) }
-{
-    values.iter().map(|value| is_one(*value)).collect(alloc)
-}
-
-/// What the latches load at a vector, by ternary simulation.
-fn next_at(alloc: Global, net: &Netlist, vector: &[bool]) -> Result<Vec<bool>, AllocError>
-    requires { length vector.now ≡ columns_of net.now }
-    ensures { IfOk result (λ state. state.items ≡ next_state net.now vector.now) }
-{
-    let given = trits_of(alloc, vector)?;
-    let (inputs, latches) = given.split_at(net.inputs() as usize);
-    let values = tick(alloc, net, inputs, latches)?;
-    ones_of(alloc, values.next.items())
-}
-
-/// The refusal of a vector whose next state isn't in the invariant.
-fn leaves_at(alloc: Global, net: &Netlist, vector: Vec<bool>) -> Result<Invariance, AllocError>
-    requires { length vector.items ≡ columns_of net.now }
-    ensures { IfOk result (λ told. IsLeavingAt net.now vector.items told) }
-{
-    let state = next_at(alloc, net, &vector)?;
-    Ok(Invariance::Leaves(Refusal::Leaves {
-        vector: Bits::of(vector),
-        next: Bits::of(state),
-    }))
 }
 
 /// What the least vector of care whose next state isn't in the invariant tells, as it was found.
@@ -81,7 +38,7 @@ fn invariance_by(
     ensures { IfOk result (IsInvariance net.now care.now) }
 {
     match found {
-        Found::Least(vector) => leaves_at(alloc, net, vector),
+        Found::Least(vector) => Ok(Invariance::Leaves(leaves_at(alloc, net, vector)?)),
         Found::NoVector => Ok(Invariance::Stays),
         Found::Unknown => Ok(Invariance::Undecided),
     }

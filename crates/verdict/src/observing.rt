@@ -1,6 +1,6 @@
 //! Which gates are observed.
 
-ghost use Rattle.std.specs.Prelude.{◌≡◌, ◌++◌, ◌∷◌, [], ◌<◌, List, length, map, All, IfOk};
+ghost use Rattle.std.specs.Prelude.{◌≡◌, ◌++◌, ◌∷◌, [], List, length, IfOk};
 ghost use Rattle.netlist.specs.Netlists.{IsNetlist, IsSignal};
 ghost use Rattle.refusals.specs.Acceptance.{observed};
 ghost use Rattle.verdict.specs.Observed.{AreMarksOf};
@@ -22,24 +22,14 @@ fn mark(net: &Netlist, marks: &mut [bool], signal: Sig)
     }
 }
 
-/// Marks the gates among these signals.
-fn mark_each(net: &Netlist, marks: &mut [bool], signals: &[Sig])
-    requires signals { All (IsSignal net.now) signals.now }
-    requires width { length marks.old ≡ length net.now.gates }
-    ensures width { length marks.new ≡ length net.now.gates }
-    ensures marks { (before : List Sig) → AreMarksOf net.now before marks.old → AreMarksOf net.now (before ++ signals.now) marks.new }
+/// Marks what is seen from outside: the gates that outputs name, and those that latches load. Nothing is marked yet.
+fn mark_outputs(net: &Netlist, marks: &mut [bool])
+    requires { AreMarksOf net.now [] marks.old }
+    ensures { AreMarksOf net.now (observed net.now Observe.Outputs) marks.new }
 {
-    for signal in signals {
+    for signal in net.outputs() {
         mark(net, marks, *signal);
     }
-}
-
-/// Marks the gates that latches load.
-fn mark_sources(net: &Netlist, marks: &mut [bool])
-    requires width { length marks.old ≡ length net.now.gates }
-    ensures width { length marks.new ≡ length net.now.gates }
-    ensures marks { (before : List Sig) → AreMarksOf net.now before marks.old → AreMarksOf net.now (before ++ map (λ latch. latch.from) net.now.latches) marks.new }
-{
     for number in 0..net.latches() {
         mark(net, marks, net.latch(number).from);
     }
@@ -59,8 +49,7 @@ pub(crate) fn observed_gates(
         Observe::All => Ok(vec![in alloc; true; gates]?),
         Observe::Outputs => {
             let mut marks = vec![in alloc; false; gates]?;
-            mark_each(net, &mut marks, net.outputs());
-            mark_sources(net, &mut marks);
+            mark_outputs(net, &mut marks);
             Ok(marks)
         }
     }

@@ -1,18 +1,18 @@
 //! Which gates the clauses of a question speak of.
 
-ghost use Rattle.std.specs.Prelude.{◌≡◌, ◌<◌, ◌≤◌, not, length, map, All, IfOk, IfSome};
+ghost use Rattle.std.specs.Prelude.{◌≡◌, ◌<◌, ◌≤◌, not, length, map, All, IfOk};
 ghost use Rattle.care_sets.specs.Binding.{IsCareOf};
 ghost use Rattle.isolation.specs.Cones.{ListsMarked};
 ghost use Rattle.clause_decision.specs.Scopes.{AreInScope, AreNeverUnknown, IsScopeOf};
 ghost use Rattle.verdict.specs.Determination.{SettleInOneSweep};
-ghost use Rattle.verdict.specs.Scopes.{AreDrivers, IsScopedAt};
+ghost use Rattle.verdict.specs.Scopes.{AreDrivers};
 
 use crate::fanout::candidate_gates;
 use crate::search::Search;
 use care_sets::Care;
 use clause_decision::Scope;
 use cyc_base::Items;
-use isolation::{gates_at, upstream_of};
+use isolation::upstream_of;
 use loops::LoopedNetlist;
 use netlist::Netlist;
 use std::alloc::{AllocError, Global};
@@ -72,35 +72,6 @@ pub(crate) fn scope_of(
         gates: upstream,
         known,
     })
-}
-
-/// A loop as a question about it takes it: its block by number, and what the clauses speak of.
-pub struct ScopedLoop {
-    pub block: u32,
-    pub scope: Scope,
-}
-
-impl Drop for ScopedLoop {
-    fn drop(self) {
-        let ScopedLoop { block: _, scope: _ } = self;
-    }
-}
-
-/// The loop at this place, whose gates the clauses speak of and all upstream of them.
-pub(crate) fn scoped_loop(
-    alloc: Global,
-    search: &Search<'_>,
-    place: usize,
-) -> Result<Option<ScopedLoop>, AllocError>
-    requires { place < length search.now.blocks.list }
-    ensures { IfOk result (λ found. IfSome found (IsScopedAt search.now.net search.now.blocks place)) }
-{
-    let Ok(block) = u32::try_from(place) else {
-        return Ok(None);
-    };
-    let gates = gates_at(search.looped(), place);
-    let scope = scope_of(alloc, search, gates)?;
-    Ok(Some(ScopedLoop { block, scope }))
 }
 
 /// The gates that drive the latches which the invariant reads.

@@ -6,7 +6,7 @@ ghost use Rattle.verdict.specs.Determination.{SettleInOneSweep};
 ghost use Rattle.verdict.specs.Searches.{IsSearched};
 
 use care_sets::Care;
-use loops::{Blocks, Cut, LoopedNetlist};
+use loops::{Blocks, LoopedNetlist};
 use netlist::Netlist;
 use std::marker::Model;
 
@@ -83,14 +83,6 @@ impl<'a> Search<'a> {
         ensures is { IsSearched self.now }
     {
         self.looped.blocks()
-    }
-
-    /// Its cut wires.
-    pub(crate) fn cut(&self) -> &'a Cut
-        ensures cut { result.now ≡ self.now.cut }
-        ensures is { IsSearched self.now }
-    {
-        self.looped.cut()
     }
 
     /// The care set.

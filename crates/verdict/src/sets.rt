@@ -1,12 +1,14 @@
 //! Sets of vectors as nodes, and their least vectors.
 
-ghost use Rattle.std.specs.Prelude.{◌≡◌, ◌<◌, ℕ, Bool, List, All, IfOk, find, is_none, length, option_map};
+ghost use Rattle.std.specs.Prelude.{◌≡◌, ℕ, Bool, List, IfOk, find, is_none, option_map};
 ghost use Rattle.bdd_store.specs.Arena.{den, IsNodeOf};
 ghost use Rattle.bdd_store.specs.Growth.{Grows};
 ghost use Rattle.bdd_store.specs.Subfunctions.{nodes};
 ghost use Rattle.bdd_ops.specs.Least.{IsLayout, by_variable as by_variable_of};
 ghost use Rattle.cyc_base.specs.Vectors.{vectors};
-ghost use Rattle.verdict.specs.Sets.{difference};
+ghost use Rattle.netlist.specs.declared.parts.Parts.{Parts};
+ghost use Rattle.care_sets.specs.Care.{columns as columns_of};
+ghost use Rattle.verdict.specs.Sets.{Tells, difference};
 
 use bdd_ops::Diagrams;
 use bdd_store::{Node, StoreFault};
@@ -20,31 +22,17 @@ pub(crate) fn minus(d: &mut Diagrams, m: Node, n: Node) -> Result<Node, StoreFau
     ensures function { IfOk result (λ set. (v : List Bool) → den d.new set v ≡ difference d.old m n v) }
     ensures grows { Grows result d.old d.new (nodes d.old.vars (difference d.old m n)) }
 {
-    Ok(d.ite(n, Node::of(false), m)?)
+    d.ite(n, Node::of(false), m)
 }
 
 /// Whether a set has no vector, however the columns are laid.
 pub(crate) fn is_never(d: &Diagrams, set: Node) -> bool
     requires { IsNodeOf d.now set }
-    ensures { (columns : List ℕ) → IsLayout d.now.vars columns → result ≡ is_none (find (λ v. den d.now set (by_variable_of columns v)) (vectors d.now.vars)) }
+    ensures laid { (columns : List ℕ) → IsLayout d.now.vars columns → result ≡ is_none (find (λ v. den d.now set (by_variable_of columns v)) (vectors d.now.vars)) }
+    ensures told { (net : Parts) (test : List Bool → Bool) → d.now.vars ≡ columns_of net → Tells net d.now set test → result ≡ is_none (find test (vectors (columns_of net))) }
 {
     d.store().laws();
     set == Node::of(false)
-}
-
-/// The bits by variable of a vector by column.
-pub(crate) fn by_variable(
-    alloc: Global,
-    columns: &[u32],
-    vector: &[bool],
-) -> Result<Vec<bool>, AllocError>
-    requires { All (λ column. column < length vector.now) columns.now }
-    ensures { IfOk result (λ bits. bits.items ≡ by_variable_of columns.now vector.now) }
-{
-    columns
-        .iter()
-        .map(|column| vector[*column as usize])
-        .collect(alloc)
 }
 
 /// The least vector by column of a set, if it has one. `columns` has the column of each variable.

@@ -1,10 +1,12 @@
 //! The refusal of the first observed gate that is unknown on care.
 
-ghost use Rattle.std.specs.Prelude.{◌≡◌, ◌<◌, ◌≤◌, ◌&&◌, ℕ, Some, true, false, length, All, Contains, IfOk, IfSome};
-ghost use Rattle.isolation.specs.Cones.{is_marked, ListsMarked};
+ghost use Rattle.std.specs.Prelude.{◌≡◌, ◌<◌, ℕ, Some, true, length, All, IfOk, IfSome};
+ghost use Rattle.isolation.specs.Cones.{is_marked};
+ghost use Rattle.refusals.specs.Acceptance.{observed as observed_signals};
 ghost use Rattle.refusals.specs.Refusals.{undetermined_refusal};
 ghost use Rattle.clause_decision.specs.Tests.{TellsFirstUnknown};
-ghost use Rattle.verdict.specs.Unknown.{AreAsked, AreAskedCandidates, IsFirstToRefuse};
+ghost use Rattle.verdict.specs.Observed.{AreMarksOf};
+ghost use Rattle.verdict.specs.Unknown.{AreAskedCandidates, IsAskedFor, IsFirstToRefuse};
 
 use crate::fanout::candidate_gates;
 use crate::observing::observed_gates;
@@ -12,49 +14,18 @@ use crate::scopes::{marked_places, scope_of};
 use crate::search::Search;
 use clause_decision::{First, Found, first_unknown, least_unknown};
 use cyc_base::Bits;
-use netlist::Netlist;
 use refusals::{Observe, Refusal};
 use std::alloc::{AllocError, Global};
 
-/// Clears the marks after a place.
-fn clear_after(last: u32, marks: &mut [bool])
+/// Clears the marks of gates that aren't asked for: those that aren't observed, and those after the last.
+fn keep_asked(observed: &[bool], last: u32, marks: &mut [bool])
+    requires { length observed.now ≡ length marks.old }
     ensures width { length marks.new ≡ length marks.old }
-    ensures kept { (k : ℕ) → k ≤ last → is_marked marks.new k ≡ is_marked marks.old k }
-    ensures cleared { (k : ℕ) → last < k → is_marked marks.new k ≡ false }
+    ensures kept { (k : ℕ) → IsAskedFor observed.now last k → is_marked marks.new k ≡ is_marked marks.old k }
+    ensures only { (k : ℕ) → is_marked marks.new k ≡ true → IsAskedFor observed.now last k }
 {
     for place in 0..marks.len() {
-        if place > last as usize {
-            marks[place] = false;
-        }
-    }
-}
-
-/// The gates that are asked for: those that are observed, and none after a gate that is unknown, where that one is
-/// observed itself.
-fn asked_gates(
-    alloc: Global,
-    net: &Netlist,
-    observe: Observe,
-    unknown: u32,
-) -> Result<Vec<bool>, AllocError>
-    requires { unknown < length net.now.gates }
-    ensures { IfOk result (λ asked. AreAsked net.now observe asked.items) }
-{
-    let mut asked = observed_gates(alloc, net, observe)?;
-    if asked[unknown as usize] {
-        clear_after(unknown, &mut asked);
-    }
-    Ok(asked)
-}
-
-/// Clears the marks of gates that aren't asked for.
-fn keep_asked(asked: &[bool], marks: &mut [bool])
-    requires { length asked.now ≡ length marks.old }
-    ensures width { length marks.new ≡ length marks.old }
-    ensures each { (k : ℕ) → is_marked marks.new k ≡ (is_marked marks.old k && is_marked asked.now k) }
-{
-    for place in 0..marks.len() {
-        if !asked[place] {
+        if !observed[place] || place > last as usize {
             marks[place] = false;
         }
     }
@@ -64,13 +35,14 @@ fn keep_asked(asked: &[bool], marks: &mut [bool])
 fn asked_candidates(
     alloc: Global,
     search: &Search<'_>,
-    asked: &[bool],
+    observed: &[bool],
+    last: u32,
 ) -> Result<Vec<bool>, AllocError>
-    requires { length asked.now ≡ length search.now.net.gates }
-    ensures { IfOk result (λ marks. AreAskedCandidates search.now.net search.now.blocks search.now.settled asked.now marks.items) }
+    requires { length observed.now ≡ length search.now.net.gates }
+    ensures { IfOk result (λ marks. AreAskedCandidates search.now.net search.now.blocks search.now.settled observed.now last marks.items) }
 {
     let mut marks = candidate_gates(alloc, search.looped(), search.settled())?;
-    keep_asked(asked, &mut marks);
+    keep_asked(observed, last, &mut marks);
     Ok(marks)
 }
 
@@ -110,17 +82,18 @@ fn refusal_of(alloc: Global, search: &Search<'_>, gate: u32) -> Result<Option<Re
     }
 }
 
-/// The refusal of the first of these gates that is unknown.
+/// The refusal of the first observed gate up to the last that is asked for, where it is unknown.
 fn first_refusal(
     alloc: Global,
     search: &Search<'_>,
-    asked: &[bool],
+    observed: &[bool],
+    last: u32,
 ) -> Result<Option<Refusal>, AllocError>
-    requires { length asked.now ≡ length search.now.net.gates }
-    ensures { (what : Observe) → AreAsked search.now.net what asked.now → IfOk result (λ found. IfSome found (λ refusal. undetermined_refusal search.now.net search.now.care what ≡ Some refusal)) }
+    requires { length observed.now ≡ length search.now.net.gates }
+    ensures { (what : Observe) → AreMarksOf search.now.net (observed_signals search.now.net what) observed.now → IfOk result (λ found. IfSome found (λ refusal. undetermined_refusal search.now.net search.now.care what ≡ Some refusal)) }
 {
     search.laws();
-    let marks = asked_candidates(alloc, search, asked)?;
+    let marks = asked_candidates(alloc, search, observed, last)?;
     let gates = marked_places(alloc, &marks)?;
     match first_of(alloc, search, &gates)? {
         First::At(place) => refusal_of(alloc, search, gates[place]),
@@ -141,6 +114,11 @@ pub(crate) fn unknown_refusal(
     requires { unknown < length search.now.net.gates }
     ensures { IfOk result (λ found. IfSome found (λ refusal. undetermined_refusal search.now.net search.now.care observe ≡ Some refusal)) }
 {
-    let asked = asked_gates(alloc, search.net(), observe, unknown)?;
-    first_refusal(alloc, search, &asked)
+    let observed = observed_gates(alloc, search.net(), observe)?;
+    let last = if observed[unknown as usize] {
+        unknown
+    } else {
+        u32::MAX
+    };
+    first_refusal(alloc, search, &observed, last)
 }

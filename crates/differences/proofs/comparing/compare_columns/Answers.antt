@@ -1,10 +1,9 @@
-use Rattle.std.proofs.Common.{◌≡◌, ◌∙◌, inl, inr, Bool, List, length, sym, ap, subst, arith}
-use Rattle.differences.proofs.Common.{within_only, by_variable, bits, values_of, columns, is_care_vector, AreFixedBy, TellsBy}
+use Rattle.std.proofs.Common.{◌≡◌, ◌∙◌, inl, inr, Bool, List, length, sym, arith}
+use Rattle.differences.proofs.Common.{within_only, by_variable, bits, values_of, columns}
 use Rattle.bdd_store.proofs.GrowthLemmas.{adds_then, adds_caused, adds_moved, adds_more, adds_refused}
 use Rattle.dual_rail.proofs.SurelyLemmas.{All-rails-kept}
 use Rattle.loops.specs.Cuts.{loops_by}
 use Rattle.fixpoint.specs.Working.{HasLargeCover}
-use Rattle.isolation.specs.Columns.{AreColumns}
 use Rattle.isolation.proofs.ColumnLemmas.{AreColumns-kept}
 use Rattle.isolation.proofs.SettlingLemmas.{loops-are}
 use Rattle.differences.specs.Comparisons.{AddsInComparison, care_cost, solving_cost}
@@ -13,79 +12,47 @@ use Rattle.differences.proofs.LaidLemmas.{working-wide}
 use Rattle.differences.proofs.comparing.compare_columns.Goals as goal
 use Rattle.differences.proofs.comparing.compare_columns.Goals.{After-care_on, After-solve_beside}
 
-pub care_on-requires-clause-width : goal.care_on-requires-clause-width
-care_on-requires-clause-width c = c.requires.columns.width ∙ c.requires.vars ∙ ap columns (sym c.net-net.ensures.net)
-
-pub care_on-requires-clause-rails : goal.care_on-requires-clause-rails
-care_on-requires-clause-rails c = c.requires.columns.proper
-
-pub solve_beside-requires-clause-width : goal.solve_beside-requires-clause-width
-solve_beside-requires-clause-width c = c.requires.columns.width ∙ c.requires.vars
-
 pub solve_beside-requires-clause-rails : goal.solve_beside-requires-clause-rails
 solve_beside-requires-clause-rails c = All-rails-kept c.care_on.ensures.grows.keeps c.args.rails.now c.requires.columns.proper
 
 -- ---- the rails of the columns, and the vectors that they stand for
 
-columns-kept : (c : After-solve_beside) → AreColumns c.care_on.new.d c.args.comparison.now.order.now c.args.rails.now
-columns-kept c = AreColumns-kept c.care_on.ensures.grows.keeps c.requires.columns
-
-care-vars : (c : After-care_on) → c.care_on.new.d.vars ≡ columns c.args.comparison.now.looped.now.net
+care-vars : (c : After-solve_beside) → c.care_on.new.d.vars ≡ columns c.args.comparison.now.looped.now.net
 care-vars c = c.care_on.ensures.grows.keeps.vars ∙ c.requires.vars
 
-points-are : (c : After-solve_beside) → c.care_on.new.d.vars ≡ columns c.args.comparison.now.looped.now.net → (v : List Bool) → length v ≡ columns c.args.comparison.now.looped.now.net → values_of c.care_on.new.d c.args.rails.now (by_variable c.args.comparison.now.order.now v) ≡ bits v
-points-are c vars v long = (columns-kept c).values v (long ∙ sym vars)
-
-solved-vars : (c : After-solve_beside) → c.care_on.new.d.vars ≡ columns c.args.comparison.now.looped.now.net → c.solve_beside.new.d.vars ≡ columns c.args.comparison.now.looped.now.net
-solved-vars c vars = c.solve_beside.ensures.vars ∙ vars
+points-are : (c : After-solve_beside) (v : List Bool) → length v ≡ columns c.args.comparison.now.looped.now.net → values_of c.care_on.new.d c.args.rails.now (by_variable c.args.comparison.now.order.now v) ≡ bits v
+points-are c v long = (AreColumns-kept c.care_on.ensures.grows.keeps c.requires.columns).values v (long ∙ sym (care-vars c))
 
 pub compare_solved-requires-clause-vars : goal.compare_solved-requires-clause-vars
-compare_solved-requires-clause-vars g =
-    let at = goal.at.compare_solved-requires-clause-vars g in
-    solved-vars at.After-solve_beside (care-vars at.After-care_on)
+compare_solved-requires-clause-vars g = g.solve_beside.ensures.vars ∙ care-vars (goal.at.compare_solved-requires-clause-vars g).After-solve_beside
 
 pub compare_solved-requires-clause-fixed : goal.compare_solved-requires-clause-fixed
 compare_solved-requires-clause-fixed g =
-    let at = goal.at.compare_solved-requires-clause-fixed g in
-    let net = g.args.comparison.now.looped.now.net in
-    let vars = care-vars at.After-care_on in
+    let c : After-solve_beside = (goal.at.compare_solved-requires-clause-fixed g).After-solve_beside in
+    let l = g.args.comparison.now.looped.now in
     let found = g.in_ok-found.ensures.fixpoint in
-    subst (AreFixedBy g.args.comparison.now.order.now net g.solve_beside.new.d) (sym found.rails_are)
-    (fixed-is g.args.comparison.now.order.now net g.args.comparison.now.looped.now.blocks g.args.comparison.now.looped.now.cut g.solve_beside.new.d (values_of g.care_on.new.d g.args.rails.now) g.in_ok-found.found.solved (solved-vars at.After-solve_beside vars) (points-are at.After-solve_beside vars) found.solution)
+    rw found.rails_are
+    (fixed-is g.args.comparison.now.order.now l.net l.blocks l.cut g.solve_beside.new.d (values_of g.care_on.new.d g.args.rails.now) g.in_ok-found.found.solved (g.solve_beside.ensures.vars ∙ care-vars c) (points-are c) found.solution)
 
 pub compare_solved-requires-clause-set : goal.compare_solved-requires-clause-set
 compare_solved-requires-clause-set g =
     let found = g.in_ok-found.ensures.fixpoint in
-    let counts = rw g.net-net.ensures.net at g.in_ok-set.ensures.counts in
-    let told : TellsBy g.args.comparison.now.order.now g.care_on.new.d g.in_ok-set.set (is_care_vector g.args.comparison.now.looped.now.net g.args.comparison.now.care.now) = record {
-      node = g.in_ok-set.ensures.node;
-      value = λ v wide. counts v (by_variable g.args.comparison.now.order.now v) (g.requires.columns.values v (wide ∙ g.care_on.ensures.grows.keeps.vars));
-    } in
-    TellsBy-same g.solve_beside.ensures.vars found.node found.function told
+    TellsBy-same g.solve_beside.ensures.vars found.node found.function g.in_ok-set.ensures.told
 
 -- ---- what it does to the diagrams
 
 care-adds : (c : After-care_on) → AddsInComparison c.care_on.result c.args.d.now c.care_on.new.d c.args.comparison.now.order.now c.args.comparison.now.looped.now.net c.args.comparison.now.care.now (care_cost c.args.comparison.now.care.now)
-care-adds c =
-    let grows = rw c.net-net.ensures.net at c.care_on.ensures.grows in
-    adds_caused (λ over. inr over)
-    (adds_moved (λ w wide. record {
-      order = c.args.comparison.now.order.now;
-      layout = c.args.comparison.now.laid;
-      vars = c.requires.vars;
-      are_columns = c.requires.columns;
-      wide = wide;
-    }) grows.adds)
+care-adds c = adds_caused (λ over. inr over) c.care_on.ensures.grows.adds
 
 -- the working list of the fixpoint
-solving-adds : (c : After-solve_beside) → c.care_on.new.d.vars ≡ columns c.args.comparison.now.looped.now.net → AddsInComparison c.solve_beside.result c.care_on.new.d c.solve_beside.new.d c.args.comparison.now.order.now c.args.comparison.now.looped.now.net c.args.comparison.now.care.now (solving_cost c.args.comparison.now.looped.now.net)
-solving-adds c vars =
-    let net = c.args.comparison.now.looped.now.net in
-    let care = c.args.comparison.now.care.now in
-    adds_caused {cause = HasLargeCover net} (λ over. inl over)
+solving-adds : (c : After-solve_beside) → AddsInComparison c.solve_beside.result c.care_on.new.d c.solve_beside.new.d c.args.comparison.now.order.now c.args.comparison.now.looped.now.net c.args.comparison.now.care.now (solving_cost c.args.comparison.now.looped.now.net)
+solving-adds c =
+    let l = c.args.comparison.now.looped.now in
+    let is = c.care_on.ensures.looped in
+    adds_caused {cause = HasLargeCover l.net} (λ over. inl over)
     (adds_moved (λ w wide.
-    working-wide c.args.comparison.now.order.now net care c.args.comparison.now.laid wide c.care_on.new.d.vars vars (values_of c.care_on.new.d c.args.rails.now) (points-are c vars) (loops_by c.args.comparison.now.looped.now.blocks c.args.comparison.now.looped.now.cut)
-    (loops-are net c.args.comparison.now.looped.now.blocks c.args.comparison.now.looped.now.cut c.net-net.ensures.looped.blocks c.net-net.ensures.looped.cut)) c.solve_beside.ensures.adds)
+    working-wide c.args.comparison.now.order.now l.net c.args.comparison.now.care.now c.args.comparison.now.laid wide c.care_on.new.d.vars (care-vars c) (values_of c.care_on.new.d c.args.rails.now) (points-are c)
+    (loops_by l.blocks l.cut) (loops-are l.net l.blocks l.cut is.blocks is.cut)) c.solve_beside.ensures.adds)
 
 pub returns-in_err-set-clause-adds : goal.returns-in_err-set-clause-adds
 returns-in_err-set-clause-adds g = adds_more (omega arith) (adds_refused g.in_err-set.was g.from_residual.ensures.1 (care-adds (goal.at.returns-in_err-set-clause-adds g).After-care_on))
@@ -95,16 +62,10 @@ returns-in_err-found-clause-adds g =
     let at = goal.at.returns-in_err-found-clause-adds g in
     adds_more (omega arith)
     (adds_refused g.in_err-found.was g.from_residual-in_err-found.ensures.1
-    (adds_then g.care_on.ensures.grows.keeps.limit (care-adds at.After-care_on) (solving-adds at.After-solve_beside (care-vars at.After-care_on))))
+    (adds_then g.care_on.ensures.grows.keeps.limit (care-adds at.After-care_on) (solving-adds at.After-solve_beside)))
 
 pub returns-clause-adds : goal.returns-clause-adds
 returns-clause-adds g =
     let at = goal.at.returns-clause-adds g in
     adds_then g.care_on.ensures.grows.keeps.limit (care-adds at.After-care_on)
-    (adds_then g.solve_beside.ensures.limit (solving-adds at.After-solve_beside (care-vars at.After-care_on)) (within_only g.compare_solved.ensures.grows).adds)
-
-pub returns-clause-vars : goal.returns-clause-vars
-returns-clause-vars g = g.compare_solved.ensures.grows.keeps.vars ∙ g.solve_beside.ensures.vars ∙ g.care_on.ensures.grows.keeps.vars
-
-pub returns-clause-limit : goal.returns-clause-limit
-returns-clause-limit g = g.compare_solved.ensures.grows.keeps.limit ∙ g.solve_beside.ensures.limit ∙ g.care_on.ensures.grows.keeps.limit
+    (adds_then g.solve_beside.ensures.limit (solving-adds at.After-solve_beside) (within_only g.compare_solved.ensures.grows).adds)

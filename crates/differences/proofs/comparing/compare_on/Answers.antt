@@ -1,17 +1,10 @@
-use Rattle.std.proofs.Common.{◌∙◌, ◌+◌, ◌≤◌, subst, sym, arith}
-use Rattle.differences.proofs.Common.{within_only, IsLayout}
+use Rattle.std.proofs.Common.{◌∙◌, ◌+◌, ◌≤◌, arith}
+use Rattle.differences.proofs.Common.{within_only}
 use Rattle.bdd_store.proofs.GrowthLemmas.{within_each, adds_then, adds_refused}
-use Rattle.isolation.specs.Columns.{AreColumns}
 use Rattle.differences.specs.Comparisons.{AddsInComparison, comparison_cost, whole_cost}
 use Rattle.differences.proofs.EnoughLemmas.{full_for}
 use Rattle.differences.proofs.comparing.compare_on.Goals as goal
 use Rattle.differences.proofs.comparing.compare_on.Goals.{After-column_rails}
-
-pub column_rails-requires : goal.column_rails-requires
-column_rails-requires c = subst (λ n. IsLayout n c.args.comparison.now.order.now) (sym c.requires.vars) c.args.comparison.now.laid
-
-pub compare_columns-requires-clause-columns : goal.compare_columns-requires-clause-columns
-compare_columns-requires-clause-columns c = subst (AreColumns c.column_rails.new.d c.args.comparison.now.order.now) (sym c.deref.ensures.value) c.in_ok-rails.ensures.rails
 
 after-columns : (c : After-column_rails) → AddsInComparison c.column_rails.result c.args.d.now c.column_rails.new.d c.args.comparison.now.order.now c.args.comparison.now.looped.now.net c.args.comparison.now.care.now 2
 after-columns c =

@@ -1,24 +1,17 @@
-use Rattle.std.proofs.Common.{◌∙◌, List, sym, ap, subst}
-use Rattle.differences.proofs.Common.{find, within_moved, IsLayout, by_variable, vectors, Rails, AreRailsOf, some_differ, BoundsPairs}
-use Rattle.std.specs.List.{All}
-use Rattle.differences.specs.Sets.{HasRails}
-use Rattle.differences.proofs.ComparingLemmas.{has-rails, least-is, ok-moved, pairs-bounded}
+use Rattle.std.proofs.Common.{◌∙◌, List, ap}
+use Rattle.differences.proofs.Common.{find, within_moved, by_variable, vectors, Rails, some_differ}
+use Rattle.std.proofs.lemmas.Result.{IfOk-weaker}
+use Rattle.differences.proofs.ComparingLemmas.{has-rails, least-is, pairs-bounded}
 use Rattle.differences.proofs.comparing.compare_solved.Goals as goal
-
-pub least_of_pairs-requires-clause-layout : goal.least_of_pairs-requires-clause-layout
-least_of_pairs-requires-clause-layout c = subst (λ n. IsLayout n c.args.comparison.now.order.now) (sym c.requires.vars) c.args.comparison.now.laid
-
-pub least_of_pairs-requires-clause-rails : goal.least_of_pairs-requires-clause-rails
-least_of_pairs-requires-clause-rails c = subst (All (AreRailsOf c.args.d.now)) (sym c.items.ensures) c.requires.fixed.proper
 
 pub least_of_pairs-requires-clause-pairs : goal.least_of_pairs-requires-clause-pairs
 least_of_pairs-requires-clause-pairs c =
-    subst (λ (rails : List Rails). All (HasRails rails) c.args.comparison.now.pairs.now) (sym c.items.ensures)
+    rw c.items.ensures
     (has-rails c.args.comparison.now.looped.now.net c.args.found.now.rails c.args.comparison.now.pairs.now c.requires.fixed.width c.args.comparison.now.paired)
 
 pub returns-clause-found : goal.returns-clause-found
 returns-clause-found c =
-    ok-moved c.least_of_pairs.result _ _
+    IfOk-weaker c.least_of_pairs.result _ _
     (λ found is.
     is
     ∙ ap (λ (rails : List Rails). find (λ v. some_differ c.args.d.now c.args.found.now.set rails c.args.comparison.now.pairs.now (by_variable c.args.comparison.now.order.now v)) (vectors c.args.d.now.vars)) c.items.ensures
@@ -29,6 +22,6 @@ pub returns-clause-grows : goal.returns-clause-grows
 returns-clause-grows c =
     within_moved
     (λ w wide.
-    subst (λ (rails : List Rails). BoundsPairs c.args.d.now c.args.found.now.set rails c.args.comparison.now.pairs.now w) (sym c.items.ensures)
+    rw c.items.ensures
     (pairs-bounded c.args.comparison.now.order.now c.args.comparison.now.looped.now.net c.args.comparison.now.care.now c.args.d.now c.requires.vars c.args.found.now.set c.args.found.now.rails c.requires.set c.requires.fixed c.args.comparison.now.pairs.now c.args.comparison.now.paired c.args.comparison.now.laid w wide))
     c.least_of_pairs.ensures.grows

@@ -1,28 +1,24 @@
-use Rattle.std.proofs.Common.{◌∙◌, Vec, Global, Option, Bool, List, sym, ap, subst}
+use Rattle.std.proofs.Common.{◌≡◌, ◌∙◌, ◌||◌, ℕ, Vec, Global, Option, Some, Bool, true, false, cond, List, refl, sym, ap}
 use Rattle.std.specs.Option.{option_map}
-use Rattle.cyc_base.specs.Vectors.{AtMost}
-use Rattle.differences.proofs.LesserLemmas.{lesser-first, lesser-second, only-first, only-second}
+use Rattle.std.specs.Cmp.Lexicographic.{slice_cmp}
+use Rattle.std.specs.Ordering.{bool_cmp, is_lt}
+use Rattle.differences.proofs.Common.{find, vectors}
+use Rattle.differences.proofs.LesserLemmas.{above-from_cmp, below-from_cmp, lesser-first, lesser-second, only-first, only-second}
 use Rattle.differences.proofs.lesser.lesser.Goals as goal
 
 -- the bits of a vector
 abbrev items : Option (Vec Bool Global) → Option (List Bool)
 items found = option_map (λ (v : Vec Bool Global). v.items) found
 
-pub returns-then-is_at_most : goal.returns-then-is_at_most
-returns-then-is_at_most c n p q first second =
-    let v : List Bool = c.in-Some-Some.v.items in
-    let w : List Bool = c.in-Some-Some.w.items in
-    let most : AtMost v w =
-    subst (λ x. AtMost x w) c.deref.ensures.value (subst (λ y. AtMost c.deref.result.now y) c.deref-in-Some-Some.ensures.value (c.is_at_most.ensures.at_most c.if-is_at_most.true)) in
-    sym (lesser-first n p q v w (sym first ∙ ap items c.in-Some-Some.is-0) (sym second ∙ ap items c.in-Some-Some.is-1) most)
+least-of : (n : ℕ) (p q : List Bool → Bool) (v w : Vec Bool Global) (b : Bool) → is_lt (slice_cmp bool_cmp w.items v.items) ≡ b → find p (vectors n) ≡ Some v.items → find q (vectors n) ≡ Some w.items →
+    items (Some (cond b w v)) ≡ find (λ u. p u || q u) (vectors n)
+least-of n p q v w true is first second = sym (lesser-second n p q v.items w.items first second (below-from_cmp w.items v.items is))
+least-of n p q v w false is first second = sym (lesser-first n p q v.items w.items first second (above-from_cmp w.items v.items is))
 
-pub returns-else-is_at_most : goal.returns-else-is_at_most
-returns-else-is_at_most c n p q first second =
-    let v : List Bool = c.in-Some-Some.v.items in
-    let w : List Bool = c.in-Some-Some.w.items in
-    let most : AtMost w v =
-    subst (λ x. AtMost w x) c.deref.ensures.value (subst (λ y. AtMost y c.deref.result.now) c.deref-in-Some-Some.ensures.value (c.is_at_most.ensures.above c.if-is_at_most.false)) in
-    sym (lesser-second n p q v w (sym first ∙ ap items c.in-Some-Some.is-0) (sym second ∙ ap items c.in-Some-Some.is-1) most)
+pub returns-in-Some-Some : goal.returns-in-Some-Some
+returns-in-Some-Some c n p q first second =
+    ap (λ (m : Vec Bool Global). items (Some m)) c.min.ensures
+    ∙ least-of n p q c.in-Some-Some.v c.in-Some-Some.w _ refl (sym first ∙ ap items c.in-Some-Some.is-0) (sym second ∙ ap items c.in-Some-Some.is-1)
 
 pub returns-in-Some-None : goal.returns-in-Some-None
 returns-in-Some-None c n p q first second = sym (ap items c.in-Some-None.is-0) ∙ first ∙ sym (only-first n p q (sym second ∙ ap items c.in-Some-None.is-1))

@@ -1,11 +1,8 @@
-use Rattle.std.proofs.Common.{◌∙◌, sym, refl, subst}
-use Rattle.differences.proofs.Common.{den, within_answered, within_refused, IsLayout, by_variable, is_above}
+use Rattle.std.proofs.Common.{◌∙◌, refl}
+use Rattle.differences.proofs.Common.{den, within_answered, within_refused, by_variable, is_above}
 use Rattle.bdd_store.proofs.GrowthLemmas.{within_memory}
 use Rattle.differences.proofs.PartingLemmas.{first-same}
 use Rattle.differences.proofs.parting.least_above.Goals as goal
-
-pub least_of-requires-clause-columns : goal.least_of-requires-clause-columns
-least_of-requires-clause-columns c = subst (λ n. IsLayout n c.args.order.now) (sym c.above.ensures.grows.keeps.vars) c.requires.layout
 
 pub returns-clause-least : goal.returns-clause-least
 returns-clause-least c =

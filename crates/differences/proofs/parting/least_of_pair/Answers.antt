@@ -1,13 +1,10 @@
-use Rattle.std.proofs.Common.{◌∙◌, sym, subst, arith}
-use Rattle.differences.proofs.Common.{GrowsWithin, NoOtherCause, within_moved, within_then, within_more, within_answered, within_refused, IsLayout, by_variable, is_above}
+use Rattle.std.proofs.Common.{◌∙◌, arith}
+use Rattle.differences.proofs.Common.{GrowsWithin, NoOtherCause, within_moved, within_then, within_more, within_answered, within_refused, by_variable, is_above}
 use Rattle.dual_rail.proofs.SurelyLemmas.{AreRailsOf-kept}
 use Rattle.differences.specs.Sets.{BoundsPair}
 use Rattle.differences.proofs.PartingLemmas.{above-kept, bounds-kept, first-same}
 use Rattle.differences.proofs.parting.least_of_pair.Goals as goal
 use Rattle.differences.proofs.parting.least_of_pair.Goals.{After-least_above-2}
-
-pub least_above-requires-2-clause-layout : goal.least_above-requires-2-clause-layout
-least_above-requires-2-clause-layout c = subst (λ n. IsLayout n c.args.order.now) (sym c.least_above.ensures.grows.keeps.vars) c.requires.layout
 
 pub least_above-requires-2-clause-compared : goal.least_above-requires-2-clause-compared
 least_above-requires-2-clause-compared c =

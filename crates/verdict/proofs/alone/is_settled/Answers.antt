@@ -1,6 +1,5 @@
 use Rattle.std.proofs.Common.{subst}
-use Rattle.verdict.proofs.Common.{eqb-true, block_at}
-use Rattle.isolation.specs.Settled.{SettleInSweeps}
+use Rattle.verdict.proofs.Common.{eqb-true, block_at, SettleInSweeps}
 use Rattle.verdict.proofs.alone.is_settled.Goals as goal
 
 pub returns-in-Some : goal.returns-in-Some

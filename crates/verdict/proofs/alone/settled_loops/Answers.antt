@@ -1,13 +1,17 @@
-use Rattle.std.proofs.Common.{◌+◌, length, sym, ap, subst, arith}
-use Rattle.verdict.proofs.Common.{Blocks}
-use Rattle.verdict.proofs.DeterminationLemmas.{AreSettledBelow, settled-more}
+use Rattle.std.proofs.Common.{◌≡◌, ◌+◌, ◌∙◌, true, false, length, ap, arith}
+use Rattle.verdict.proofs.Common.{Blocks, block_at, length_push, SettleInSweeps}
+use Rattle.verdict.proofs.DeterminationLemmas.{each-more}
 use Rattle.verdict.proofs.alone.settled_loops.Goals as goal
 
 pub loop-place-preserved : goal.loop-place-preserved
 loop-place-preserved c =
     let l = c.args.looped.now in
-    subst (AreSettledBelow l.net l.blocks (c.loop-place.place + 1)) (sym c.in_ok-push.ensures.items)
-    (settled-more l.net l.blocks c.loop-place.place _ c.loop-place.settled.items c.loop-place.invariant c.in_ok-is_settled.ensures)
+    let before = c.loop-place.invariant in
+    rw c.in_ok-push.ensures.items (record {
+      width = length_push c.loop-place.settled.items _ ∙ ap (λ n. n + 1) before.width;
+      each = each-more (λ b mark. (block_at l.blocks b).looped ≡ true → mark ≡ true → SettleInSweeps l.net (block_at l.blocks b).gates 1) false _ c.loop-place.place c.loop-place.settled.items before.width before.each
+          (λ looped marked. c.in_ok-is_settled.ensures marked looped);
+    })
 
 pub returns-clause-settled : goal.returns-clause-settled
 returns-clause-settled c b within loop marked =

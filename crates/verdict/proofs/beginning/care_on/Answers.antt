@@ -1,39 +1,41 @@
-use Rattle.std.proofs.Common.{◌∙◌, refl, ◌&&◌, ◌+◌, ◌*◌, ◌≤◌, ℕ, sym, ap₂, arith}
-use Rattle.verdict.proofs.Common.{GrowsWithin, nodes, within_only, within_one, within_then, within_moved, within_more, within_answered, within_refused, conjunction, values_of, HasModelOver, assume_effort, SaysCare, Tells, has_state_inside, laid}
-use Rattle.verdict.specs.Enough.{IsWideFor}
+use Rattle.std.proofs.Common.{◌≡◌, ◌∙◌, refl, ◌&&◌, ◌*◌, List, Bool, length, sym, ap₂, arith}
+use Rattle.verdict.proofs.Common.{within_only, within_one, within_then, within_moved, within_more, within_refused, conjunction, values_of, columns, is_care_vector, assume_effort, GrowsInDecision, SaysCare, laid}
 use Rattle.verdict.proofs.DecisionLemmas.{made-listed, made-one, wide-kept}
-use Rattle.verdict.proofs.PartLemmas.{Tells-kept}
+use Rattle.verdict.proofs.PartLemmas.{IfOk-both, Tells-kept, assume-reads}
 use Rattle.verdict.proofs.WorkLemmas.{assume-bounded}
 use Rattle.verdict.proofs.beginning.care_on.Goals as goal
 use Rattle.verdict.proofs.beginning.care_on.Goals.{After-assume_on, After-and}
 
+pub assume_on-requires-clause-reads : goal.assume_on-requires-clause-reads
+assume_on-requires-clause-reads c = rw c.care.ensures.care (assume-reads c.args.question.now.net c.args.question.now.care _ c.care.ensures.is.care (c.requires.columns.width ∙ c.requires.vars))
+
+-- the set and the assumption are true at the vectors of care
+counts : (c : After-and) (v : List Bool) → length v ≡ c.args.d.now.vars → conjunction c.assume_on.new.d c.args.inside c.in_ok-allowed.allowed (laid c.args.question.now.net v) ≡ is_care_vector c.args.question.now.net c.args.question.now.care v
+counts c v long =
+    let allowed = rw c.care.ensures.care at c.in_ok-allowed.ensures.allowed in
+    ap₂ (λ x y. x && y) ((Tells-kept c.assume_on.ensures.grows.keeps c.requires.inside).value v (long ∙ sym c.assume_on.ensures.grows.keeps.vars)) (allowed v (laid c.args.question.now.net v) (c.requires.columns.values v long))
+
+pub returns-clause-told : goal.returns-clause-told
+returns-clause-told g =
+    let c : After-and = (goal.at.returns-clause-told g).After-and in
+    IfOk-both g.and.result (λ set node function. record {
+      node = node;
+      value = λ v wide. function (laid g.args.question.now.net v) ∙ counts c v (wide ∙ g.and.ensures.grows.keeps.vars ∙ g.assume_on.ensures.grows.keeps.vars);
+    }) g.and.ensures.node g.and.ensures.function
+
 -- what the assumption works with
-assumption : (c : After-assume_on) → GrowsWithin c.assume_on.result c.args.d.now c.assume_on.new.d (HasModelOver c.args.care.now) (IsWideFor c.args.care.now c.args.d.now c.args.inside c.args.rails.now) (2 * assume_effort c.args.care.now)
-assumption c = within_moved (λ w is. assume-bounded is.net c.args.care.now c.args.d.now.vars is.vars is.wide (values_of c.args.d.now c.args.rails.now) is.are_columns.values) c.assume_on.ensures.grows
-
--- the set is that of the care vectors
-set-fits : (c : After-and) (w : ℕ) → IsWideFor c.args.care.now c.args.d.now c.args.inside c.args.rails.now w → nodes c.assume_on.new.d.vars (conjunction c.assume_on.new.d c.args.inside c.in_ok-allowed.allowed) ≤ w
-set-fits c w is =
-    let net = is.net in
-    let keeps = c.assume_on.ensures.grows.keeps in
-    let inside : Tells net c.assume_on.new.d c.args.inside (has_state_inside net c.args.care.now) = Tells-kept keeps is.told in
-    made-one (keeps.vars ∙ is.vars) (wide-kept keeps is.wide) (conjunction c.assume_on.new.d c.args.inside c.in_ok-allowed.allowed)
-    (made-listed (SaysCare (λ v. refl)) (λ v long.
-    ap₂ (λ x y. x && y) (inside.value v (long ∙ sym (keeps.vars ∙ is.vars))) (c.in_ok-allowed.ensures.allowed v (laid net v) (is.are_columns.values v (long ∙ sym is.vars)))))
-
-both : (c : After-and) → GrowsWithin c.assume_on.result c.args.d.now c.assume_on.new.d (HasModelOver c.args.care.now) (IsWideFor c.args.care.now c.args.d.now c.args.inside c.args.rails.now) (2 * assume_effort c.args.care.now) →
-    GrowsWithin c.and.result c.args.d.now c.and.new.self (HasModelOver c.args.care.now) (IsWideFor c.args.care.now c.args.d.now c.args.inside c.args.rails.now) (2 * assume_effort c.args.care.now + 1)
-both c before = within_then before (within_only (within_one (set-fits c) c.and.ensures.grows))
+assumption : (c : After-assume_on) → GrowsInDecision c.assume_on.result c.args.d.now c.assume_on.new.d c.args.question.now.net c.args.question.now.care (2 * assume_effort c.args.question.now.care)
+assumption c =
+    let grows = rw c.care.ensures.care at c.assume_on.ensures.grows in
+    within_moved (λ w wide. assume-bounded c.args.question.now.net c.args.question.now.care c.args.d.now.vars c.requires.vars wide (values_of c.args.d.now c.args.rails.now) c.requires.columns.values) grows
 
 pub returns-in_err-allowed-clause-grows : goal.returns-in_err-allowed-clause-grows
 returns-in_err-allowed-clause-grows g = within_more (omega arith) (within_refused g.in_err-allowed.was g.from_residual.ensures.1 (assumption (goal.at.returns-in_err-allowed-clause-grows g).After-assume_on))
 
-pub returns-in_err-and-clause-grows : goal.returns-in_err-and-clause-grows
-returns-in_err-and-clause-grows g =
-    let at = goal.at.returns-in_err-and-clause-grows g in
-    within_refused g.in_err-and.was g.from_residual-in_err-and.ensures.1 (both at.After-and (assumption at.After-assume_on))
-
 pub returns-clause-grows : goal.returns-clause-grows
 returns-clause-grows g =
     let at = goal.at.returns-clause-grows g in
-    within_answered (both at.After-and (assumption at.After-assume_on))
+    let keeps = g.assume_on.ensures.grows.keeps in
+    within_then (assumption at.After-assume_on) (within_only (within_one (λ w wide.
+    made-one (keeps.vars ∙ g.requires.vars) (wide-kept keeps wide) (conjunction g.assume_on.new.d g.args.inside g.in_ok-allowed.allowed)
+    (made-listed (SaysCare (λ v. refl)) (λ v long. counts at.After-and v (long ∙ sym g.requires.vars)))) g.and.ensures.grows))

@@ -1,5 +1,5 @@
-use Rattle.std.proofs.Common.{◌≡◌, ◌*◌, ◌∙◌, inr, Some, length}
-use Rattle.verdict.proofs.Common.{GrowsWithin, within_answered, within_refused, values_of, HasModelOver, invariant_effort, BoundsModel, model_of}
+use Rattle.std.proofs.Common.{◌≡◌, ◌∙◌, inr, Some, length}
+use Rattle.verdict.proofs.Common.{IfOk-weaker, values_of, model_of}
 use Rattle.verdict.proofs.CareLemmas.{model_grows, model_holds, model_there}
 use Rattle.verdict.proofs.care.invariant_on.Goals as goal
 use Rattle.verdict.proofs.care.invariant_on.Goals.{After-holds_on}
@@ -9,14 +9,11 @@ there : (c : After-holds_on) → c.args.care.now.invariant ≡ Some (model_of c.
 there c = model_there c.args.care.now.invariant c.in-Some.model.now c.invariant_columns.result.now c.args.first (length c.args.latches.now) c.in-Some.ensures.net c.invariant_columns.ensures.columns c.requires.reads
 
 pub returns-clause-inside : goal.returns-clause-inside
-returns-clause-inside c state v are =
-    c.in_ok-holds_on.ensures.holds state v are ∙ model_holds c.args.care.now.invariant (model_of c.in-Some.model.now c.args.first c.invariant_columns.result.now) state (there (goal.at.returns-clause-inside c).After-holds_on)
-
-holds-grows : (c : After-holds_on) → GrowsWithin c.holds_on.result c.args.d.now c.holds_on.new.d (HasModelOver c.args.care.now) (BoundsModel c.args.care.now.invariant c.args.d.now.vars (values_of c.args.d.now c.args.latches.now)) (2 * invariant_effort c.args.care.now)
-holds-grows c = model_grows c.args.care.now c.args.care.now.invariant (model_of c.in-Some.model.now c.args.first c.invariant_columns.result.now) (values_of c.args.d.now c.args.latches.now) (there c) (λ over. inr over) c.holds_on.ensures.grows
+returns-clause-inside c =
+    let is = there (goal.at.returns-clause-inside c).After-holds_on in
+    IfOk-weaker c.holds_on.result _ _ (λ node holds values v are. holds values v are ∙ model_holds c.args.care.now.invariant _ values is) c.holds_on.ensures.holds
 
 pub returns-clause-grows : goal.returns-clause-grows
-returns-clause-grows c = within_answered (holds-grows (goal.at.returns-clause-grows c).After-holds_on)
-
-pub returns-in_err-holds_on-clause-grows : goal.returns-in_err-holds_on-clause-grows
-returns-in_err-holds_on-clause-grows c = within_refused c.in_err-holds_on.was c.from_residual.ensures.1 (holds-grows (goal.at.returns-in_err-holds_on-clause-grows c).After-holds_on)
+returns-clause-grows c =
+    let is = there (goal.at.returns-clause-grows c).After-holds_on in
+    model_grows c.args.care.now c.args.care.now.invariant _ (values_of c.args.d.now c.args.latches.now) is (λ over. inr over) c.holds_on.ensures.grows

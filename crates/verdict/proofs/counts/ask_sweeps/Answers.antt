@@ -1,19 +1,14 @@
-use Rattle.std.proofs.Common.{◌≡◌, ℕ, Contains, subst}
-use Rattle.std.specs.Prelude.{IfSome}
-use Rattle.std.proofs.lemmas.Option.{IfSome_then}
-use Rattle.loops.specs.Looped.{Looped}
-use Rattle.verdict.proofs.Common.{IfOk-weaker, CareSet, block_at, loops_by, IsLeastCount}
-use Rattle.verdict.specs.Scopes.{IsScopedAt}
 use Rattle.verdict.proofs.counts.ask_sweeps.Goals as goal
 
+pub sweeps_needed-requires-clause-known : goal.sweeps_needed-requires-clause-known
+sweeps_needed-requires-clause-known c = rw (c.looped-looped.ensures.looped, c.care-care.ensures.care) (rw c.in-Nowhere.is at c.requires.unknown)
+
+pub sweeps_fed_known-requires-clause-fed : goal.sweeps_fed_known-requires-clause-fed
+sweeps_fed_known-requires-clause-fed c =
+    rw (c.looped-looped.ensures.looped, c.care-care.ensures.care, c.in-Ok.ensures.1) (c.in_ok-is_fed_known.ensures c.if-not-branch.false)
+
+pub returns-in-Nowhere : goal.returns-in-Nowhere
+returns-in-Nowhere c = rw (c.looped-looped.ensures.looped, c.care-care.ensures.care, c.in-Ok.ensures.1) at c.sweeps_needed.ensures
+
 pub returns : goal.returns
-returns c =
-    let s = c.args.search.now in
-    let scoped = subst (λ o. IfSome o (IsScopedAt s.net s.blocks c.args.place)) c.in-Some.is c.in_ok-asked.ensures in
-    let same : c.in-Some.asked.block ≡ c.args.place = scoped.block in
-    IfOk-weaker c.sweeps_needed.result _ _ (λ found is.
-    IfSome_then found is (λ sweeps least looped unsettled.
-    subst (λ (care : CareSet). (gate : ℕ) → Contains (block_at s.blocks c.args.place).gates gate → IsLeastCount s.net (loops_by s.blocks s.cut) care gate sweeps) c.care-care.ensures.care
-    (subst (λ (l : Looped). (gate : ℕ) → Contains (block_at l.blocks c.args.place).gates gate → IsLeastCount l.net (loops_by l.blocks l.cut) c.care-care.result.now gate sweeps) c.looped-looped.ensures.looped
-    (subst (λ (b : ℕ). (gate : ℕ) → Contains (block_at c.looped-looped.result.now.blocks b).gates gate → IsLeastCount c.looped-looped.result.now.net (loops_by c.looped-looped.result.now.blocks c.looped-looped.result.now.cut) c.care-care.result.now gate sweeps) same least))))
-    c.sweeps_needed.ensures
+returns c = rw (c.looped-looped.ensures.looped, c.care-care.ensures.care, c.in-Ok.ensures.1) at c.sweeps_fed_known.ensures

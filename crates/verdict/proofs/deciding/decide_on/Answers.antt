@@ -1,7 +1,6 @@
-use Rattle.std.proofs.Common.{◌∙◌, Err, inl, ◌+◌, ◌≤◌, ℕ, List, ap, sym, subst, arith}
-use Rattle.verdict.proofs.Common.{StoreFault, within_only, adds_then, adds_refused, order, AreColumns, decision_cost, start_cost, AddsInDecision}
+use Rattle.std.proofs.Common.{◌∙◌, Err, inl, ◌+◌, ◌≤◌, ap, sym, subst, arith}
+use Rattle.verdict.proofs.Common.{StoreFault, within_only, adds_then, adds_refused, order, decision_cost, start_cost, AddsInDecision, HasCoverOver}
 use Rattle.bdd_store.proofs.GrowthLemmas.{within_each}
-use Rattle.verdict.specs.Causes.{HasCoverOver}
 use Rattle.verdict.specs.Costs.{whole_cost}
 use Rattle.verdict.proofs.CauseLemmas.{full_for}
 use Rattle.verdict.proofs.PartLemmas.{order-layout}
@@ -10,11 +9,6 @@ use Rattle.verdict.proofs.deciding.decide_on.Goals.{After-column_rails}
 
 pub column_rails-requires : goal.column_rails-requires
 column_rails-requires c = order-layout c.args.question.now.net c.args.d.now.vars c.order.result.now c.requires c.order.ensures
-
-pub judge-requires-clause-columns : goal.judge-requires-clause-columns
-judge-requires-clause-columns c =
-    subst (AreColumns c.column_rails.new.d (order c.args.question.now.net)) (sym c.deref.ensures.value)
-    (subst (λ (cs : List ℕ). AreColumns c.column_rails.new.d cs c.in_ok-rails.rails.items) c.order.ensures c.in_ok-rails.ensures.rails)
 
 -- ---- what it does to the diagrams
 

@@ -1,25 +1,16 @@
-use Rattle.std.proofs.Common.{◌≡◌, ◌∙◌, ◌+◌, ◌*◌, ℕ, None, length, ap, sym, subst, arith}
-use Rattle.verdict.proofs.Common.{IsLawful, within_only, within_then, within_moved, within_more, within_refused, within_answered, IsWide, Blocks, home_of, loops_by, IsSolution, is_care_vector, refusal, GrowsWithin, HasModelOver, GrowsInDecision, IsLaid, Tells, AreLoose}
+use Rattle.std.proofs.Common.{◌≡◌, ◌∙◌, ℕ, None, sym, subst, arith}
+use Rattle.verdict.proofs.Common.{IsLawful, within_only, within_moved, within_more, within_refused, within_answered, IsWide, Blocks, home_of, loops_by, IsSolution, is_care_vector, refusal, GrowsInDecision, IsLaid, Tells, AreLoose}
 use Rattle.fixpoint.specs.Counts.{AreLoopsToCount, CountSweeps, IsComparedIn, count_at}
 use Rattle.fixpoint.proofs.KeptLemmas.{RootsStay-kept}
 use Rattle.verdict.specs.Costs.{solved_cost}
-use Rattle.verdict.specs.Verdicts.{IsGateVerdict, refusal_on_care}
+use Rattle.verdict.specs.Verdicts.{refusal_on_care}
 use Rattle.verdict.proofs.CountLemmas.{count-on-care}
-use Rattle.verdict.proofs.DecisionLemmas.{wide-kept}
+use Rattle.verdict.proofs.DecisionLemmas.{decision-then}
 use Rattle.verdict.proofs.PartLemmas.{Tells-kept}
 use Rattle.verdict.proofs.SolutionLemmas.{compared-wide}
 use Rattle.verdict.proofs.VerdictLemmas.{refused-on-care, accepts-is}
 use Rattle.verdict.proofs.diagrams.judge_solved.Goals as goal
 use Rattle.verdict.proofs.diagrams.judge_solved.Goals.{After-sweeps, In-Determined}
-
-pub verdict_on_care-requires-clause-fixed : goal.verdict_on_care-requires-clause-fixed
-verdict_on_care-requires-clause-fixed c = c.requires.solved.fixed
-
-pub verdict_on_care-requires-clause-vars : goal.verdict_on_care-requires-clause-vars
-verdict_on_care-requires-clause-vars c = c.requires.solved.vars
-
-pub verdict_on_care-requires-clause-set : goal.verdict_on_care-requires-clause-set
-verdict_on_care-requires-clause-set c = c.requires.start.told
 
 -- what is known once nothing refuses
 
@@ -33,9 +24,7 @@ kept-told : (c : In-Determined) → Tells c.args.question.now.net c.verdict_on_c
 kept-told c = Tells-kept c.verdict_on_care.ensures.grows.keeps c.requires.start.told
 
 care-determined : (c : In-Determined) → (refusal_on_care c.args.question.now.net c.args.question.now.care c.args.question.now.what ≡ None) × AreLoose c.args.question.now.net c.args.question.now.care c.in-Determined.loose
-care-determined c =
-    let q = c.args.question.now in
-    subst (IsGateVerdict (refusal_on_care q.net q.care q.what) q.net q.care) c.in-Determined.is c.in_ok-gates.ensures.gates
+care-determined c = rw c.in-Determined.is at c.in_ok-gates.ensures.gates
 
 nothing-refuses : (c : In-Determined) → refusal c.args.question.now.net c.args.question.now.care c.args.question.now.what ≡ None
 nothing-refuses c =
@@ -82,7 +71,7 @@ pub returns-in-Refused-clause-verdict : goal.returns-in-Refused-clause-verdict
 returns-in-Refused-clause-verdict c =
     let q = c.args.question.now in
     refused-on-care q.net q.care q.what _ c.requires.start.initial c.requires.start.some
-    (subst (IsGateVerdict (refusal_on_care q.net q.care q.what) q.net q.care) c.in-Refused.is c.in_ok-gates.ensures.gates)
+    (rw c.in-Refused.is at c.in_ok-gates.ensures.gates)
 
 -- ---- what it does to the diagrams
 
@@ -106,12 +95,8 @@ returns-in-Refused-clause-grows c = within_more (omega arith) (within_answered c
 counted : (c : After-sweeps) → ((w : ℕ) → IsWide c.verdict_on_care.new.d.vars (IsLaid c.args.question.now.net c.args.question.now.care) w → IsWide c.verdict_on_care.new.d.vars (IsComparedIn c.verdict_on_care.new.d c.args.found.now.set c.args.found.now.solved.loops) w) →
     GrowsInDecision c.sweeps.result c.args.d.now c.sweeps.new.d c.args.question.now.net c.args.question.now.care (solved_cost c.args.question.now.net c.args.question.now.care)
 counted c wide =
-    let net = c.args.question.now.net in
-    let care = c.args.question.now.care in
-    within_then c.verdict_on_care.ensures.grows
-    (subst (λ n. GrowsWithin c.sweeps.result c.verdict_on_care.new.d c.sweeps.new.d (HasModelOver care) (IsWide c.args.d.now.vars (IsLaid net care)) (6 * n * (n + 2)))
-    (ap (λ (b : Blocks). length b.home) c.blocks-blocks.ensures.blocks ∙ c.blocks-blocks.ensures.is.blocks.homes)
-    (within_only (within_moved (λ w is_wide. wide w (wide-kept c.verdict_on_care.ensures.grows.keeps is_wide)) c.sweeps.ensures.grows)))
+    let grows = rw (c.blocks-blocks.ensures.blocks, c.blocks-blocks.ensures.is.blocks.homes) at c.sweeps.ensures.grows in
+    decision-then c.verdict_on_care.ensures.grows (within_only (within_moved wide grows))
 
 pub returns-in_err-counts-clause-grows : goal.returns-in_err-counts-clause-grows
 returns-in_err-counts-clause-grows g =

@@ -1,23 +1,15 @@
-use Rattle.std.proofs.Common.{◌∙◌, ◌+◌, ◌*◌, ℕ, inl, inr, length, ap, sym, subst, arith}
-use Rattle.verdict.proofs.Common.{IsLawful, adds_then, adds_moved, adds_more, adds_refused, values_of, IsWide, Looped, loops_by, columns, HasLargeCover, effort, AddsInDecision, IsLaid, AreFixed, AreColumnVectors}
+use Rattle.std.proofs.Common.{◌∙◌, ◌+◌, ◌*◌, ℕ, inl, length, sym, subst, arith}
+use Rattle.verdict.proofs.Common.{IsLawful, adds_then, adds_moved, adds_more, adds_refused, values_of, IsWide, loops_by, columns, HasLargeCover, effort, AddsInDecision, IsLaid, AreColumnVectors}
 use Rattle.bdd_store.proofs.GrowthLemmas.{adds_caused}
 use Rattle.verdict.specs.Verdicts.{IsSolvedWhole}
 use Rattle.verdict.proofs.CountLemmas.{column-vectors}
+use Rattle.verdict.proofs.DecisionLemmas.{decision-adds}
 use Rattle.verdict.proofs.PartLemmas.{Tells-same}
 use Rattle.isolation.proofs.SettlingLemmas.{loops-are}
 use Rattle.verdict.proofs.SolutionLemmas.{working-wide}
 use Rattle.verdict.proofs.VerdictLemmas.{fixed-is}
 use Rattle.verdict.proofs.diagrams.judge_whole.Goals as goal
 use Rattle.verdict.proofs.diagrams.judge_whole.Goals.{After-solve_beside, In_ok-found}
-
-pub solve_beside-requires-clause-width : goal.solve_beside-requires-clause-width
-solve_beside-requires-clause-width c = c.requires.columns.width ∙ c.requires.vars ∙ ap (λ (l : Looped). columns l.net) (sym c.looped-looped.ensures.looped)
-
-pub solve_beside-requires-clause-rails : goal.solve_beside-requires-clause-rails
-solve_beside-requires-clause-rails c = c.requires.columns.proper
-
-pub solve_beside-requires-clause-set : goal.solve_beside-requires-clause-set
-solve_beside-requires-clause-set c = c.requires.start.told.node
 
 -- the vectors that the given rails stand for
 points-are : (c : After-solve_beside) → AreColumnVectors c.args.question.now.net (values_of c.args.d.now c.args.rails.now)
@@ -36,7 +28,7 @@ solved-is c points_are =
       points_are = points_are;
       vars = vars;
       solution = found.solution;
-      fixed = subst (AreFixed q.net c.solve_beside.new.d) (sym found.rails_are) (fixed-is q.net q.blocks q.cut c.solve_beside.new.d points c.in_ok-found.found.solved points_are vars found.solution);
+      fixed = rw found.rails_are (fixed-is q.net q.blocks q.cut c.solve_beside.new.d points c.in_ok-found.found.solved points_are vars found.solution);
     }
 
 pub judge_solved-requires-clause-solved : goal.judge_solved-requires-clause-solved
@@ -71,9 +63,4 @@ returns-in_err-found-clause-adds g = adds_more (omega arith) (adds_refused g.in_
 
 pub returns-clause-adds : goal.returns-clause-adds
 returns-clause-adds g =
-    let c : After-solve_beside = (goal.at.returns-clause-adds g).After-solve_beside in
-    let net = g.args.question.now.net in
-    let care = g.args.question.now.care in
-    let vars = g.solve_beside.ensures.vars ∙ g.requires.vars in
-    adds_then g.solve_beside.ensures.limit (solving-adds c)
-    (adds_caused (λ over. inr over) (adds_moved (λ w wide. subst (λ n. IsWide n (IsLaid net care) w) (sym vars) wide) g.judge_solved.ensures.grows.adds))
+    adds_then g.solve_beside.ensures.limit (solving-adds (goal.at.returns-clause-adds g).After-solve_beside) (decision-adds (g.solve_beside.ensures.vars ∙ g.requires.vars) g.judge_solved.ensures.grows)

@@ -1,8 +1,11 @@
-use Rattle.std.proofs.Common.{◌≡◌, ℕ, ◌+◌, ◌-◌, ◌<◌, ◌≤◌, ◌∙◌, Bool, List, length, drop, get_or, sym, ap, ap₂, arith}
+use Rattle.std.proofs.Common.{◌≡◌, ℕ, ◌+◌, ◌-◌, ◌<◌, ◌≤◌, ◌∙◌, Bool, List, length, drop, get_or, sym, ap, ap₂, arith, false, ◌&&◌}
 use Rattle.std.specs.Prelude.{slice_get, Some}
-use Rattle.verdict.proofs.Common.{GrowsWithin, NoOtherCause, nodes, within_one, within_then, within_more, within_answered, within_refused, conjunction, Rails, AreRailsOf, order, rails_at, rails_at-proper, columns, AreColumns, BoundsStarts, AreColumns-kept}
+use Rattle.verdict.proofs.Common.{GrowsWithin, NoOtherCause, nodes, within_one, within_then, within_more, within_answered, within_refused, conjunction, Rails, AreRailsOf, order, order-is, rails_at, rails_at-proper, columns, AreColumns, BoundsStarts, AreColumns-kept, get_or_from_slice_get, laid, Latch, value_of, slice_get_within}
+use Rattle.std.proofs.lemmas.List.{drop_all}
+use Rattle.refusals.specs.Refusals.{may_start}
+use Rattle.fixpoint.proofs.LayoutLemmas.{length-by_variable}
 use Rattle.bdd_store.proofs.GrowthLemmas.{nothing_grown}
-use Rattle.verdict.proofs.StartLemmas.{all_may_start_at, long-order, order-low, later-none, later-both, later-input, later-more, later-nodes, starts-told}
+use Rattle.verdict.proofs.StartLemmas.{all_may_start_at, may_start_at, input-may, latch-may, later-nodes, next_column, starts-laid, variable-bit}
 use Rattle.verdict.proofs.initial.starts_on.Goals as goal
 use Rattle.verdict.proofs.initial.starts_on.Goals.{After-and}
 
@@ -18,27 +21,30 @@ column-is c = ap (λ (xs : List ℕ). get_or xs (c.loop-variable.variable - 1) 0
 pub loop-variable-init : goal.loop-variable-init
 loop-variable-init c = record {
   grows = nothing_grown;
-  later = later-none c.args.net.now c.args.d.now c.of-set.result c.columns-variable.result (c.of-set.ensures.node c.args.d.now) (c.of-set.ensures.value c.args.d.now)
-      (omega (arith, c.inputs-first.ensures.inputs, c.columns-variable.ensures.columns));
+  later = record {
+    node = c.of-set.ensures.node c.args.d.now;
+    value = λ w wide. c.of-set.ensures.value c.args.d.now w
+        ∙ sym (ap (λ (cs : List ℕ). all_may_start_at c.args.net.now cs (drop c.columns-variable.result w)) (drop_all c.columns-variable.result (order c.args.net.now) (omega (arith, (order-is c.args.net.now).long, c.inputs-first.ensures.inputs, c.columns-variable.ensures.columns))));
+  };
 }
 
 pub bounds-order-variable : goal.bounds-order-variable
 bounds-order-variable c =
-    let long = long-order c.args.net.now in
+    let long = (order-is c.args.net.now).long in
     let same = ap length c.requires.order in
     omega (arith, c.loop-variable-test.true, c.loop-variable.auto.variable, c.inputs-first.ensures.inputs, c.columns-variable.ensures.columns, long, same)
 
 pub latch-requires : goal.latch-requires
 latch-requires c =
     let k : ℕ = c.loop-variable.variable - 1 in
-    let low = order-low c.args.net.now k (omega (arith, c.loop-variable-test.true, c.loop-variable.auto.variable, c.inputs-first.ensures.inputs, c.columns-variable.ensures.columns)) in
+    let low = (order-is c.args.net.now).within k (omega (arith, c.loop-variable-test.true, c.loop-variable.auto.variable, c.inputs-first.ensures.inputs, c.columns-variable.ensures.columns)) in
     let same = ap (λ (xs : List ℕ). get_or xs k 0) c.requires.order in
     omega (arith, low, same, c.if-column-first.true, c.inputs-first.ensures.inputs)
 
 pub bounds-rails-column : goal.bounds-rails-column
 bounds-rails-column c =
     let k : ℕ = c.loop-variable.variable - 1 in
-    let low = order-low c.args.net.now k (omega (arith, c.loop-variable-test.true, c.loop-variable.auto.variable, c.inputs-first.ensures.inputs, c.columns-variable.ensures.columns)) in
+    let low = (order-is c.args.net.now).within k (omega (arith, c.loop-variable-test.true, c.loop-variable.auto.variable, c.inputs-first.ensures.inputs, c.columns-variable.ensures.columns)) in
     let same = ap (λ (xs : List ℕ). get_or xs k 0) c.requires.order in
     let wide = c.requires.columns.width in
     omega (arith, low, same, wide, c.requires.vars)
@@ -47,21 +53,28 @@ bounds-rails-column c =
 
 both : (c : After-and) → (w : List Bool) → length w ≡ c.loop-variable.d.vars →
     conjunction c.loop-variable.d c.may_start_on-latch.result c.loop-variable.set w ≡ all_may_start_at c.args.net.now (drop (c.loop-variable.variable - 1) (order c.args.net.now)) (drop (c.loop-variable.variable - 1) w)
-both c =
+both c w wide =
     let net = c.args.net.now in
     let k : ℕ = c.loop-variable.variable - 1 in
+    let d = c.loop-variable.d in
     let keeps = c.loop-variable.invariant.grows.keeps in
-    let are : AreColumns c.loop-variable.d (order net) c.args.rails.now = AreColumns-kept keeps c.requires.columns in
+    let vars : d.vars ≡ columns net = keeps.vars ∙ c.requires.vars in
+    let inside = variable-inside c in
+    let are : AreColumns d (order net) c.args.rails.now = AreColumns-kept keeps c.requires.columns in
     let column : Rails = rails_at c.args.rails.now (get_or c.args.order.now k 0) in
-    let proper : AreRailsOf c.loop-variable.d column = rails_at-proper c.loop-variable.d c.args.rails.now are.proper (get_or c.args.order.now k 0) in
+    let proper : AreRailsOf d column = rails_at-proper d c.args.rails.now are.proper (get_or c.args.order.now k 0) in
     let first = c.inputs-first.ensures.inputs in
     let same = column-is c in
-    let high : length net.inputs ≤ get_or (order net) k 0 = omega (arith, c.if-column-first.true, first, same) in
-    let found : slice_get net.latches (get_or (order net) k 0 - length net.inputs) ≡ Some c.latch.result.now =
-    ap (slice_get net.latches) (sym (ap₂ (λ x y. x - y) same first)) ∙ c.latch.ensures.latch in
-    later-both net c.loop-variable.d c.args.rails.now column c.loop-variable.set c.may_start_on-latch.result c.loop-variable.variable k c.latch.result.now
-    (omega (arith, c.loop-variable-test.true)) (keeps.vars ∙ c.requires.vars) (variable-inside c) are (ap (rails_at c.args.rails.now) same) high found c.loop-variable.invariant.later
-    (λ b w e. c.may_start_on-latch.ensures.value c.loop-variable.d b w proper e)
+    let i : ℕ = get_or (order net) k 0 - length net.inputs in
+    let place : length net.inputs + i ≡ get_or (order net) k 0 = omega (arith, c.if-column-first.true, first, same) in
+    let latch = c.latch.result.now in
+    let found : slice_get net.latches i ≡ Some latch = ap (slice_get net.latches) (sym (ap₂ (λ x y. x - y) same first)) ∙ c.latch.ensures.latch in
+    ap₂ (λ x y. x && y)
+    (c.may_start_on-latch.ensures.value d (get_or w k false) w proper (ap (λ (r : Rails). value_of d r w) (ap (rails_at c.args.rails.now) same) ∙ variable-bit net d c.args.rails.now k w vars are inside wide)
+    ∙ sym (ap (λ n. may_start_at net n (get_or w k false)) (sym place) ∙ latch-may net i latch (get_or w k false) (slice_get_within net.latches i latch found)
+    ∙ ap (λ (l : Latch). may_start l.init (get_or w k false)) (get_or_from_slice_get net.latches i latch latch found)))
+    (c.loop-variable.invariant.later.value w wide)
+    ∙ sym (next_column net w c.loop-variable.variable k (omega (arith, c.loop-variable-test.true)) inside (wide ∙ vars))
 
 fits-one : (c : After-and) (w : ℕ) → BoundsStarts c.args.net.now w → nodes c.loop-variable.d.vars (conjunction c.loop-variable.d c.may_start_on-latch.result c.loop-variable.set) ≤ w
 fits-one c w fits =
@@ -80,8 +93,7 @@ loop-variable-preserved-then-column-first g =
     let c : After-and = (goal.at.loop-variable-preserved-then-column-first g).After-and in
     record {
       grows = within_answered (step c);
-      later = later-more c.args.net.now c.loop-variable.d c.and.new.self c.loop-variable.set c.may_start_on-latch.result g.in_ok-set.set (c.loop-variable.variable - 1)
-          c.and.ensures.grows.keeps (both c) g.in_ok-set.ensures.node g.in_ok-set.ensures.function;
+      later = record { node = g.in_ok-set.ensures.node; value = λ w wide. g.in_ok-set.ensures.function w ∙ both c w (wide ∙ c.and.ensures.grows.keeps.vars) };
     }
 
 -- an input's column stands for all
@@ -89,18 +101,33 @@ pub loop-variable-preserved : goal.loop-variable-preserved
 loop-variable-preserved c =
     let net = c.args.net.now in
     let k : ℕ = c.loop-variable.variable - 1 in
-    let keeps = c.loop-variable.invariant.grows.keeps in
+    let before = c.loop-variable.invariant in
     let inside : k < columns net = omega (arith, c.loop-variable-test.true, c.loop-variable.auto.variable, c.inputs-first.ensures.inputs, c.columns-variable.ensures.columns) in
     let same = ap (λ (xs : List ℕ). get_or xs k 0) c.requires.order in
+    let low : get_or (order net) k 0 < length net.inputs = omega (arith, same, c.if-column-first.false, c.inputs-first.ensures.inputs) in
     record {
-      grows = within_more (omega arith) c.loop-variable.invariant.grows;
-      later = later-input net c.loop-variable.d c.loop-variable.set c.loop-variable.variable k (omega (arith, c.loop-variable-test.true)) (keeps.vars ∙ c.requires.vars) inside
-          (omega (arith, same, c.if-column-first.false, c.inputs-first.ensures.inputs)) c.loop-variable.invariant.later;
+      grows = within_more (omega arith) before.grows;
+      later = record {
+        node = before.later.node;
+        value = λ w wide.
+            before.later.value w wide
+            ∙ sym (next_column net w c.loop-variable.variable k (omega (arith, c.loop-variable-test.true)) inside (wide ∙ before.grows.keeps.vars ∙ c.requires.vars)
+            ∙ ap (λ t. t && all_may_start_at net (drop c.loop-variable.variable (order net)) (drop c.loop-variable.variable w)) (input-may net (get_or (order net) k 0) (get_or w k false) low));
+      };
     }
 
 pub returns-clause-starts : goal.returns-clause-starts
 returns-clause-starts c =
-    starts-told c.args.net.now c.loop-variable.d c.loop-variable.set c.loop-variable.variable (omega (arith, c.loop-variable-test.false)) (c.loop-variable.invariant.grows.keeps.vars ∙ c.requires.vars) c.loop-variable.invariant.later
+    let net = c.args.net.now in
+    let vars = c.loop-variable.invariant.grows.keeps.vars ∙ c.requires.vars in
+    let none : c.loop-variable.variable ≡ 0 = omega (arith, c.loop-variable-test.false) in
+    record {
+      node = c.loop-variable.invariant.later.node;
+      value = λ v wide.
+          c.loop-variable.invariant.later.value (laid net v) (omega (arith, length-by_variable (order net) v, (order-is net).long, vars))
+          ∙ ap (λ j. all_may_start_at net (drop j (order net)) (drop j (laid net v))) none
+          ∙ starts-laid net v (wide ∙ vars);
+    }
 
 -- ---- what it does to the diagrams
 

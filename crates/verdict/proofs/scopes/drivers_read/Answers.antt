@@ -1,16 +1,15 @@
-use Rattle.std.proofs.Common.{◌≡◌, ◌<◌, ◌∙◌, ◌+◌, ◌-◌, ℕ, List, length, get_or, slice_get, Some, subst, sym, ap, arith}
-use Rattle.std.specs.Prelude.{IfNone, IfSome}
-use Rattle.verdict.proofs.Common.{get_or_from_slice_get, Sig, count, gate_sig, Latch, AreDriversBefore}
-use Rattle.std.proofs.lemmas.Option.{slice_get_within}
-use Rattle.verdict.proofs.ScopeLemmas.{drivers-more, drivers-same, drivers-all}
+use Rattle.std.proofs.Common.{◌≡◌, ◌<◌, ◌∙◌, ◌-◌, ◌++◌, ◌∷◌, [], ℕ, List, length, get_or, Contains, refl, subst, sym, ap, arith}
+use Rattle.std.proofs.lemmas.List.Elements.{All-push, Contains-append_left, Contains-append_right}
+use Rattle.verdict.proofs.Common.{get_or_from_slice_get, Sig, count, Latch, AreDriversBefore, slice_get_within}
+use Rattle.verdict.proofs.ScopeLemmas.{drivers-more, drivers-all, same-gate}
 use Rattle.verdict.proofs.InvarianceLemmas.{read-columns}
 use Rattle.verdict.proofs.scopes.drivers_read.Goals as goal
 use Rattle.verdict.proofs.scopes.drivers_read.Goals.{in-Some+in_ok-push, in_default}
 
 pub latch-latch-requires : goal.latch-latch-requires
 latch-latch-requires c =
-    (read-columns c.args.net.now c.args.care.now c.invariant_columns-column-items.result.now c.inputs.result c.requires c.invariant_columns-column-items.ensures.columns c.inputs.ensures.inputs).1
-    c.loop-column.column-index 0 c.loop-column-test.true
+    rw c.inputs.ensures.inputs
+    (read-columns c.args.net.now c.args.care.now c.invariant_columns-column-items.result.now c.requires c.invariant_columns-column-items.ensures.columns c.loop-column.column-index 0 c.loop-column-test.true)
 
 pub driver-requires : goal.driver-requires
 driver-requires c =
@@ -23,20 +22,22 @@ pub loop-column-preserved : goal.loop-column-preserved
 loop-column-preserved c =
     let net = c.args.net.now in
     let columns : List ℕ = c.invariant_columns-column-items.result.now in
-    let at : slice_get net.latches (get_or columns c.loop-column.column-index 0 - length net.inputs) ≡ Some c.latch-latch.result.now =
-    subst (λ (n : ℕ). slice_get net.latches (get_or columns c.loop-column.column-index 0 - n) ≡ Some c.latch-latch.result.now) c.inputs.ensures.inputs c.latch-latch.ensures.latch in
+    let before : List ℕ = c.loop-column.gates.items in
+    let latch = c.latch-latch.result.now in
+    let at = rw c.inputs.ensures.inputs at c.latch-latch.ensures.latch in
     elim c.match-driver.branch [
       | in-Some+in_ok-push w ↦
-          let some = subst (λ o. IfSome o (λ n. (n < length net.gates) × (c.latch-latch.result.now.from ≡ gate_sig net n))) w.in-Some.is c.driver.ensures.driven in
-          subst (AreDriversBefore net columns (c.loop-column.column-index + 1)) (sym (ap (λ v. v.items) w.gates-is ∙ w.in_ok-push.ensures.items))
-          (drivers-more net columns c.loop-column.column-index w.in-Some.gate c.loop-column.gates.items c.latch-latch.result.now at c.loop-column-test.true some.0 some.1 c.loop-column.invariant)
+          let some = rw w.in-Some.is at c.driver.ensures.driven in
+          let new : List ℕ = before ++ w.in-Some.gate ∷ [] in
+          rw (w.gates-is, w.in_ok-push.ensures.items)
+          (drivers-more net columns c.loop-column.column-index before new latch at c.loop-column-test.true
+          (All-push (λ n. n < length net.gates) before w.in-Some.gate c.loop-column.invariant.within some.0) (λ n. Contains-append_left before (w.in-Some.gate ∷ []) n)
+          (λ n is. subst (Contains new) (same-gate net w.in-Some.gate n (sym some.1 ∙ is)) (Contains-append_right before (w.in-Some.gate ∷ []) w.in-Some.gate (0, omega arith, refl))) c.loop-column.invariant)
       | in_default w ↦
-          subst (AreDriversBefore net columns (c.loop-column.column-index + 1)) (sym (ap (λ v. v.items) w.gates-is))
-          (drivers-same net columns c.loop-column.column-index c.loop-column.gates.items c.latch-latch.result.now at c.loop-column-test.true
-          (λ n is.
-          let given = subst (λ o. IfNone o (c.latch-latch.result.now.from.0 < length net.inputs + length net.latches)) w.in_default.is c.driver.ensures.given in
-          let at = ap (λ (s : Sig). s.0) is in
-          omega (arith, given, at)) c.loop-column.invariant)
+          let given = rw w.in_default.is at c.driver.ensures.given in
+          rw w.gates-is
+          (drivers-more net columns c.loop-column.column-index before before latch at c.loop-column-test.true c.loop-column.invariant.within (λ n here. here)
+          (λ n is. absurd (let at = ap (λ (s : Sig). s.0) is in omega (arith, given, at))) c.loop-column.invariant)
     ]
 
 pub returns-clause-drivers : goal.returns-clause-drivers

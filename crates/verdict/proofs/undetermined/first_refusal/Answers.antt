@@ -1,27 +1,21 @@
-use Rattle.std.proofs.Common.{◌≡◌, ◌<◌, ◌∙◌, ℕ, Bool, List, length, get_or, subst, sym, ap, arith}
-use Rattle.verdict.proofs.Common.{get_or_default, ListsMarked}
+use Rattle.std.proofs.Common.{◌≡◌, ◌<◌, ◌∙◌, ℕ, List, length, get_or, subst, sym, ap, arith}
+use Rattle.verdict.proofs.Common.{get_or_default, ListsMarked, IsFirstToRefuse}
 use Rattle.isolation.specs.Excerpts.{gate_in}
-use Rattle.clause_decision.specs.Tests.{IsFirstUnknown, TellsFirstUnknown}
-use Rattle.verdict.specs.Unknown.{IsFirstToRefuse}
+use Rattle.clause_decision.specs.Tests.{IsFirstUnknown}
 use Rattle.verdict.proofs.CandidateLemmas.{listed-within, first-refuses}
 use Rattle.verdict.proofs.undetermined.first_refusal.Goals as goal
 use Rattle.verdict.proofs.undetermined.first_refusal.Goals.{After-deref-2, After-index}
 
 -- the marked gates are listed
 listed : (c : After-deref-2) → ListsMarked c.in_ok-marks.marks.items (length c.args.search.now.net.gates) c.deref-2.result.now
-listed c =
-    let value = c.deref.ensures.value in
-    let wide = ap (λ (ms : List Bool). length ms) value ∙ c.in_ok-marks.ensures.width in
-    subst (ListsMarked c.in_ok-marks.marks.items (length c.args.search.now.net.gates)) (sym c.deref-2.ensures.value)
-    (subst (λ (n : ℕ). ListsMarked c.in_ok-marks.marks.items n c.in_ok-gates.gates.items) wide
-    (subst (λ (ms : List Bool). ListsMarked ms (length c.deref.result.now) c.in_ok-gates.gates.items) value c.in_ok-gates.ensures))
+listed c = rw c.deref-2.ensures.value (rw (c.deref.ensures.value, c.in_ok-marks.ensures.width) at c.in_ok-gates.ensures)
 
 pub first_of-requires : goal.first_of-requires
 first_of-requires c = listed-within c.in_ok-marks.marks.items (length c.args.search.now.net.gates) c.deref-2.result.now (listed c)
 
 -- the first that is unknown
 first : (c : After-index) → IsFirstUnknown c.args.search.now.net c.args.search.now.care c.deref-2.result.now c.in-At.place
-first c = subst (TellsFirstUnknown c.args.search.now.net c.args.search.now.care c.deref-2.result.now) c.in-At.is c.in_ok-place.ensures
+first c = rw c.in-At.is at c.in_ok-place.ensures
 
 gate-is : (c : After-index) → gate_in c.deref-2.result.now c.in-At.place ≡ c.index.result.now
 gate-is c =
@@ -39,10 +33,10 @@ refusal_of-requires g =
     subst (λ (n : ℕ). n < length g.args.search.now.net.gates) (gate-is c) (listed-within g.in_ok-marks.marks.items (length g.args.search.now.net.gates) g.deref-2.result.now (listed at.After-deref-2) g.in-At.place 0 less)
 
 pub returns-in-At : goal.returns-in-At
-returns-in-At g what asks =
+returns-in-At g what seen =
     let c : After-index = (goal.at.returns-in-At g).After-index in
     let net = g.args.search.now.net in
     g.refusal_of.ensures what
     (subst (IsFirstToRefuse net g.args.search.now.care what) (gate-is c)
-    (first-refuses net g.laws.ensures.is.net g.args.search.now.blocks g.laws.ensures.is.blocks g.args.search.now.settled g.args.asked.now g.in_ok-marks.marks.items g.laws.ensures.is.settled g.in_ok-marks.ensures
-    g.args.search.now.care what asks g.deref-2.result.now (listed (goal.at.returns-in-At g).After-deref-2) g.in-At.place (first c)))
+    (first-refuses net g.laws.ensures.is.net g.args.search.now.blocks g.laws.ensures.is.blocks g.args.search.now.settled g.args.observed.now g.in_ok-marks.marks.items g.args.last g.laws.ensures.is.settled g.in_ok-marks.ensures
+    g.args.search.now.care what seen g.deref-2.result.now (listed (goal.at.returns-in-At g).After-deref-2) g.in-At.place (first c)))

@@ -1,7 +1,6 @@
-use Rattle.std.proofs.Common.{◌∙◌, Bool, List, Some, subst, sym, ap, ap₂, arith}
-use Rattle.verdict.proofs.Common.{Sig, Parts, gate_sig, columns, Undetermined, is_unknown_at, IsFirstOf}
-use Rattle.verdict.proofs.SearchLemmas.{told-on}
-use Rattle.verdict.proofs.CandidateLemmas.{refuses-at}
+use Rattle.std.proofs.Common.{◌∙◌, Bool, List, Some, sym, ap₂, arith}
+use Rattle.verdict.proofs.Common.{Sig, Undetermined}
+use Rattle.verdict.proofs.PartLemmas.{undetermined-found}
 use Rattle.verdict.proofs.undetermined.refusal_of.Goals as goal
 
 pub least_unknown-requires-clause-within : goal.least_unknown-requires-clause-within
@@ -10,10 +9,5 @@ least_unknown-requires-clause-within c = c.in_ok-scope.ensures.within 0 c.args.g
 pub returns-in-Least : goal.returns-in-Least
 returns-in-Least c what first =
     let s = c.args.search.now in
-    let gate = c.args.gate in
-    let found = c.in_ok-vector.field-0 in
-    let least : IsFirstOf (is_unknown_at s.net s.care gate) (columns s.net) found =
-    told-on (λ net care. IsFirstOf (is_unknown_at net care gate) (columns net) found) c.net-net.ensures.net c.care-care.ensures.care c.in_ok-vector.ensures in
-    refuses-at s.net s.care what gate c.in-Least.vector.items c.requires first
-    (subst (IsFirstOf (is_unknown_at s.net s.care gate) (columns s.net)) c.in-Least.is least)
-    ∙ ap₂ (λ (v : List Bool) (s : Sig). Some (Undetermined v s)) (sym c.of.ensures) (sym (c.gate_sig.ensures.sig ∙ ap (λ (net : Parts). gate_sig net gate) c.net-net.ensures.net))
+    undetermined-found s.net s.care what c.args.gate c.in-Least.vector.items c.requires first (rw (c.in-Least.is, c.net-net.ensures.net, c.care-care.ensures.care) at c.in_ok-vector.ensures)
+    ∙ sym (ap₂ (λ (v : List Bool) (s : Sig). Some (Undetermined v s)) c.of.ensures (rw c.net-net.ensures.net at c.gate_sig.ensures.sig))

@@ -36,6 +36,6 @@ returns c care what seen are =
     let gate = c.loop-gate.gate in
     let all : length net.gates ≤ gate = omega (arith, c.loop-gate-test.false, c.gates-gate-end.ensures.gates) in
     record {
-      none = undetermined-none net care what c.args.observed.now seen gate all (c.loop-gate.invariant.known care what seen are);
+      none = undetermined-none net care what (λ k less is. c.loop-gate.invariant.known care what seen are k (omega (arith, less, all)) (seen.each k less ∙ is));
       number = loose-all net care gate c.loop-gate.loose all (c.loop-gate.invariant.loose care are);
     }
