@@ -124,11 +124,8 @@ pub given_up : (m told : Matched) (d : Arena) (fault : EqualFault) → m ≡ tol
 given_up m told d fault same is cause below = subst (λ (m : Matched). Compares m d (Err fault)) same (record { answer = tt; fault = is; cause = cause; below = below })
 
 -- at a vector, or nowhere
-pub told_at : (a b : Parts) (care : CareSet) (v : List Bool) → Some v ≡ difference a b care → at_difference a b v ≡ comparison_of_accepted a b care
-told_at a b care v is = ap (λ o. option_map_or (at_difference a b) o Equal) is
-
-pub told_nowhere : (a b : Parts) (care : CareSet) → None ≡ difference a b care → Equal ≡ comparison_of_accepted a b care
-told_nowhere a b care is = ap (λ o. option_map_or (at_difference a b) o Equal) is
+pub told_of : (a b : Parts) (care : CareSet) (found : Option (List Bool)) → found ≡ difference a b care → option_map_or (at_difference a b) found Equal ≡ comparison_of_accepted a b care
+told_of a b care found is = ap (λ o. option_map_or (at_difference a b) o Equal) is
 
 -- a netlist that is accepted has no refusal's vector
 pub accepted_early : (net : Parts) (blocks : Blocks) (cut : Cut) (care : CareSet) (counts : SweepCounts) (loose : ℕ) → IsNetlist net → IsAcceptance net blocks cut care observe.All counts loose → IsKnownEarly net care (Found None)

@@ -56,7 +56,7 @@ module _ (a b : Parts) (more : List Gate) where
       ∙ get_or_append_left (moved_gates a b) more no_gate n (omega arith)
       ∙ get_or-map-range_with_len (moved_gate_by (columns_by_name a b) (count a) (mark a) b) 0 (length b.gates) n n no_gate l (omega arith)
 
-  first_part : IsPartOf a big (λ s. s) (λ n. n)
+  pub first_part : IsPartOf a big (λ s. s) (λ n. n)
   first_part = record {
     few = let e = length-joined in omega arith;
     within = λ n l. (let e = length-joined in omega arith);
@@ -66,7 +66,7 @@ module _ (a b : Parts) (more : List Gate) where
     column = λ s l. l;
   }
 
-  second_part : Match a b → IsPartOf b big (moved a b) (λ n. length a.gates + n)
+  pub second_part : Match a b → IsPartOf b big (moved a b) (λ n. length a.gates + n)
   second_part match_ = record {
     few = let e = length-joined in omega arith;
     within = λ n l. (let e = length-joined in omega arith);
@@ -186,7 +186,14 @@ module _ (a b : Parts) (more : List Gate) (valid_a : IsNetlist a) (valid_b : IsN
       ∙ any_agree (λ pair. is_apart_at (joined a b more) v (moved_pair_by (columns_by_name a b) (count a) pair)) (differs_at a b v) (output_pairs a b ++ latch_pairs a b)
       (λ k d l. pair_same (get_or (output_pairs a b ++ latch_pairs a b) k d) (pairs_for a b valid_a valid_b match_ k d l))
 
-  -- the wires of each pair are known there
+  -- the signals of both are known there
+  first_known : (s : Sig) → IsSignal a s → wire (fix (joined a b more) (bits v)) s ≢ X
+  first_known s inside e = known_here s inside (sym (fix_first a b more valid_a valid_b match_ v wide s inside) ∙ e)
+
+  second_known : (s : Sig) → IsSignal b s → wire (fix (joined a b more) (bits v)) (moved a b s) ≢ X
+  second_known s inside e = known_there s inside (sym (fix_second a b more valid_a valid_b match_ v wide s inside) ∙ e)
+
+  -- so the wires of each pair are
   pub pair_known : (k : ℕ) (d : Pair) → k < length (joined_pairs a b) →
       (wire (fix (joined a b more) (bits v)) (get_or (joined_pairs a b) k d).here ≢ X) × (wire (fix (joined a b more) (bits v)) (get_or (joined_pairs a b) k d).there ≢ X)
   pair_known k d l =
@@ -194,27 +201,20 @@ module _ (a b : Parts) (more : List Gate) (valid_a : IsNetlist a) (valid_b : IsN
       let m = length-map pairs (moved_pair_by (columns_by_name a b) (count a)) in
       let less : k < length pairs = omega arith in
       let is = pairs_for a b valid_a valid_b match_ k d less in
-      let here : IsSignal a (get_or pairs k d).here = is.here in
-      let there : IsSignal b (get_or pairs k d).there = is.there in
       let at : get_or (joined_pairs a b) k d ≡ moved_pair_by (columns_by_name a b) (count a) (get_or pairs k d) = get_or-map (moved_pair_by (columns_by_name a b) (count a)) pairs k d d less in (
-        subst (λ (p : Pair). wire (fix (joined a b more) (bits v)) p.here ≢ X) (sym at)
-            (λ e. known_here (get_or pairs k d).here here (sym (fix_first a b more valid_a valid_b match_ v wide (get_or pairs k d).here here) ∙ e)),
-        subst (λ (p : Pair). wire (fix (joined a b more) (bits v)) p.there ≢ X) (sym at)
-            (λ e. known_there (get_or pairs k d).there there (sym (fix_second a b more valid_a valid_b match_ v wide (get_or pairs k d).there there) ∙ e)),
+        subst (λ (p : Pair). wire (fix (joined a b more) (bits v)) p.here ≢ X) (sym at) (first_known (get_or pairs k d).here is.here),
+        subst (λ (p : Pair). wire (fix (joined a b more) (bits v)) p.there ≢ X) (sym at) (second_known (get_or pairs k d).there is.there),
       )
 
   -- and so are the gates of both netlists
   pub gate_known : (n : ℕ) → n < length a.gates + length b.gates → wire (fix (joined a b more) (bits v)) (gate_sig (joined a b more) n) ≢ X
   gate_known n l = elim (cases_lt n (length a.gates)) [
-    | inl low ↦
-        let s : Sig = gate_sig a n in
-        λ e. known_here (gate_sig a n) (omega arith) (sym (fix_first a b more valid_a valid_b match_ v wide (gate_sig a n) (omega arith)) ∙ e)
+    | inl low ↦ first_known (gate_sig a n) (omega arith)
     | inr high ↦
         let i : ℕ = n - length a.gates in
         let at : moved a b (gate_sig b i) ≡ gate_sig (joined a b more) n =
         moved_high a b (gate_sig b i) (omega arith) ∙ ap signal (let f : count a + ((columns b + i) - columns b) ≡ columns a + n = omega arith in f) in
-        λ e. known_there (gate_sig b i) (omega arith)
-        (sym (fix_second a b more valid_a valid_b match_ v wide (gate_sig b i) (omega arith)) ∙ ap (wire (fix (joined a b more) (bits v))) at ∙ e)
+        subst (λ (s : Sig). wire (fix (joined a b more) (bits v)) s ≢ X) at (second_known (gate_sig b i) (omega arith))
   ]
 
 pub moved_within : (a b : Parts) (more : List Gate) → Match a b → (s : Sig) → IsSignal b s → IsSignal (joined a b more) (moved a b s)

@@ -2,6 +2,7 @@
 use Rattle.std.proofs.Common.{◌≡◌, ◌≢◌, ℕ, zero, suc, ◌+◌, ◌-◌, ◌<◌, ◌≤◌, Bool, true, false, ◌||◌, List, [], ◌∷◌, ◌++◌, length, map, take, get_or, refl, sym, ap, ap₂, subst, ◌∙◌, arith}
 use Rattle.equal.proofs.Common.{list_any, range_with_len, length-append, length-map, get_or_append_left, get_or-append-add, get_or-append_right, length-map-range_with_len, get_or-map-range_with_len, Sig, Trit, X, bit, bits, ext, Gate, Parts, count, signal, gate_at, no_gate, gate_sig, wires, wire, steps, fix, fix_gates, columns, Pair, some_is_apart, moved_gates, joined, link_gate, miter_gates}
 use Rattle.std.proofs.lemmas.List.{get_or_at, get_or-replicate, take_all}
+use Rattle.std.proofs.lemmas.List.Folds.{list_any_more}
 use Rattle.cyc_base.specs.declared.trit.Trit.TheVariants.{Zero, One}
 use Rattle.cyc_base.specs.Values.{Below}
 use Rattle.cyc_base.proofs.OrderLemmas.{EachBelow-at, bit-known}
@@ -39,17 +40,7 @@ both_unknown One below = refl
 both_unknown Zero below = cc
 
 any_take : {A : Type 0} (p : A → Bool) (xs : List A) (i : ℕ) (d : A) → i < length xs → list_any p (take (suc i) xs) ≡ (list_any p (take i xs) || p (get_or xs i d))
-any_take p [] i d l = absurd (omega arith)
-any_take p (x ∷ xs) zero d l = by (p x)
-  where
-    by : (t : Bool) → (t || false) ≡ (false || t)
-    by true = refl
-    by false = refl
-any_take p (x ∷ xs) (suc i) d l = by (p x) (any_take p xs i d (omega arith))
-  where
-    by : (t : Bool) → list_any p (take (suc i) xs) ≡ (list_any p (take i xs) || p (get_or xs i d)) → (t || list_any p (take (suc i) xs)) ≡ ((t || list_any p (take i xs)) || p (get_or xs i d))
-    by true rest = refl
-    by false rest = rest
+any_take p xs i d l = ap (λ n. list_any p (take n xs)) (let e : suc i ≡ i + 1 = omega arith in e) ∙ list_any_more p xs i d l
 
 module _ (a b : Parts) (pairs : List Pair) where
   abbrev pub first : ℕ

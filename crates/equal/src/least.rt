@@ -71,11 +71,9 @@ fn moved_pairs(
     requires { All (λ pair. first + (pair.there.0 - length columns.now) ≤ 4294967295) own.now }
     ensures { IfOk result (λ pairs. pairs.items ≡ map (moved_pair_by columns.now first) own.now) }
 {
-    let mut pairs = Vec::with_capacity(alloc, own.len())?;
-    for pair in own {
-        pairs.push(moved_pair(columns, first, *pair))?;
-    }
-    Ok(pairs)
+    own.iter()
+        .map(|pair| moved_pair(columns, first, *pair))
+        .collect(alloc)
 }
 
 /// The outputs of one name, and what the latches of one name load.

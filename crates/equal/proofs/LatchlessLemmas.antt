@@ -10,6 +10,7 @@ use Rattle.loops.specs.Found.{feeds, reaches, same_of, cut_below}
 use Rattle.loops.specs.Sweeps.{value_in, pin_in, gate_in, sweep_step, sweep_steps, sweep, sweeps}
 use Rattle.fixpoint.specs.Solved.{Vectors}
 use Rattle.fixpoint.specs.Working.{read_in_sweep}
+use Rattle.equal.proofs.PartLemmas.{IsPartOf}
 
 -- the latches are inputs, and nothing is an output
 abbrev pub bare : Parts → Parts
@@ -48,6 +49,20 @@ valid-bare net valid =
       outputs_differ = nothing_twice;
       clocked = refl;
       clock = tt;
+    }
+
+-- it stands where the netlist stands
+pub part-of-bare : (net big : Parts) (at : Sig → Sig) (place : ℕ → ℕ) → IsPartOf net big at place → IsPartOf (bare net) big at place
+part-of-bare net big at place part =
+    let first = first-bare net in
+    record {
+      few = part.few;
+      within = part.within;
+      covers = part.covers;
+      pins = part.pins;
+      gates = λ s l i.
+          part.gates s (omega (arith, first, l)) (omega (arith, first, i)) ∙ ap (λ (n : ℕ). first_gate big + place (s.0 - n)) (sym first);
+      column = λ s l. part.column s (omega (arith, first, l));
     }
 
 module _ (net : Parts) where
