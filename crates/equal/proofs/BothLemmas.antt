@@ -1,26 +1,24 @@
 -- What the comparison of two netlists works with is what their decisions work with.
-use Rattle.std.proofs.Common.{◌≡◌, inl, inr, ℕ, ◌+◌, ◌-◌, ◌<◌, Bool, List, [], length, refl, sym, ap, ◌∙◌, arith}
-use Rattle.equal.proofs.Common.{cases_lt, bits, Parts, IsNetlist, wire, loops_of, order, IsGatePart, CareSet, columns, by_name, moved, joined}
+use Rattle.std.proofs.Common.{◌≡◌, inl, inr, ℕ, ◌+◌, ◌-◌, ◌<◌, Bool, List, [], length, refl, ◌∙◌, arith}
+use Rattle.equal.proofs.Common.{cases_lt, get_or_append_left, length-map, X, bit, bits, Parts, IsNetlist, fix_gates, loops_of, order, IsGatePart, CareSet, columns, by_name, moved, joined}
 use Rattle.dual_rail.proofs.WidthLemmas.{IsWide-fewer}
 use Rattle.verdict.specs.Enough as decisions
 use Rattle.differences.specs.Comparisons.{IsOfComparison, IsLaidBy, IsColumn, SaysCare, IsOfNetlist, IsOfAssumption, IsOfInvariant}
 use Rattle.equal.specs.Both.{IsOfBoth, IsLaidForBoth, OfFirst, OfSecond, BothAreWide}
-use Rattle.equal.proofs.LatchlessLemmas.{bare, first-bare, fix-bare, valid-bare, part-bare, part-of-bare}
-use Rattle.equal.proofs.JoinLemmas.{first_part, second_part, fix_first, fix_second, length-joined}
+use Rattle.equal.proofs.JoinLemmas.{first_part, second_part, fix_second, length-joined}
 use Rattle.equal.proofs.MatchLemmas.{Match, matched, length-by_name}
-use Rattle.equal.proofs.PartFunctionLemmas.{WorksAlone, works_alone}
+use Rattle.equal.proofs.PartFunctionLemmas.{WorksAlone, reads_alike, works_alone}
 
 module _ (a b : Parts) (valid_a : IsNetlist a) (valid_b : IsNetlist b) (match_ : Match a b) where
-  first_works : (g : List Bool → Bool) (part : IsGatePart (joined a b []) (loops_of (joined a b [])) bits g) → part.gate < length a.gates → WorksAlone (joined a b []) (bare a) (λ s. s) g
+  first_works : (g : List Bool → Bool) (part : IsGatePart (joined a b []) (loops_of (joined a b [])) bits g) → part.gate < length a.gates → WorksAlone (joined a b []) a (λ s. s) g
   first_works g part less =
-      works_alone (joined a b []) (bare a) (λ s. s) (λ n. n) 0 (λ n. omega arith) (part-of-bare a (joined a b []) (λ s. s) (λ n. n) (first_part a b [])) (valid-bare a valid_a) refl
-      g part part.gate less refl
+      works_alone (joined a b []) a (λ s. s) (λ n. n) (first_part a b [])
+      (reads_alike (joined a b []) a (λ s. s) (λ n. n) 0 (λ n. omega arith) (first_part a b []) valid_a) g part part.gate less refl
 
-  second_works : (g : List Bool → Bool) (part : IsGatePart (joined a b []) (loops_of (joined a b [])) bits g) (j : ℕ) → j < length b.gates → part.gate ≡ length a.gates + j → WorksAlone (joined a b []) (bare b) (moved a b) g
-  second_works g part j less is_at =
-      works_alone (joined a b []) (bare b) (moved a b) (λ n. length a.gates + n) (length a.gates) (λ n. refl)
-      (part-of-bare b (joined a b []) (moved a b) (λ n. length a.gates + n) (second_part a b [] match_)) (valid-bare b valid_b) refl
-      g part j less is_at
+  second_works : (g : List Bool → Bool) (part : IsGatePart (joined a b []) (loops_of (joined a b [])) bits g) (j : ℕ) → j < length b.gates → part.gate ≡ length a.gates + j → WorksAlone (joined a b []) b (moved a b) g
+  second_works =
+      works_alone (joined a b []) b (moved a b) (λ n. length a.gates + n) (second_part a b [] match_)
+      (reads_alike (joined a b []) b (moved a b) (λ n. length a.gates + n) (length a.gates) (λ n. refl) (second_part a b [] match_) valid_b)
 
   -- ---- all functions
 
@@ -36,27 +34,27 @@ module _ (a b : Parts) (valid_a : IsNetlist a) (valid_b : IsNetlist b) (match_ :
     of-gate : (g : List Bool → Bool) → IsGatePart (joined a b []) (loops_of (joined a b [])) bits g → IsOne g
     of-gate g part =
         let many = length-joined a b [] in
-        let first_a = first-bare a in
-        let first_b = first-bare b in
         elim (cases_lt part.gate (length a.gates)) [
           | inl low ↦
               let works = first_works g part low in
               record {
                 of = works.of;
-                is = OfFirst (decisions.IsOfNetlist (part-bare a bits works.of works.part));
+                is = OfFirst (decisions.IsOfNetlist works.part);
                 same = λ v long.
-                    works.same v v long (long ∙ sym first_a)
-                    (λ s l. fix_first a b [] valid_a valid_b match_ v long s (omega (arith, l, first_a)) ∙ ap (λ (values : _). wire values s) (sym (fix-bare a (bits v))));
+                    let wide = length-map v bit in
+                    works.same v v long long (λ s l. get_or_append_left (bits v) (fix_gates (joined a b []) (bits v)) X s.0 (omega (arith, l, wide, long)));
               }
           | inr high ↦
               let inside = part.within in
               let works = second_works g part (part.gate - length a.gates) (omega (arith, high, inside, many)) (omega (arith, high)) in
               record {
                 of = λ v. works.of (by_name a b v);
-                is = OfSecond works.of (decisions.IsOfNetlist (part-bare b bits works.of works.part)) (λ v long. refl);
+                is = OfSecond works.of (decisions.IsOfNetlist works.part) (λ v long. refl);
                 same = λ v long.
-                    works.same v (by_name a b v) long (length-by_name a b v ∙ sym first_b)
-                    (λ s l. fix_second a b [] valid_a valid_b match_ v long s (omega (arith, l, first_b)) ∙ ap (λ (values : _). wire values s) (sym (fix-bare b (bits (by_name a b v)))));
+                    let named = by_name a b v in
+                    let wide = length-map named bit ∙ length-by_name a b v in
+                    works.same v named long (length-by_name a b v)
+                    (λ s l. fix_second a b [] valid_a valid_b match_ v long s (omega (arith, l)) ∙ get_or_append_left (bits named) (fix_gates b (bits named)) X s.0 (omega (arith, l, wide)));
               }
         ]
 

@@ -1,20 +1,16 @@
 -- The bounds of a comparison, from those of its parts.
 use Rattle.std.proofs.Common.{◌≡◌, ◌⊎◌, inl, inr, ℕ, ◌+◌, ◌-◌, ◌*◌, ◌<◌, ◌≤◌, List, [], ◌++◌, length, map, Option, Some, None, refl, sym, ap, ap₂, subst, ◌∙◌, arith}
-use Rattle.equal.proofs.Common.{Result, Err, range_with_len, cases_lt, length-append, length-map, map-map, Gate, Latch, Parts, count, gate_at, no_gate, IsNetlist, order, CareSet, columns, CareModel, mark, name_of, unmatched, columns_by_name, pair_of, signal_named, source_named, output_pairs, latch_pairs, model_of, HaveOneSource, moved_gate_by, moved_gates, moved_pair_by, joined, joined_pairs}
+use Rattle.equal.proofs.Common.{Result, Err, range_with_len, cases_lt, length-append, length-map, append-nil, map-map, Gate, Latch, Parts, count, gate_at, no_gate, IsNetlist, order, CareSet, columns, CareModel, mark, name_of, unmatched, columns_by_name, pair_of, signal_named, source_named, output_pairs, latch_pairs, model_of, HaveOneSource, moved_gate_by, moved_gates, moved_pair_by, joined, joined_pairs, same_Some, Arena, IsOutOfNodes, IsBelowEnoughFor, IsBelowEnoughForBoth, IsOutOfNodesForBoth}
 use Rattle.std.specs.Prelude.{IsSomeAnd}
 use Rattle.std.specs.List.{sum, sum_by}
-use Rattle.std.proofs.lemmas.List.{append-nil}
 use Rattle.std.proofs.lemmas.List.FromFn.{fill_by_all}
 use Rattle.std.proofs.lemmas.List.Sums.{sum_by-append, sum-map}
 use Rattle.std.proofs.lemmas.Nat.{mul-le}
-use Rattle.std.proofs.lemmas.Option.{same_Some}
-use Rattle.bdd_store.specs.Arena.{Arena}
 use Rattle.dual_rail.specs.Local.{size}
 use Rattle.fixpoint.specs.Working.{effort, HasLargeCover}
-use Rattle.verdict.specs.Causes.{HasModelOver, HasCoverOver, IsOutOfNodes}
+use Rattle.verdict.specs.Causes.{HasModelOver, HasCoverOver}
 use Rattle.verdict.specs.Enough.{in_all, enough, IsBelowEnough}
-use Rattle.differences.specs.Comparisons.{IsBelowEnoughFor}
-use Rattle.equal.specs.Bounds.{in_both, IsBelowEnoughForBoth, IsOutOfNodesForBoth}
+use Rattle.equal.specs.Bounds.{in_both}
 use Rattle.equal.proofs.BothLemmas.{both_are_wide}
 use Rattle.equal.proofs.JoinLemmas.{first_gate, second_gate, length-joined}
 

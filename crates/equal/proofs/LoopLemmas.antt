@@ -1,13 +1,11 @@
 -- Steps of loops over outputs.
 use Rattle.std.proofs.Common.{◌≡◌, ◌≢◌, ℕ, ◌+◌, ◌<◌, true, false, not, if◌then◌else◌, List, [], ◌∷◌, ◌++◌, length, take, get_or, slice_get, Some, None, sym, ap, ap₂, subst, ◌∙◌, arith}
-use Rattle.equal.proofs.Common.{find, list_any, IsDistinct, get_or_default, get_or-map, length-map, get_or_from_slice_get, Sig, Parts, signal, sig_eq, signal_names, name_of, is_output, output_names}
-use Rattle.std.specs.Bool.{Decides}
+use Rattle.equal.proofs.Common.{find, list_any, IsDistinct, get_or_default, get_or-map, length-map, take_more, length-take-le, get_or-take, get_or_from_slice_get, Sig, Parts, signal, sig_eq, signal_names, name_of, is_output, output_names, eq-eqb, false_from_ne_true, list_any_none}
 use Rattle.std.specs.List.{AllPairs}
-use Rattle.std.proofs.lemmas.Bool.{eqb-true, eq-eqb, false_from_ne_true}
-use Rattle.std.proofs.lemmas.List.{take_more, length-take-le, get_or-take}
-use Rattle.std.proofs.lemmas.Map.Made.{AllPairs-from_IsDistinct}
 use Rattle.std.proofs.lemmas.Option.{slice_get-get_or}
-use Rattle.std.proofs.lemmas.List.Folds.{list_any_none}
+use Rattle.std.specs.Bool.{Decides}
+use Rattle.std.proofs.lemmas.Bool.{eqb-true}
+use Rattle.std.proofs.lemmas.Map.Made.{AllPairs-from_IsDistinct}
 use Rattle.equal.proofs.NameLemmas.{find_next, find_here}
 
 sig_decides : (a b : Sig) → Decides (sig_eq a b) (a ≡ b)

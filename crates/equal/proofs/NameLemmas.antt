@@ -1,18 +1,14 @@
 -- What a name finds in a netlist.
 use Rattle.std.proofs.Common.{◌≡◌, ◌≢◌, ◌⊎◌, inl, inr, ℕ, zero, suc, ◌+◌, ◌-◌, ◌<◌, ◌≤◌, Bool, true, false, ◌||◌, cond, List, [], ◌∷◌, ◌++◌, length, map, get_or, take, slice_get, position, Some, None, refl, sym, ap, ap₂, ◌∙◌, arith, true≢false}
-use Rattle.equal.proofs.Common.{find, list_any, option_or, bytes_eq, length-map, get_or_append_left, get_or-append-add, get_or-map, get_or_default, list_any-append, get_or_from_slice_get, slice_get_within, Sig, Latch, Gate, Parts, signal, sig_eq, signal_names, driven_names, IsSignal, IsNetlist, name_of, latch_named, is_input, is_output, number_or_0, column_named, signal_named}
-use Rattle.std.specs.Prelude.{is_none, not}
-use Rattle.std.proofs.lemmas.Bool.{cases_eq, eq-eqb, false_from_ne_true, ne_eqb, or_parts}
-use Rattle.std.proofs.lemmas.List.{get_or-take, length-take-le, take_more}
+use Rattle.equal.proofs.Common.{find, is_none, list_any, option_or, bytes_eq, length-map, get_or_append_left, get_or-append-add, get_or-map, get_or_default, get_or-take, length-take-le, take_more, list_any-append, list_any_none, find_at, find-append, get_or_from_slice_get, slice_get_within, Sig, Latch, Gate, Parts, signal, sig_eq, signal_names, driven_names, IsSignal, IsNetlist, name_of, latch_named, is_input, is_output, number_or_0, column_named, signal_named, eq-eqb, false_from_ne_true, or_parts, list_any-map, length-signal_names, any-find}
+use Rattle.std.specs.Prelude.{not}
+use Rattle.std.proofs.lemmas.List.Folds.{list_any_at}
+use Rattle.std.proofs.lemmas.Bool.{cases_eq, ne_eqb}
 use Rattle.std.proofs.lemmas.List.Sums.{position_or_len_is}
-use Rattle.std.proofs.lemmas.List.Folds.{list_any_at, list_any_none, find_at, find-append}
-use Rattle.cyc_base.proofs.ListLemmas.{list_any-map}
 use Rattle.cyc_base.proofs.NameLemmas.{bytes_eq-same}
 use Rattle.netlist.proofs.Decisions.{found_none}
-use Rattle.netlist.proofs.NameLemmas.{length-signal_names}
 use Rattle.care_sets.proofs.BindingLemmas as binding
 use Rattle.care_sets.proofs.NameLemmas.{others_differ, place_of}
-use Rattle.refusals.proofs.FirstLemmas.{any-find}
 
 -- ---- searches of lists
 

@@ -1,9 +1,11 @@
 -- Gates of a netlist that stand one behind another in a larger one: they work there with the functions that they have alone.
-use Rattle.std.proofs.Common.{◌≡◌, inl, inr, ℕ, zero, suc, ◌+◌, ◌-◌, ◌<◌, ◌≤◌, Bool, false, ◌&&◌, List, [], ◌∷◌, ◌++◌, length, map, drop, filter, replicate, get_or, refl, sym, ap, ap₂, subst, ◌∙◌, arith}
+use Rattle.std.proofs.Common.{◌≡◌, ◌⊎◌, inl, inr, ℕ, zero, suc, ◌+◌, ◌-◌, ◌<◌, ◌≤◌, Bool, false, ◌&&◌, List, [], ◌∷◌, ◌++◌, length, map, drop, filter, replicate, get_or, refl, sym, ap, ap₂, subst, ◌∙◌, arith}
 use Rattle.std.specs.Prelude.{Contains}
-use Rattle.equal.proofs.Common.{range_with_len, cases_lt, get_or-map, get_or_append_left, get_or-append-add, length-append, length-map, length-range_with_len, get_or-range_with_len, length-map-range_with_len, get_or-map-range_with_len, map-map, Sig, Trit, X, bit, bits, Parts, signal, gate_at, gate_sig, no_gate, IsSignal, IsNetlist, wire, fix, fix_gates, loops_of, first_gate, map_agree, IsGatePart}
-use Rattle.std.proofs.lemmas.Bool.{cases_Bool, false_from_ne_true, le-leb, lt-leb}
+use Rattle.equal.proofs.Common.{range_with_len, cases_lt, false_from_ne_true, get_or-map, get_or_append_left, get_or-append-add, length-append, length-map, map-id, length-range_with_len, get_or-range_with_len, length-map-range_with_len, get_or-map-range_with_len, map-map, Sig, Trit, X, bit, bits, Parts, signal, gate_at, gate_sig, no_gate, IsSignal, IsNetlist, wire, fix, fix_gates, loops_of, first_gate, map_agree, IsGatePart}
+use Rattle.std.proofs.lemmas.Bool.{cases_Bool, le-leb, lt-leb}
 use Rattle.std.proofs.lemmas.List.{length-replicate}
+use Rattle.loops.specs.Sweeps.{gate_of, value_in, pin_in, sweeps, cuts_of}
+use Rattle.fixpoint.specs.Working.{read_in_sweep, read_at_fix, IsReadInSweep, IsReadAtFix}
 use Rattle.std.proofs.lemmas.List.Elements.{filter-append}
 use Rattle.cover_logic.specs.declared.cover.Cover.{Cover}
 use Rattle.cover_logic.specs.Covers.{value}
@@ -11,12 +13,11 @@ use Rattle.cover_logic.specs.Extensions.{exact}
 use Rattle.dual_rail.specs.WorkingLists.{is_bit}
 use Rattle.netlist.specs.Walks.{Feeds, Walk}
 use Rattle.loops.specs.Walks.{SameLoop}
-use Rattle.loops.specs.Sweeps.{gate_of, value_in, pin_in, sweeps, cuts_of}
 use Rattle.loops.proofs.Existence.{loops_exist}
 use Rattle.isolation.specs.Excerpts.{origins, origin, gate_in, inputs_in, IsExcerpt, AreWhole}
 use Rattle.isolation.specs.Laws.{Keeps, column_signals}
 use Rattle.isolation.proofs.ConeLemmas.{columns_give_vectors, excerpts_keep}
-use Rattle.fixpoint.specs.Working.{read_in_sweep, read_at_fix}
+use Rattle.equal.proofs.LatchlessLemmas.{bare, first-bare, valid-bare, part-of-bare}
 use Rattle.equal.proofs.PartLemmas.{IsPartOf, fix_at}
 
 -- ---- filters of numbers
@@ -46,11 +47,18 @@ filter_shift p q s t (suc n) same =
     let here : p s ≡ q t = ap p (let e : s ≡ s + 0 = omega arith in e) ∙ same 0 (omega arith) ∙ ap q (let e : t + 0 ≡ t = omega arith in e) in
     elim (cases_Bool (q t)) [ inl e ↦ rw (here, e) (ap suc rest) | inr e ↦ rw (here, e) rest ]
 
--- a function of the larger netlist is one of the small netlist, where its columns have there the values that they have alone
-pub record WorksAlone (big small : Parts) (at : Sig → Sig) (g : List Bool → Bool) : Type 0 where
-  pub of : List Bool → Bool
-  pub part : IsGatePart small (loops_of small) bits of
-  pub same : (v u : List Bool) → length v ≡ first_gate big → length u ≡ first_gate small → ((s : Sig) → s.0 < first_gate small → wire (fix big (bits v)) (at s) ≡ wire (fix small (bits u)) s) → g v ≡ of u
+-- the columns of the small netlist have there the values of u
+abbrev AreGiven : Parts → Parts → (Sig → Sig) → List Bool → List Bool → Type 0
+AreGiven big small at v u = (s : Sig) → s.0 < first_gate small → wire (fix big (bits v)) (at s) ≡ get_or (bits u) s.0 X
+
+-- each gate of the small netlist is in such a loop there, and reads what it reads alone
+pub record ReadsAlike (big small : Parts) (at : Sig → Sig) (place : ℕ → ℕ) : Type 0 where
+  pub same : (i j : ℕ) → i < length small.gates → j < length small.gates → (loops_of small).same i j ≡ (loops_of big).same (place i) (place j)
+  pub cuts : (i : ℕ) → i < length small.gates → length (cuts_of big (loops_of big) (place i)) ≡ length (cuts_of small (loops_of small) i)
+  pub in_sweep : (v u : List Bool) → length v ≡ first_gate big → length u ≡ first_gate small → AreGiven big small at v u → (k i : ℕ) → i < length small.gates →
+      read_in_sweep small (loops_of small) (bits u) k i ≡ read_in_sweep big (loops_of big) (bits v) k (place i)
+  pub at_fix : (v u : List Bool) → length v ≡ first_gate big → length u ≡ first_gate small → AreGiven big small at v u → (i : ℕ) → i < length small.gates →
+      read_at_fix small (bits u) i ≡ read_at_fix big (bits v) (place i)
 
 module _ (big small : Parts) (at : Sig → Sig) (place : ℕ → ℕ) (base : ℕ) (in_row : (n : ℕ) → place n ≡ base + n) (part : IsPartOf small big at place) (valid : IsNetlist small) (plain : length small.latches ≡ 0) where
   abbrev size : ℕ
@@ -264,98 +272,129 @@ module _ (big small : Parts) (at : Sig → Sig) (place : ℕ → ℕ) (base : �
         ap (λ (n : ℕ). length (filter p (range_with_len 0 n))) (let e : length big.gates ≡ base + (size + rest) = omega (arith, last, row, less) in e)
         ∙ one_split ∙ omega (arith, two_split, first_none, last_none, middle)
 
-  -- ---- so a function of one of the gates is one of the small netlist's
+  -- ---- so they read alike
 
-  inputs_are : (v u : List Bool) → length u ≡ first_gate small → ((s : Sig) → s.0 < first_gate small → wire (fix big (bits v)) (at s) ≡ wire (fix small (bits u)) s) → inputs_in big (bits v) outside ≡ bits u
-  inputs_are v u wide same =
+  inputs_are : (v u : List Bool) → length u ≡ first_gate small → AreGiven big small at v u → inputs_in big (bits v) outside ≡ bits u
+  inputs_are v u long_u given =
+      let wide_u = length-map u bit ∙ long_u in
       map-map (wire (fix big (bits v))) at (column_signals small)
       ∙ map_agree (λ s. wire (fix big (bits v)) (at s)) (wire (fix small (bits u))) (column_signals small)
       (λ k d l.
       let long = length-map-range_with_len signal 0 (first_gate small) in
       let less : k < first_gate small = omega (arith, l, long) in
+      let s : Sig = get_or (column_signals small) k d in
       let is = ap (λ (s : Sig). s.0) (get_or-map-range_with_len signal 0 (first_gate small) k k d less (omega arith)) in
-      same (get_or (column_signals small) k d) (omega (arith, is, less)))
-      ∙ columns_give_vectors small (bits u) (length-map u bit ∙ wide)
+      given s (omega (arith, is, less)) ∙ sym (get_or_append_left (bits u) (fix_gates small (bits u)) X s.0 (omega (arith, is, less, wide_u))))
+      ∙ columns_give_vectors small (bits u) wide_u
 
-  module _ (g : List Bool → Bool) (whole_part : IsGatePart big (loops_of big) bits g) (i : ℕ) (less : i < size) (is_at : whole_part.gate ≡ place i) where
-    says : List Trit → Bool
-    says read = is_bit whole_part.bit (exact (λ rest. value (gate_at small i).cover (whole_part.first ++ rest)) (drop (length whole_part.first) read))
+  wide : (v : List Bool) → length v ≡ first_gate big → length (bits v) ≡ first_gate big
+  wide v long_v = length-map v bit ∙ long_v
 
-    short : length whole_part.first ≤ length (gate_at small i).pins
-    short =
-        let pins = ap length (ap (λ (m : ℕ). (gate_at big m).pins) is_at ∙ part.pins i less) in
-        let m = length-map (gate_at small i).pins at in
-        let s = whole_part.short in
-        omega (arith, s, pins, m)
+  -- whatever the vector
+  some_vector : List Bool
+  some_vector = replicate (first_gate big) false
 
-    g_says : (v : List Bool) (read : List Trit) → whole_part.read v ≡ read → g v ≡ says read
-    unfolding says
-    g_says v read e =
-        whole_part.same v
-        ∙ ap₂ (λ (cover : Cover) (ts : List Trit). is_bit whole_part.bit (exact (λ rest. value cover (whole_part.first ++ rest)) (drop (length whole_part.first) ts)))
-        (ap (λ (m : ℕ). (gate_at big m).cover) is_at ∙ part.covers i less) e
+  some_long : length some_vector ≡ first_gate big
+  unfolding some_vector
+  some_long = length-replicate (first_gate big) false
 
-    wide : (v : List Bool) → length v ≡ first_gate big → length (bits v) ≡ first_gate big
-    wide v long_v = length-map v bit ∙ long_v
+  reads_as_excerpt : ReadsAlike big small at place
+  reads_as_excerpt = record {
+    same = same_at (bits some_vector) (wide some_vector some_long);
+    cuts = cuts_few (bits some_vector) (wide some_vector some_long);
+    in_sweep = λ v u long_v long_u given k i less.
+        ap (λ (ts : List Trit). read_in_sweep small (loops_of small) ts k i) (sym (inputs_are v u long_u given)) ∙ sweep_read (bits v) (wide v long_v) k i less;
+    at_fix = λ v u long_v long_u given i less.
+        ap (λ (ts : List Trit). read_at_fix small ts i) (sym (inputs_are v u long_u given)) ∙ fix_read (bits v) (wide v long_v) i less;
+  }
 
-    -- whatever the vector
-    some_vector : List Trit
-    some_vector = bits (replicate (first_gate big) false)
+-- a netlist stands in itself
+itself : (net : Parts) → IsPartOf net net (λ s. s) (λ n. n)
+itself net = record {
+  few = omega arith;
+  within = λ n l. l;
+  covers = λ n l. refl;
+  pins = λ n l. sym (map-id (gate_at net n).pins);
+  gates = λ s l i. omega arith;
+  column = λ s l. l;
+}
 
-    some_wide : length some_vector ≡ first_gate big
-    unfolding some_vector
-    some_wide = wide (replicate (first_gate big) false) (length-replicate (first_gate big) false)
+-- with its latches taken as inputs it is an excerpt of both
+pub reads_alike : (big small : Parts) (at : Sig → Sig) (place : ℕ → ℕ) (base : ℕ) → ((n : ℕ) → place n ≡ base + n) → IsPartOf small big at place → IsNetlist small → ReadsAlike big small at place
+reads_alike big small at place base in_row part valid =
+    let first = first-bare small in
+    let there = reads_as_excerpt big (bare small) at place base in_row (part-of-bare small big at place part) (valid-bare small valid) refl in
+    let here = reads_as_excerpt small (bare small) (λ s. s) (λ n. n) 0 (λ n. omega arith) (part-of-bare small small (λ s. s) (λ n. n) (itself small)) (valid-bare small valid) refl in
+    let own : (u : List Bool) → length u ≡ first_gate small → AreGiven small (bare small) (λ s. s) u u =
+    λ u long_u s l. get_or_append_left (bits u) (fix_gates small (bits u)) X s.0 (let wide = length-map u bit in omega (arith, l, first, wide, long_u)) in
+    record {
+      same = λ i j il jl. sym (here.same i j il jl) ∙ there.same i j il jl;
+      cuts = λ i less. there.cuts i less ∙ sym (here.cuts i less);
+      in_sweep = λ v u long_v long_u given k i less.
+          sym (here.in_sweep u u long_u (long_u ∙ sym first) (own u long_u) k i less)
+          ∙ there.in_sweep v u long_v (long_u ∙ sym first) (λ s l. given s (omega (arith, l, first))) k i less;
+      at_fix = λ v u long_v long_u given i less.
+          sym (here.at_fix u u long_u (long_u ∙ sym first) (own u long_u) i less)
+          ∙ there.at_fix v u long_v (long_u ∙ sym first) (λ s l. given s (omega (arith, l, first))) i less;
+    }
 
-    looped : (loops_of small).same i i ≡ (loops_of big).same whole_part.gate whole_part.gate
-    looped = same_at some_vector some_wide i i less less ∙ ap₂ (loops_of big).same (sym is_at) (sym is_at)
+-- a function of the larger netlist is one of the small netlist
+pub record WorksAlone (big small : Parts) (at : Sig → Sig) (g : List Bool → Bool) : Type 0 where
+  pub of : List Bool → Bool
+  pub part : IsGatePart small (loops_of small) bits of
+  pub same : (v u : List Bool) → length v ≡ first_gate big → length u ≡ first_gate small → AreGiven big small at v u → g v ≡ of u
 
-    pub works_alone : WorksAlone big small at g
-    unfolding says
-    works_alone = elim whole_part.reads [
-      | inl r ↦ record {
-        of = λ u. says (read_in_sweep small (loops_of small) (bits u) r.sweep i);
-        part = record {
-          gate = i;
-          within = less;
-          first = whole_part.first;
-          short = short;
-          bit = whole_part.bit;
-          read = λ u. read_in_sweep small (loops_of small) (bits u) r.sweep i;
-          reads = inl (record {
-            looped = looped ∙ r.looped;
-            sweep = r.sweep;
-            few =
-                let few = r.few in
-                let cuts = ap (λ (m : ℕ). length (cuts_of big (loops_of big) m)) is_at ∙ cuts_few some_vector some_wide i less in
-                omega (arith, few, cuts);
-            is = λ u. refl;
-          });
-          same = λ u. refl;
-        };
-        same = λ v u long_v long_u given.
-            g_says v (read_in_sweep small (loops_of small) (bits u) r.sweep i)
-            (r.is v
-            ∙ ap (read_in_sweep big (loops_of big) (bits v) r.sweep) is_at
-            ∙ sym (sweep_read (bits v) (wide v long_v) r.sweep i less)
-            ∙ ap (λ (ts : List Trit). read_in_sweep small (loops_of small) ts r.sweep i) (inputs_are v u long_u given));
-      }
-      | inr r ↦ record {
-        of = λ u. says (read_at_fix small (bits u) i);
-        part = record {
-          gate = i;
-          within = less;
-          first = whole_part.first;
-          short = short;
-          bit = whole_part.bit;
-          read = λ u. read_at_fix small (bits u) i;
-          reads = inr (record { plain = looped ∙ r.plain; is = λ u. refl });
-          same = λ u. refl;
-        };
-        same = λ v u long_v long_u given.
-            g_says v (read_at_fix small (bits u) i)
-            (r.is v
-            ∙ ap (read_at_fix big (bits v)) is_at
-            ∙ sym (fix_read (bits v) (wide v long_v) i less)
-            ∙ ap (λ (ts : List Trit). read_at_fix small ts i) (inputs_are v u long_u given));
-      }
-    ]
+module _ (big small : Parts) (at : Sig → Sig) (place : ℕ → ℕ) (part : IsPartOf small big at place) (alike : ReadsAlike big small at place)
+    (g : List Bool → Bool) (whole_part : IsGatePart big (loops_of big) bits g) (i : ℕ) (less : i < length small.gates) (is_at : whole_part.gate ≡ place i) where
+  says : List Trit → Bool
+  says read = is_bit whole_part.bit (exact (λ rest. value (gate_at small i).cover (whole_part.first ++ rest)) (drop (length whole_part.first) read))
+
+  short : length whole_part.first ≤ length (gate_at small i).pins
+  short =
+      let pins = ap length (ap (λ (m : ℕ). (gate_at big m).pins) is_at ∙ part.pins i less) in
+      let m = length-map (gate_at small i).pins at in
+      let s = whole_part.short in
+      omega (arith, s, pins, m)
+
+  g_says : (v : List Bool) (read : List Trit) → whole_part.read v ≡ read → g v ≡ says read
+  unfolding says
+  g_says v read e =
+      whole_part.same v
+      ∙ ap₂ (λ (cover : Cover) (ts : List Trit). is_bit whole_part.bit (exact (λ rest. value cover (whole_part.first ++ rest)) (drop (length whole_part.first) ts)))
+      (ap (λ (m : ℕ). (gate_at big m).cover) is_at ∙ part.covers i less) e
+
+  looped : (loops_of small).same i i ≡ (loops_of big).same whole_part.gate whole_part.gate
+  looped = alike.same i i less less ∙ ap₂ (loops_of big).same (sym is_at) (sym is_at)
+
+  -- so it is where it reads alone what it reads there
+  works_by : (read : List Bool → List Trit) → IsReadInSweep small (loops_of small) bits i read ⊎ IsReadAtFix small (loops_of small) bits i read →
+      ((v u : List Bool) → length v ≡ first_gate big → length u ≡ first_gate small → AreGiven big small at v u → whole_part.read v ≡ read u) → WorksAlone big small at g
+  unfolding says
+  works_by read reads same = record {
+    of = λ u. says (read u);
+    part = record {
+      gate = i;
+      within = less;
+      first = whole_part.first;
+      short = short;
+      bit = whole_part.bit;
+      read = read;
+      reads = reads;
+      same = λ u. refl;
+    };
+    same = λ v u long_v long_u given. g_says v (read u) (same v u long_v long_u given);
+  }
+
+  pub works_alone : WorksAlone big small at g
+  works_alone = elim whole_part.reads [
+    | inl r ↦
+        let few = r.few in
+        let cuts = ap (λ (m : ℕ). length (cuts_of big (loops_of big) m)) is_at ∙ alike.cuts i less in
+        works_by (λ u. read_in_sweep small (loops_of small) (bits u) r.sweep i)
+        (inl (record { looped = looped ∙ r.looped; sweep = r.sweep; few = omega (arith, few, cuts); is = λ u. refl }))
+        (λ v u long_v long_u given. r.is v ∙ ap (read_in_sweep big (loops_of big) (bits v) r.sweep) is_at ∙ sym (alike.in_sweep v u long_v long_u given r.sweep i less))
+    | inr r ↦
+        works_by (λ u. read_at_fix small (bits u) i)
+        (inr (record { plain = looped ∙ r.plain; is = λ u. refl }))
+        (λ v u long_v long_u given. r.is v ∙ ap (read_at_fix big (bits v)) is_at ∙ sym (alike.at_fix v u long_v long_u given i less))
+  ]

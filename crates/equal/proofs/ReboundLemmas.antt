@@ -1,17 +1,14 @@
 -- Care models that are bound to one netlist have no fault for another whose names match, and are bound to it by name.
 use Rattle.std.proofs.Common.{◌≡◌, ◌⊎◌, inl, inr, ℕ, zero, suc, ◌<◌, ◌≤◌, true, false, cond, List, [], ◌∷◌, length, map, get_or, Option, Some, None, IfSome, refl, sym, ap, ap₂, subst, ◌∙◌, arith, true≢false}
-use Rattle.equal.proofs.Common.{find, option_map, option_map_or, bytes_eq, cases_lt, get_or_append_left, get_or_default, position-Some, Latch, Parts, IsBoundTo, IsCareOf, CareSet, column_names, CareModel, has_latch, is_input, is_latch, latch_named, unmatched, column_named, number_or_0, model_of, HaveOneSource}
-use Rattle.std.specs.Prelude.{◌||◌, is_none, is_some, nat_lt}
+use Rattle.equal.proofs.Common.{find, option_map, is_none, option_map_or, bytes_eq, cases_lt, get_or_append_left, get_or_default, position-Some, Latch, Parts, IsBoundTo, IsCareOf, column_of, CareSet, column_names, CareModel, has_latch, is_input, is_latch, latch_named, unmatched, init_eq, latch_name, column_named, number_or_0, model_of, HaveOneSource, column_within, rebound, list_any_none}
+use Rattle.std.specs.Prelude.{◌||◌, is_some, nat_lt}
+use Rattle.care_sets.specs.Binding.{is_unknown_name, is_before, BindsAny, BindsBoth, Binds, HasNoFault, IsCare, IsCareModel, IsFirstFault}
 use Rattle.care_sets.proofs.FaultLemmas as faults
-use Rattle.care_sets.specs.Binding.{column_of, is_unknown_name, is_before, BindsAny, BindsBoth, Binds, HasNoFault, IsCare, IsCareModel, IsFirstFault}
 use Rattle.care_sets.specs.declared.fault.CareFault.{CareFault}
 use Rattle.care_sets.specs.declared.fault.CareFault.TheVariants.{Memory}
 use Rattle.care_sets.proofs.FaultLemmas.{passing, none_there}
-use Rattle.care_sets.proofs.BindingLemmas.{column_within}
-use Rattle.equal.specs.Matching.{init_eq, latch_name}
-use Rattle.equal.specs.Rebound.{bound_to, rebound, BindsEach}
+use Rattle.equal.specs.Rebound.{bound_to, BindsEach}
 use Rattle.equal.proofs.MatchLemmas.{Match, matched, HasColumn, column_among, column_is}
-use Rattle.std.proofs.lemmas.List.Folds.{list_any_none}
 
 -- a latch that has a latch's name and init has its name
 has_is : (net : Parts) (latch : Latch) → has_latch net latch ≡ true → is_latch net latch.name ≡ true

@@ -1,23 +1,22 @@
 -- The joined netlist is a netlist.
 use Rattle.std.proofs.Common.{◌≡◌, inl, inr, ℕ, zero, suc, ◌+◌, ◌-◌, ◌<◌, ◌≤◌, false, List, [], ◌∷◌, ◌++◌, length, map, get_or, All, Option, Some, None, IfSome, refl, sym, ap, ap₂, subst, ◌∙◌, arith}
-use Rattle.equal.proofs.Common.{IsDistinct, list_any, range_with_len, option_map_or, bytes_eq, cases_lt, append_assoc, map-append, map-map, length-append, length-map, get_or-map, get_or_default, get_or_append_left, get_or-append-add, get_or-append_right, columns, column_names, All-map, list_any-append, length-range_with_len, get_or-range_with_len, length-map-range_with_len, get_or-map-range_with_len, Sig, Gate, Latch, Parts, count, signal, sig_eq, gate_at, no_gate, signal_names, driven_names, IsSignal, IsNetlist, mark, Pair, IsPairOf, unmatched, columns_by_name, moved, moved_gate_by, moved_gates, joined, joined_pairs, link_gate, miter_gates}
+use Rattle.equal.proofs.Common.{IsDistinct, list_any, range_with_len, option_map_or, bytes_eq, cases_lt, or_parts, append_assoc, map-append, length-append, length-map, get_or-map, get_or_default, get_or_append_left, get_or-append-add, get_or-append_right, map-map, columns, column_names, All-map, All-append, All-cons, All-nil, list_any-append, length-range_with_len, get_or-range_with_len, length-map-range_with_len, get_or-map-range_with_len, Sig, Gate, Latch, Parts, count, signal, gate_at, no_gate, signal_names, driven_names, IsSignal, IsNetlist, mark, Pair, IsPairOf, unmatched, columns_by_name, moved, moved_gate_by, moved_gates, joined, joined_pairs, link_gate, miter_gates, no_pair, last_gate, miter, length-column_names, IsBlifName, list_any-map}
 use Rattle.std.specs.List.{AllByRecursion}
-use Rattle.std.proofs.lemmas.Bool.{or_parts, or_from}
-use Rattle.std.proofs.lemmas.List.Elements.{All-append, All-cons, All-from_get_or, All-nil, recursion_from_All}
+use Rattle.std.proofs.lemmas.Bool.{or_from}
+use Rattle.std.proofs.lemmas.List.Elements.{All-from_get_or, recursion_from_All}
+use Rattle.netlist.specs.Netlists.{is_driven, IsClockName}
+use Rattle.unroll.specs.Marks.{longest_run_in, clock_names, copy_name}
+use Rattle.equal.specs.Joined.{more_name, never_gate}
 use Rattle.std.proofs.lemmas.Map.Made.{IsDistinct-from_AllPairs}
 use Rattle.std.proofs.lemmas.Slice.Eq.{bytes_eq-Decides}
-use Rattle.care_sets.proofs.NameLemmas.{length-column_names, length-names, names_split}
-use Rattle.cyc_base.specs.Names.{IsBlifName}
-use Rattle.cyc_base.proofs.ListLemmas.{list_any-map}
+use Rattle.care_sets.proofs.NameLemmas.{length-names, names_split}
 use Rattle.tildes.specs.Runs.{longest_run, longest_run_of}
 use Rattle.tildes.proofs.RunLemmas.{longest-append}
 use Rattle.netlist.specs.declared.parts.Clock.{Clock}
-use Rattle.netlist.specs.Netlists.{is_driven, IsClockName}
-use Rattle.unroll.specs.Marks.{longest_run_in, clock_names, copy_name}
 use Rattle.unroll.proofs.NameLemmas.{copy_is_long, copy_names_tell, copy_name_fits, all_short, distinct_append, short_from_long, short_is_none}
-use Rattle.equal.specs.Joined.{more_name, no_pair, last_gate, miter, never_gate}
 use Rattle.equal.proofs.MatchLemmas.{matched}
 use Rattle.equal.proofs.JoinLemmas.{length-moved, length-joined, moved_within}
+use Rattle.equal.proofs.LatchlessLemmas.{nothing_twice}
 use Rattle.equal.proofs.MiterLemmas.{length-told}
 use Rattle.equal.proofs.CompareLemmas.{pairs_joined}
 
@@ -218,10 +217,6 @@ module _ (a b : Parts) (valid_a : IsNetlist a) (valid_b : IsNetlist b) (none : u
   clock_kept : (o : Option Clock) → longest_run_of (option_map_or (λ (clock : Clock). clock.name ∷ []) o []) ≤ longest_run_in a → IfSome o (λ clock. IsClockName a clock.name) → IfSome o (λ clock. IsClockName net clock.name)
   clock_kept None short h = h
   clock_kept (Some clock) short h = record { blif = h.blif; named = h.named; undriven = still_undriven clock.name (omega arith) h.undriven }
-
-  nothing_twice : IsDistinct sig_eq []
-  unfolding IsDistinct
-  nothing_twice = tt
 
   pub joined_is_netlist : IsNetlist net
   joined_is_netlist = record {

@@ -1,6 +1,6 @@
 use Rattle.std.proofs.Common.{sym, ◌∙◌}
 use Rattle.equal.proofs.CompareLemmas.{told_unmatched}
-use Rattle.equal.specs.Rebound.{rebound}
+use Rattle.equal.proofs.Common.{rebound}
 use Rattle.equal.proofs.comparing.compare_by_name.Goals as goal
 
 pub returns-in-Some-clause-answer : goal.returns-in-Some-clause-answer

@@ -1,6 +1,6 @@
 use Rattle.std.proofs.Common.{subst}
-use Rattle.equal.proofs.Common.{CareSet}
-use Rattle.equal.specs.Compared.{Matched, Compares, matched_netlists}
+use Rattle.equal.proofs.Common.{CareSet, Matched, Compares}
+use Rattle.equal.specs.Compared.{matched_netlists}
 use Rattle.equal.proofs.ReboundLemmas.{rebound_source}
 use Rattle.equal.proofs.comparing.compare_rebound.Goals as goal
 

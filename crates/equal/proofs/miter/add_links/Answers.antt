@@ -1,6 +1,5 @@
 use Rattle.std.proofs.Common.{◌++◌, ◌∷◌, [], map, ap, ap₂, sym, ◌∙◌, arith}
-use Rattle.equal.proofs.Common.{append_assoc, range_with_len, link_gate}
-use Rattle.std.proofs.lemmas.List.FromFn.{map-range_with_len_more}
+use Rattle.equal.proofs.Common.{append_assoc, range_with_len, link_gate, map-range_with_len_more}
 use Rattle.equal.proofs.miter.add_links.Goals as goal
 
 pub loop-place-preserved : goal.loop-place-preserved

@@ -1,10 +1,6 @@
 use Rattle.std.proofs.Common.{◌≡◌, Bool, Option, List, ℕ, All, [], ap, ap₂, subst, sym, ◌∙◌}
-use Rattle.equal.proofs.Common.{IfOk, order, Parts, IsCareOf, columns, Pair, IsPairOf, difference, joined, joined_pairs}
-use Rattle.verdict.specs.Causes.{IsOutOfNodes}
-use Rattle.differences.specs.Comparisons.{IsBelowEnoughFor}
+use Rattle.equal.proofs.Common.{IfOk, order, Parts, IsCareOf, columns, Pair, IsPairOf, difference, joined, joined_pairs, IsOutOfNodes, IsBelowEnoughFor, least_apart, Accepted}
 use Rattle.bdd_ops.specs.Least.{IsLayout}
-use Rattle.differences.specs.Pairs.{least_apart}
-use Rattle.equal.specs.Compared.{Accepted}
 use Rattle.equal.proofs.CompareLemmas.{care_joined, pairs_joined, least_joined}
 use Rattle.equal.proofs.accepted.AcceptedNetlists.difference_on.Goals as goal
 
