@@ -1,15 +1,12 @@
 -- Where the wires of no pair of the joined netlist are ever apart, the two netlists don't differ.
 use Rattle.std.proofs.Common.{◌≡◌, ℕ, ◌+◌, ◌<◌, refl, None, Some, List, [], ◌∷◌, All, Bool, true, false, if◌then◌else◌, length, map, slice_get, sym, ◌∙◌, arith}
-use Rattle.std.proofs.lemmas.List.Elements.{All-nil, All-cons, All-head, All-tail}
-use Rattle.netlist.proofs.NameLemmas.{length-signal_names}
-use Rattle.equal.proofs.Common.{slice_get_within, Sig, Parts, count, signal, signal_names, IsNetlist, CareSet, IsPairOf, difference, differs, pair_of, AreAccepted, joined, joined_pairs, unmatched}
+use Rattle.equal.proofs.Common.{All-nil, All-cons, length-signal_names, slice_get_within, Sig, Parts, count, signal, signal_names, IsNetlist, CareSet, IsPairOf, AreNeverApart, difference, differs, pair_of, AreAccepted, joined, joined_pairs, unmatched, care_vectors}
+use Rattle.std.proofs.lemmas.List.Elements.{All-head, All-tail}
 use Rattle.indexmap.specs.IndexMap.{insert_entry}
-use Rattle.clause_decision.specs.Apart.{AreNeverApart}
 use Rattle.equal.proofs.DifferenceLemmas.{agree_on_care, known_a}
 use Rattle.equal.proofs.JoinLemmas.{apart_same, length-joined}
 use Rattle.equal.proofs.MatchLemmas.{matched}
 use Rattle.equal.proofs.NameLemmas.{find_nowhere}
-use Rattle.refusals.specs.Refusals.{care_vectors}
 
 pub never_differ : (a b : Parts) (care : CareSet) → IsNetlist a → IsNetlist b → unmatched a b ≡ None → AreAccepted a b care → AreNeverApart (joined a b []) care (joined_pairs a b) → difference a b care ≡ None
 never_differ a b care valid_a valid_b none accepted never =

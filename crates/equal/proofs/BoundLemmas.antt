@@ -1,29 +1,23 @@
 -- The bounds of a comparison, from those of its parts.
-use Rattle.std.proofs.Common.{◌≡◌, ◌⊎◌, inl, inr, ℕ, ◌+◌, ◌-◌, ◌*◌, ◌<◌, ◌≤◌, List, [], ◌∷◌, ◌++◌, length, map, Option, Some, None, refl, sym, ap, ap₂, subst, ◌∙◌, arith}
-use Rattle.equal.proofs.Common.{Result, Err, range_with_len, cases_lt, length-append, length-map, Gate, Latch, Parts, count, gate_at, no_gate, IsNetlist, order, CareSet, columns, CareModel, mark, name_of, unmatched, columns_by_name, pair_of, signal_named, source_named, output_pairs, latch_pairs, model_of, HaveOneSource, moved_gate_by, moved_gates, moved_pair_by, joined, joined_pairs}
+use Rattle.std.proofs.Common.{◌≡◌, ◌⊎◌, inl, inr, ℕ, ◌+◌, ◌-◌, ◌*◌, ◌<◌, ◌≤◌, List, [], ◌++◌, length, map, Option, Some, None, refl, sym, ap, ap₂, subst, ◌∙◌, arith}
+use Rattle.equal.proofs.Common.{Result, Err, range_with_len, cases_lt, length-append, length-map, append-nil, map-map, Gate, Latch, Parts, count, gate_at, no_gate, IsNetlist, order, CareSet, columns, CareModel, mark, name_of, unmatched, columns_by_name, pair_of, signal_named, source_named, output_pairs, latch_pairs, model_of, HaveOneSource, moved_gate_by, moved_gates, moved_pair_by, joined, joined_pairs, same_Some, Arena, IsOutOfNodes, IsBelowEnoughFor, IsBelowEnoughForBoth, IsOutOfNodesForBoth}
 use Rattle.std.specs.Prelude.{IsSomeAnd}
-use Rattle.std.specs.List.{sum_by}
-use Rattle.std.proofs.lemmas.List.{append-nil}
+use Rattle.std.specs.List.{sum, sum_by}
 use Rattle.std.proofs.lemmas.List.FromFn.{fill_by_all}
-use Rattle.std.proofs.lemmas.List.Sums.{sum_by-append, sum_by-cons}
+use Rattle.std.proofs.lemmas.List.Sums.{sum_by-append, sum-map}
 use Rattle.std.proofs.lemmas.Nat.{mul-le}
-use Rattle.std.proofs.lemmas.Option.{same_Some}
-use Rattle.bdd_store.specs.Arena.{Arena}
 use Rattle.dual_rail.specs.Local.{size}
 use Rattle.fixpoint.specs.Working.{effort, HasLargeCover}
-use Rattle.verdict.specs.Causes.{HasModelOver, HasCoverOver, IsOutOfNodes}
+use Rattle.verdict.specs.Causes.{HasModelOver, HasCoverOver}
 use Rattle.verdict.specs.Enough.{in_all, enough, IsBelowEnough}
-use Rattle.differences.specs.Comparisons.{IsBelowEnoughFor}
-use Rattle.equal.specs.Bounds.{in_both, IsBelowEnoughForBoth, IsOutOfNodesForBoth}
+use Rattle.equal.specs.Bounds.{in_both}
 use Rattle.equal.proofs.BothLemmas.{both_are_wide}
 use Rattle.equal.proofs.JoinLemmas.{first_gate, second_gate, length-joined}
 
 -- ---- the joined netlist's gates are those of both
 
 sum_mapped : {A B : Type 0} (f : B → ℕ) (g : A → B) (xs : List A) → sum_by f (map g xs) ≡ sum_by (λ x. f (g x)) xs
-sum_mapped f g [] = refl
-sum_mapped f g (x ∷ xs) =
-    sum_by-cons f (g x) (map g xs) ∙ ap (λ n. f (g x) + n) (sum_mapped f g xs) ∙ sym (sum_by-cons (λ y. f (g y)) x xs)
+sum_mapped f g xs = sym (sum-map f (map g xs)) ∙ ap sum (map-map f g xs) ∙ sum-map (λ x. f (g x)) xs
 
 own_gates : (net : Parts) → map (gate_at net) (range_with_len 0 (length net.gates)) ≡ net.gates
 own_gates net = sym (fill_by_all (gate_at net) net.gates (length net.gates) no_gate refl (λ k l. refl))
@@ -113,29 +107,25 @@ large_joined a b limit h = elim (cases_lt h.gate (length a.gates)) [
       })
 ]
 
+-- what one decision runs out of nodes for
+out_by : (d : Arena) (a : Parts) (care_a : CareSet) (b : Parts) (limit : ℕ) (net : Parts) (care : CareSet) → IsOutOfNodes d net care limit →
+    (HasCoverOver net care limit → HasLargeCover a limit ⊎ (HasLargeCover b limit ⊎ HasModelOver care_a limit)) → IsOutOfNodesForBoth d a care_a b limit
+out_by d a care_a b limit net care is over = record { most = is.store.most; cause = elim is.cause [ inl e ↦ inl e | inr h ↦ inr (over h) ] }
+
 pub out_first : (d : Arena) (a : Parts) (care_a : CareSet) (b : Parts) (limit : ℕ) → IsOutOfNodes d a care_a limit → IsOutOfNodesForBoth d a care_a b limit
-out_first d a care_a b limit is = record { most = is.store.most; cause = by is.cause }
-  where
-    by : (length d.entries ≡ limit) ⊎ HasCoverOver a care_a limit → (length d.entries ≡ limit) ⊎ (HasLargeCover a limit ⊎ (HasLargeCover b limit ⊎ HasModelOver care_a limit))
-    by (inl e) = inl e
-    by (inr (inl h)) = inr (inl h)
-    by (inr (inr h)) = inr (inr (inr h))
+out_first d a care_a b limit is = out_by d a care_a b limit a care_a is (λ over. elim over [ inl h ↦ inl h | inr h ↦ inr (inr h) ])
 
 pub out_second : (d : Arena) (a : Parts) (care_a : CareSet) (b : Parts) (care_b : CareSet) (limit : ℕ) → HaveOneSource care_a care_b → IsOutOfNodes d b care_b limit → IsOutOfNodesForBoth d a care_a b limit
-out_second d a care_a b care_b limit one is = record { most = is.store.most; cause = by is.cause }
-  where
-    by : (length d.entries ≡ limit) ⊎ HasCoverOver b care_b limit → (length d.entries ≡ limit) ⊎ (HasLargeCover a limit ⊎ (HasLargeCover b limit ⊎ HasModelOver care_a limit))
-    by (inl e) = inl e
-    by (inr (inl h)) = inr (inr (inl h))
-    by (inr (inr h)) = inr (inr (inr (model_over care_a care_b limit one h)))
+out_second d a care_a b care_b limit one is =
+    out_by d a care_a b limit b care_b is (λ over. elim over [ inl h ↦ inr (inl h) | inr h ↦ inr (inr (model_over care_a care_b limit one h)) ])
 
 pub out_both : (d : Arena) (a : Parts) (care_a : CareSet) (b : Parts) (limit : ℕ) → IsOutOfNodes d (joined a b []) care_a limit → IsOutOfNodesForBoth d a care_a b limit
-out_both d a care_a b limit is = record { most = is.store.most; cause = by is.cause }
-  where
-    by : (length d.entries ≡ limit) ⊎ HasCoverOver (joined a b []) care_a limit → (length d.entries ≡ limit) ⊎ (HasLargeCover a limit ⊎ (HasLargeCover b limit ⊎ HasModelOver care_a limit))
-    by (inl e) = inl e
-    by (inr (inl h)) = elim (large_joined a b limit h) [ inl x ↦ inr (inl x) | inr x ↦ inr (inr (inl x)) ]
-    by (inr (inr h)) = inr (inr (inr h))
+out_both d a care_a b limit is =
+    out_by d a care_a b limit (joined a b []) care_a is
+    (λ over. elim over [
+      | inl h ↦ elim (large_joined a b limit h) [ inl x ↦ inl x | inr x ↦ inr (inl x) ]
+      | inr h ↦ inr (inr h)
+    ])
 
 -- one fault of two results
 pub same_fault : {T U E : Type 0} (x y : E) → ◌≡◌ {A = Result T E} (Err x) (Err y) → ◌≡◌ {A = Result U E} (Err x) (Err y)

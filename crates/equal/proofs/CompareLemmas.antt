@@ -1,34 +1,21 @@
 -- The steps of a comparison.
 use Rattle.std.proofs.Common.{◌≡◌, ◌⊎◌, ℕ, ◌+◌, ◌-◌, ◌≤◌, Bool, ◌&&◌, List, [], ◌∷◌, ◌++◌, length, All, Option, Some, None, IfSome, refl, sym, ap, ap₂, subst, ◌∙◌, arith}
-use Rattle.equal.proofs.Common.{option_map, Result, IfOk, Err, All-map, Sig, option_map_or, Gate, Parts, count, IsNetlist, IsBoundTo, IsCareOf, CareModel, CareSet, columns, is_care_vector, some_is_apart, IsPairOf, IsKnownEarly, unmatched, Answer, columns_by_name, by_name, output_pairs, latch_pairs, differs, difference, HaveOneSource, AreAccepted, moved_pair_by, joined, joined_pairs}
-use Rattle.std.specs.Prelude.{Ok}
-use Rattle.cyc_base.specs.Vectors.{vectors}
+use Rattle.equal.proofs.Common.{option_map, Result, IfOk, Err, Ok, All-map, Sig, option_map_or, Gate, Parts, count, IsNetlist, IsBoundTo, IsCareOf, CareModel, CareSet, columns, is_care_vector, some_is_apart, IsPairOf, IsKnownEarly, IsFound, unmatched, Answer, columns_by_name, by_name, output_pairs, latch_pairs, differs, difference, HaveOneSource, AreAccepted, moved_pair_by, joined, joined_pairs, vectors, Refusal, refusal, find-filter, accepted_without_refusal, care_vector_decides, least_apart, Undetermined, Early, Arena, IsBelowEnoughForBoth, IsOutOfNodesForBoth, Matched, Compares}
+use Rattle.equal.specs.Differences.{at_difference, comparison_of_accepted, comparison}
 use Rattle.netlist.specs.Faults.{first_there}
 use Rattle.refusals.specs.declared.observe.Observe.TheVariants as observe
-use Rattle.refusals.specs.declared.refusal.Refusal.{Refusal}
 use Rattle.refusals.specs.Acceptance.{Accepts}
-use Rattle.refusals.specs.Refusals.{refusal}
-use Rattle.refusals.proofs.FirstLemmas.{find-filter, found_wide}
-use Rattle.refusals.proofs.LawLemmas.{accepted_without_refusal}
-use Rattle.refusals.proofs.ShowingLemmas.{care_vector_decides}
-use Rattle.differences.specs.Pairs.{least_apart}
+use Rattle.refusals.proofs.FirstLemmas.{found_wide}
 use Rattle.loops.specs.declared.structure.Blocks.{Blocks}
 use Rattle.loops.specs.declared.structure.Cut.{Cut}
 use Rattle.loops.specs.declared.structure.SweepCounts.{SweepCounts}
 use Rattle.verdict.specs.declared.verdict.Verdict.{Verdict}
 use Rattle.verdict.specs.declared.verdict.Verdict.TheVariants.{Accepted, Refused}
 use Rattle.verdict.specs.Verdicts.{IsAcceptance, IsVerdict}
-use Rattle.refusals.specs.declared.refusal.Refusal.TheVariants.{Undetermined}
-use Rattle.equal.specs.declared.least.Early.{Early}
 use Rattle.equal.specs.declared.least.Early.TheVariants.{Found}
-use Rattle.equal.specs.Early.{IsFound}
 use Rattle.equal.specs.declared.answer.Answer.TheVariants.{Equal, Unmatched, First, Second}
-use Rattle.bdd_store.specs.Arena.{Arena}
 use Rattle.equal.specs.declared.fault.EqualFault.{EqualFault}
 use Rattle.equal.specs.declared.fault.EqualFault.TheVariants.{Memory, NodeLimit}
-use Rattle.equal.specs.Bounds.{IsBelowEnoughForBoth, IsOutOfNodesForBoth}
-use Rattle.equal.specs.Compared.{Matched, Compares}
-use Rattle.equal.specs.Differences.{at_difference, comparison_of_accepted, comparison}
 use Rattle.equal.proofs.MatchLemmas.{matched, length-by_name, length-table, care_by_name}
 use Rattle.equal.proofs.JoinLemmas.{pairs_for, apart_same, moved_within, length-joined}
 use Rattle.equal.proofs.DifferenceLemmas.{agree_on_care, known_a}
@@ -124,11 +111,8 @@ pub given_up : (m told : Matched) (d : Arena) (fault : EqualFault) → m ≡ tol
 given_up m told d fault same is cause below = subst (λ (m : Matched). Compares m d (Err fault)) same (record { answer = tt; fault = is; cause = cause; below = below })
 
 -- at a vector, or nowhere
-pub told_at : (a b : Parts) (care : CareSet) (v : List Bool) → Some v ≡ difference a b care → at_difference a b v ≡ comparison_of_accepted a b care
-told_at a b care v is = ap (λ o. option_map_or (at_difference a b) o Equal) is
-
-pub told_nowhere : (a b : Parts) (care : CareSet) → None ≡ difference a b care → Equal ≡ comparison_of_accepted a b care
-told_nowhere a b care is = ap (λ o. option_map_or (at_difference a b) o Equal) is
+pub told_of : (a b : Parts) (care : CareSet) (found : Option (List Bool)) → found ≡ difference a b care → option_map_or (at_difference a b) found Equal ≡ comparison_of_accepted a b care
+told_of a b care found is = ap (λ o. option_map_or (at_difference a b) o Equal) is
 
 -- a netlist that is accepted has no refusal's vector
 pub accepted_early : (net : Parts) (blocks : Blocks) (cut : Cut) (care : CareSet) (counts : SweepCounts) (loose : ℕ) → IsNetlist net → IsAcceptance net blocks cut care observe.All counts loose → IsKnownEarly net care (Found None)

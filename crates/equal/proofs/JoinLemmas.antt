@@ -1,20 +1,11 @@
 -- Both netlists stand in the joined one, each with the fixpoint that it has alone.
 use Rattle.std.proofs.Common.{◌≡◌, ◌≢◌, inl, inr, ℕ, ◌+◌, ◌-◌, ◌<◌, ◌≤◌, Bool, true, false, if◌then◌else◌, List, [], ◌∷◌, ◌++◌, length, get_or, slice_get, position, All, Option, Some, None, refl, sym, ap, ap₂, subst, ◌∙◌, arith}
-use Rattle.equal.proofs.Common.{list_any, option_map_or, bytes_eq, cases_lt, length-append, length-map, get_or-map, get_or_append_left, get_or-append-add, All-map, length-map-range_with_len, get_or-map-range_with_len, position-Some, slice_get_within, get_or_from_slice_get, Sig, Trit, X, bit, bits, Gate, Latch, Parts, count, signal, gate_at, no_gate, gate_sig, signal_names, IsSignal, IsNetlist, wire, fix, columns, mark, Pair, some_is_apart, name_of, latch_named, has_latch, is_output, number_or_0, columns_by_name, by_name, signal_named, source_named, pair_of, output_pairs, latch_pairs, differs, moved, moved_gate_by, moved_gates, moved_pair_by, joined, joined_pairs}
+use Rattle.equal.proofs.Common.{list_any, option_map_or, bytes_eq, cases_lt, length-append, length-map, get_or-map, get_or_append_left, get_or-append-add, map-id, All-map, All-append, length-map-range_with_len, get_or-map-range_with_len, position-Some, slice_get_within, get_or_from_slice_get, Sig, Trit, X, Zero, One, bit, bits, Gate, Latch, Parts, count, signal, gate_at, no_gate, gate_sig, signal_names, IsSignal, IsNetlist, wire, fix, columns, mark, Pair, some_is_apart, are_apart, is_apart_at, name_of, latch_named, has_latch, is_output, init_eq, number_or_0, columns_by_name, by_name, signal_named, source_named, pair_of, output_pairs, latch_pairs, differs, moved, moved_gate_by, moved_gates, moved_pair_by, joined, joined_pairs, find_at, length-signal_names, list_any-map, gate_sigs, AreDetermined}
 use Rattle.std.specs.List.{position_or_len}
 use Rattle.std.proofs.lemmas.Bool.{lt-ltb, le-ltb}
-use Rattle.std.proofs.lemmas.List.{map-id}
-use Rattle.std.proofs.lemmas.List.Elements.{All-append}
-use Rattle.std.proofs.lemmas.List.Folds.{find_at}
-use Rattle.netlist.proofs.NameLemmas.{length-signal_names}
-use Rattle.cyc_base.specs.declared.trit.Trit.TheVariants.{Zero, One}
-use Rattle.cyc_base.proofs.ListLemmas.{list_any-map}
-use Rattle.cyc_base.proofs.OrderLemmas.{bits-at}
-use Rattle.refusals.specs.Acceptance.{gate_sigs, AreDetermined}
-use Rattle.refusals.proofs.RefusalLemmas.{column_known, gate_sig_at, length-gate_sigs}
-use Rattle.clause_decision.specs.Apart.{are_apart, is_apart_at}
-use Rattle.equal.specs.Matching.{init_eq}
 use Rattle.equal.specs.Differences.{are_different, differs_at}
+use Rattle.cyc_base.proofs.OrderLemmas.{bits-at}
+use Rattle.refusals.proofs.RefusalLemmas.{column_known, gate_sig_at, length-gate_sigs}
 use Rattle.equal.proofs.NameLemmas.{any_agree}
 use Rattle.equal.proofs.PartLemmas.{IsPartOf, fix_at}
 use Rattle.equal.proofs.MatchLemmas.{Match, table_within, length-table, length-by_name, by_name_at}
@@ -56,7 +47,7 @@ module _ (a b : Parts) (more : List Gate) where
       ∙ get_or_append_left (moved_gates a b) more no_gate n (omega arith)
       ∙ get_or-map-range_with_len (moved_gate_by (columns_by_name a b) (count a) (mark a) b) 0 (length b.gates) n n no_gate l (omega arith)
 
-  first_part : IsPartOf a big (λ s. s) (λ n. n)
+  pub first_part : IsPartOf a big (λ s. s) (λ n. n)
   first_part = record {
     few = let e = length-joined in omega arith;
     within = λ n l. (let e = length-joined in omega arith);
@@ -66,7 +57,7 @@ module _ (a b : Parts) (more : List Gate) where
     column = λ s l. l;
   }
 
-  second_part : Match a b → IsPartOf b big (moved a b) (λ n. length a.gates + n)
+  pub second_part : Match a b → IsPartOf b big (moved a b) (λ n. length a.gates + n)
   second_part match_ = record {
     few = let e = length-joined in omega arith;
     within = λ n l. (let e = length-joined in omega arith);
@@ -186,7 +177,14 @@ module _ (a b : Parts) (more : List Gate) (valid_a : IsNetlist a) (valid_b : IsN
       ∙ any_agree (λ pair. is_apart_at (joined a b more) v (moved_pair_by (columns_by_name a b) (count a) pair)) (differs_at a b v) (output_pairs a b ++ latch_pairs a b)
       (λ k d l. pair_same (get_or (output_pairs a b ++ latch_pairs a b) k d) (pairs_for a b valid_a valid_b match_ k d l))
 
-  -- the wires of each pair are known there
+  -- the signals of both are known there
+  first_known : (s : Sig) → IsSignal a s → wire (fix (joined a b more) (bits v)) s ≢ X
+  first_known s inside e = known_here s inside (sym (fix_first a b more valid_a valid_b match_ v wide s inside) ∙ e)
+
+  second_known : (s : Sig) → IsSignal b s → wire (fix (joined a b more) (bits v)) (moved a b s) ≢ X
+  second_known s inside e = known_there s inside (sym (fix_second a b more valid_a valid_b match_ v wide s inside) ∙ e)
+
+  -- so the wires of each pair are
   pub pair_known : (k : ℕ) (d : Pair) → k < length (joined_pairs a b) →
       (wire (fix (joined a b more) (bits v)) (get_or (joined_pairs a b) k d).here ≢ X) × (wire (fix (joined a b more) (bits v)) (get_or (joined_pairs a b) k d).there ≢ X)
   pair_known k d l =
@@ -194,27 +192,20 @@ module _ (a b : Parts) (more : List Gate) (valid_a : IsNetlist a) (valid_b : IsN
       let m = length-map pairs (moved_pair_by (columns_by_name a b) (count a)) in
       let less : k < length pairs = omega arith in
       let is = pairs_for a b valid_a valid_b match_ k d less in
-      let here : IsSignal a (get_or pairs k d).here = is.here in
-      let there : IsSignal b (get_or pairs k d).there = is.there in
       let at : get_or (joined_pairs a b) k d ≡ moved_pair_by (columns_by_name a b) (count a) (get_or pairs k d) = get_or-map (moved_pair_by (columns_by_name a b) (count a)) pairs k d d less in (
-        subst (λ (p : Pair). wire (fix (joined a b more) (bits v)) p.here ≢ X) (sym at)
-            (λ e. known_here (get_or pairs k d).here here (sym (fix_first a b more valid_a valid_b match_ v wide (get_or pairs k d).here here) ∙ e)),
-        subst (λ (p : Pair). wire (fix (joined a b more) (bits v)) p.there ≢ X) (sym at)
-            (λ e. known_there (get_or pairs k d).there there (sym (fix_second a b more valid_a valid_b match_ v wide (get_or pairs k d).there there) ∙ e)),
+        subst (λ (p : Pair). wire (fix (joined a b more) (bits v)) p.here ≢ X) (sym at) (first_known (get_or pairs k d).here is.here),
+        subst (λ (p : Pair). wire (fix (joined a b more) (bits v)) p.there ≢ X) (sym at) (second_known (get_or pairs k d).there is.there),
       )
 
   -- and so are the gates of both netlists
   pub gate_known : (n : ℕ) → n < length a.gates + length b.gates → wire (fix (joined a b more) (bits v)) (gate_sig (joined a b more) n) ≢ X
   gate_known n l = elim (cases_lt n (length a.gates)) [
-    | inl low ↦
-        let s : Sig = gate_sig a n in
-        λ e. known_here (gate_sig a n) (omega arith) (sym (fix_first a b more valid_a valid_b match_ v wide (gate_sig a n) (omega arith)) ∙ e)
+    | inl low ↦ first_known (gate_sig a n) (omega arith)
     | inr high ↦
         let i : ℕ = n - length a.gates in
         let at : moved a b (gate_sig b i) ≡ gate_sig (joined a b more) n =
         moved_high a b (gate_sig b i) (omega arith) ∙ ap signal (let f : count a + ((columns b + i) - columns b) ≡ columns a + n = omega arith in f) in
-        λ e. known_there (gate_sig b i) (omega arith)
-        (sym (fix_second a b more valid_a valid_b match_ v wide (gate_sig b i) (omega arith)) ∙ ap (wire (fix (joined a b more) (bits v))) at ∙ e)
+        subst (λ (s : Sig). wire (fix (joined a b more) (bits v)) s ≢ X) at (second_known (gate_sig b i) (omega arith))
   ]
 
 pub moved_within : (a b : Parts) (more : List Gate) → Match a b → (s : Sig) → IsSignal b s → IsSignal (joined a b more) (moved a b s)

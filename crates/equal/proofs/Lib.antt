@@ -10,7 +10,7 @@ pub mod CompareLemmas
 pub mod AlikeLemmas
 pub mod ValidLemmas
 pub mod BoundLemmas
-pub mod BareLemmas
-pub mod StandingLemmas
+pub mod LatchlessLemmas
+pub mod PartFunctionLemmas
 pub mod BothLemmas
 pub mod ReboundLemmas

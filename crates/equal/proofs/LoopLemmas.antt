@@ -1,30 +1,18 @@
 -- Steps of loops over outputs.
-use Rattle.std.proofs.Common.{◌≡◌, ◌≢◌, inl, inr, ℕ, ◌+◌, ◌<◌, true, false, not, if◌then◌else◌, List, [], ◌∷◌, ◌++◌, length, map, take, get_or, slice_get, Some, None, sym, ap, ap₂, subst, ◌∙◌, arith}
-use Rattle.equal.proofs.Common.{find, list_any, IsDistinct, map-append, get_or_default, get_or-map, length-map, get_or_from_slice_get, Sig, Parts, signal, sig_eq, signal_names, Pair, name_of, is_output, output_names, pair_of, signal_named}
-use Rattle.std.specs.Bool.{Decides}
+use Rattle.std.proofs.Common.{◌≡◌, ◌≢◌, ℕ, ◌+◌, ◌<◌, true, false, not, if◌then◌else◌, List, [], ◌∷◌, ◌++◌, length, take, get_or, slice_get, Some, None, sym, ap, ap₂, subst, ◌∙◌, arith}
+use Rattle.equal.proofs.Common.{find, list_any, IsDistinct, get_or_default, get_or-map, length-map, take_more, length-take-le, get_or-take, get_or_from_slice_get, Sig, Parts, signal, sig_eq, signal_names, name_of, is_output, output_names, eq-eqb, false_from_ne_true, list_any_none}
 use Rattle.std.specs.List.{AllPairs}
-use Rattle.std.proofs.lemmas.Bool.{cases_Bool, eqb-true, eq-eqb}
-use Rattle.std.proofs.lemmas.List.{take_more, length-take-le, get_or-take}
-use Rattle.std.proofs.lemmas.Map.Made.{AllPairs-from_IsDistinct}
 use Rattle.std.proofs.lemmas.Option.{slice_get-get_or}
-use Rattle.equal.proofs.NameLemmas.{any_nowhere, find_next, find_here}
-
--- one more pair
-pub pairs_more : (a b : Parts) (own : List Sig) (i : ℕ) (s d t : Sig) (name : List ℕ) (old new : List Pair) → i < length own → s ≡ get_or own i d → slice_get (signal_names a) s.0 ≡ Some name → t ≡ signal_named b name →
-    old ≡ map (λ r. pair_of r (signal_named b (name_of a r))) (take i own) → new ≡ old ++ pair_of s t ∷ [] → new ≡ map (λ r. pair_of r (signal_named b (name_of a r))) (take (i + 1) own)
-pairs_more a b own i s d t name old new inside is named there before after =
-    let f : Sig → Pair = λ r. pair_of r (signal_named b (name_of a r)) in
-    let here : t ≡ signal_named b (name_of a s) = there ∙ ap (signal_named b) (sym (get_or_from_slice_get (signal_names a) s.0 name [] named)) in
-    after
-    ∙ ap₂ (λ xs x. xs ++ pair_of s x ∷ []) before here
-    ∙ ap (λ (r : Sig). map (λ q. pair_of q (signal_named b (name_of a q))) (take i own) ++ pair_of r (signal_named b (name_of a r)) ∷ []) is
-    ∙ sym (ap (map (λ q. pair_of q (signal_named b (name_of a q)))) (take_more own i d inside) ∙ map-append (λ q. pair_of q (signal_named b (name_of a q))) (take i own) (get_or own i d ∷ []))
+use Rattle.std.specs.Bool.{Decides}
+use Rattle.std.proofs.lemmas.Bool.{eqb-true}
+use Rattle.std.proofs.lemmas.Map.Made.{AllPairs-from_IsDistinct}
+use Rattle.equal.proofs.NameLemmas.{find_next, find_here}
 
 sig_decides : (a b : Sig) → Decides (sig_eq a b) (a ≡ b)
 sig_decides a b = (λ e. ap signal (eqb-true a.0 b.0 e), λ e. eq-eqb a.0 b.0 (ap (λ (s : Sig). s.0) e))
 
 not_same : (a b : Sig) → a ≢ b → sig_eq a b ≡ false
-not_same a b other = elim (cases_Bool (sig_eq a b)) [ inl e ↦ absurd (other ((sig_decides a b).0 e)) | inr e ↦ e ]
+not_same a b other = false_from_ne_true (sig_eq a b) (λ e. other ((sig_decides a b).0 e))
 
 -- one more output in the set of outputs
 pub outputs_more : (own : List Sig) (i : ℕ) (s d : Sig) (old new : List Sig) → IsDistinct sig_eq own → i < length own → s ≡ get_or own i d → old ≡ take i own →
@@ -33,7 +21,7 @@ outputs_more own i s d old new distinct inside is before after =
     let apart : AllPairs (λ x y. x ≢ y) own = AllPairs-from_IsDistinct sig_decides own distinct in
     let none : list_any (λ x. sig_eq s x) old ≡ false =
     ap (list_any (λ x. sig_eq s x)) before
-    ∙ any_nowhere (λ x. sig_eq s x) (take i own) (λ k e l.
+    ∙ list_any_none (λ x. sig_eq s x) (take i own) (λ k e l.
     let len = length-take-le i own (omega arith) in
     let less : k < i = omega arith in
     ap (λ x. sig_eq s x) (get_or-take i own k e less)

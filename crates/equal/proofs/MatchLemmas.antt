@@ -1,20 +1,15 @@
 -- What it means that all names match, and vectors by name.
-use Rattle.std.proofs.Common.{◌≡◌, inl, inr, ℕ, zero, suc, ◌+◌, ◌-◌, ◌<◌, ◌≤◌, Bool, true, false, not, ◌&&◌, cond, List, [], ◌∷◌, ◌++◌, length, map, take, drop, get_or, slice_get, Option, Some, None, IfSome, refl, sym, ap, ap₂, subst, ◌∙◌, arith, true≢false}
-use Rattle.equal.proofs.Common.{find, list_any, option_map_or, bytes_eq, cases_lt, append_assoc, map-append, length-map, get_or-map, get_or_append_left, get_or-append-add, list_any-append, position-Some, get_or_from_slice_get, Sig, X, bits, Latch, Parts, signal_names, IsBoundTo, IsCareOf, CareSet, columns, column_names, is_care_vector, CareModel, name_of, is_input, is_latch, has_latch, is_output, output_names, unmatched, number_or_0, column_named, columns_by_name, by_name, model_of, HaveOneSource}
-use Rattle.std.proofs.lemmas.List.{get_or-drop}
+use Rattle.std.proofs.Common.{◌≡◌, inl, inr, ℕ, zero, suc, ◌+◌, ◌-◌, ◌<◌, ◌≤◌, Bool, true, false, not, ◌&&◌, List, [], ◌∷◌, ◌++◌, length, map, take, drop, get_or, slice_get, Option, Some, None, IfSome, refl, sym, ap, ap₂, subst, ◌∙◌, arith, true≢false}
+use Rattle.equal.proofs.Common.{find, is_none, list_any, option_map_or, bytes_eq, cases_lt, append_assoc, map-append, length-map, get_or-map, get_or_append_left, get_or-append-add, list_any-append, list_any_none, position-Some, get_or_from_slice_get, same_Some, Sig, X, bits, Latch, Parts, signal, signal_names, IsBoundTo, IsCareOf, column_of, CareSet, columns, column_names, is_care_vector, is_one, CareModel, name_of, is_input, is_latch, has_latch, is_output, output_names, unmatched, latch_name, number_or_0, column_named, columns_by_name, by_name, model_of, HaveOneSource, list_any-map, option_or-neither, option_map-nothing, any-find, column_within, length-column_names}
 use Rattle.std.proofs.lemmas.Bool.{not-false, or_left, or_right}
-use Rattle.std.proofs.lemmas.Option.{same_Some}
-use Rattle.cyc_base.proofs.ListLemmas.{option_or-neither, option_map-nothing}
+use Rattle.std.proofs.lemmas.List.{get_or-drop}
+use Rattle.care_sets.specs.Care.{inputs_at, holds_at}
 use Rattle.cyc_base.proofs.NameLemmas.{bytes_eq-true}
+use Rattle.netlist.specs.declared.parts.Init.TheVariants.{Either}
 use Rattle.netlist.specs.Fixpoint.{outs}
 use Rattle.netlist.proofs.Decisions.{none_found}
-use Rattle.care_sets.specs.Binding.{column_of}
-use Rattle.care_sets.specs.Care.{inputs_at, is_one, holds_at}
-use Rattle.care_sets.proofs.BindingLemmas.{column_within}
-use Rattle.care_sets.proofs.NameLemmas.{length-column_names}
 use Rattle.unroll.proofs.Kept.{taken_first}
-use Rattle.equal.specs.Matching.{latch_name}
-use Rattle.equal.proofs.NameLemmas.{nowhere_find, any_nowhere}
+use Rattle.equal.proofs.NameLemmas.{nowhere_find}
 
 -- ---- all names match
 
@@ -73,16 +68,18 @@ column_there net name any = by (column_of net name) refl
     by : (o : Option ℕ) → column_of net name ≡ o → HasColumn net name
     by (Some c) e = has_column net name c e
     by None e =
-        absurd (true≢false (sym any ∙ any_nowhere (bytes_eq name) (column_names net) (none_found (bytes_eq name) (column_names net) e)))
+        absurd (true≢false (sym any ∙ list_any_none (bytes_eq name) (column_names net) (none_found (bytes_eq name) (column_names net) e)))
 
 -- a latch that is there has a column
+is_there : (o : Option Latch) → option_map_or (λ (latch : Latch). true) o false ≡ true → not (is_none o) ≡ true
+is_there None e = e
+is_there (Some latch) e = refl
+
 pub latch_any : (name : List ℕ) (latches : List Latch) → option_map_or (λ (latch : Latch). true) (find (λ latch. bytes_eq name latch.name) latches) false ≡ true → list_any (bytes_eq name) (map latch_name latches) ≡ true
-latch_any name [] e = e
-latch_any name (l ∷ ls) e = by (latch_any name ls) (bytes_eq name l.name) refl e
-  where
-    by : (option_map_or (λ (latch : Latch). true) (find (λ latch. bytes_eq name latch.name) ls) false ≡ true → list_any (bytes_eq name) (map latch_name ls) ≡ true) → (t : Bool) → bytes_eq name l.name ≡ t → option_map_or (λ (latch : Latch). true) (cond t (Some l) (find (λ latch. bytes_eq name latch.name) ls)) false ≡ true → list_any (bytes_eq name) (map latch_name (l ∷ ls)) ≡ true
-    by rest true is h = rw is refl
-    by rest false is h = rw is (rest h)
+latch_any name latches e =
+    list_any-map (bytes_eq name) latch_name latches
+    ∙ any-find (λ latch. bytes_eq name latch.name) latches
+    ∙ is_there (find (λ latch. bytes_eq name latch.name) latches) e
 
 input_column : (net : Parts) (name : List ℕ) → is_input net name ≡ true → HasColumn net name
 input_column net name e =
@@ -92,6 +89,9 @@ latch_column : (net : Parts) (name : List ℕ) → is_latch net name ≡ true �
 latch_column net name e =
     column_there net name (list_any-append (bytes_eq name) net.inputs (map latch_name net.latches) ∙ or_right (is_input net name) (list_any (bytes_eq name) (map latch_name net.latches)) (latch_any name net.latches e))
 
+abbrev no_latch : Latch
+no_latch = record { name = []; from = signal 0; init = Either; clocked = false }
+
 -- each column of a netlist is one of another that has its inputs and latches
 pub column_among : (net other : Parts) → ((k : ℕ) (d : List ℕ) → k < length other.inputs → is_input net (get_or other.inputs k d) ≡ true) → ((k : ℕ) (d : Latch) → k < length other.latches → is_latch net (get_or other.latches k d).name ≡ true) → (c : ℕ) → c < columns other → HasColumn net (get_or (column_names other) c [])
 column_among net other inputs latches c l = elim (cases_lt c (length other.inputs)) [
@@ -100,22 +100,13 @@ column_among net other inputs latches c l = elim (cases_lt c (length other.input
       (input_column net (get_or other.inputs c []) (inputs c [] low))
   | inr high ↦
       let i : ℕ = c - length other.inputs in
-      let e : length other.inputs + i ≡ c = omega arith in
       let less : i < length other.latches = omega arith in
-      by i less e
+      subst (HasColumn net)
+      (sym (get_or-map latch_name other.latches i no_latch [] less)
+      ∙ sym (get_or-append-add other.inputs (map latch_name other.latches) i [])
+      ∙ ap (λ k. get_or (column_names other) k []) (let e : length other.inputs + i ≡ c = omega arith in e))
+      (latch_column net (get_or other.latches i no_latch).name (latches i no_latch less))
 ]
-  where
-    by : (i : ℕ) → i < length other.latches → length other.inputs + i ≡ c → HasColumn net (get_or (column_names other) c [])
-    by i less e = at other.latches refl i less e
-      where
-        at : (ls : List Latch) → ls ≡ other.latches → (i : ℕ) → i < length ls → length other.inputs + i ≡ c → HasColumn net (get_or (column_names other) c [])
-        at [] same i less e = absurd (omega arith)
-        at (l ∷ ls) same i less e =
-            subst (HasColumn net)
-            (sym (get_or-map latch_name other.latches i l [] (subst (λ xs. i < length xs) same less))
-            ∙ sym (get_or-append-add other.inputs (map latch_name other.latches) i [])
-            ∙ ap (λ k. get_or (column_names other) k []) e)
-            (latch_column net (get_or other.latches i l).name (latches i l (subst (λ xs. i < length xs) same less)))
 
 module _ (a b : Parts) (match_ : Match a b) where
   -- each column of b is one of a

@@ -1,16 +1,14 @@
 -- The gates that tell whether some pair differs.
 use Rattle.std.proofs.Common.{◌≡◌, ◌≢◌, ℕ, zero, suc, ◌+◌, ◌-◌, ◌<◌, ◌≤◌, Bool, true, false, ◌||◌, List, [], ◌∷◌, ◌++◌, length, map, take, get_or, refl, sym, ap, ap₂, subst, ◌∙◌, arith}
-use Rattle.equal.proofs.Common.{list_any, range_with_len, length-append, length-map, get_or_append_left, get_or-append-add, get_or-append_right, length-map-range_with_len, get_or-map-range_with_len, Sig, Trit, X, bit, bits, ext, Gate, Parts, count, signal, gate_at, no_gate, gate_sig, wires, wire, steps, fix, fix_gates, columns, Pair, some_is_apart, moved_gates, joined, link_gate, miter_gates}
-use Rattle.std.proofs.lemmas.List.{get_or_at, get_or-replicate, take_all}
-use Rattle.cyc_base.specs.declared.trit.Trit.TheVariants.{Zero, One}
+use Rattle.equal.proofs.Common.{list_any, range_with_len, length-append, length-map, get_or_append_left, get_or-append-add, get_or-append_right, get_or-replicate, length-map-range_with_len, get_or-map-range_with_len, Sig, Trit, X, Zero, One, bit, bits, ext, Gate, Parts, count, signal, gate_at, no_gate, gate_sig, wires, wire, steps, fix, fix_gates, columns, Pair, some_is_apart, are_apart, is_apart_at, moved_gates, joined, link_gate, miter_gates, no_pair, last_gate, get_or-step, wire_of_gate}
+use Rattle.std.proofs.lemmas.List.{get_or_at, take_all}
 use Rattle.cyc_base.specs.Values.{Below}
-use Rattle.cyc_base.proofs.OrderLemmas.{EachBelow-at, bit-known}
 use Rattle.netlist.specs.Fixpoint.{gate_value}
-use Rattle.netlist.proofs.FixpointLemmas.{steps_below_fix, get_or-step, get_or-fix}
-use Rattle.loops.proofs.Reading.{wire_of_gate}
+use Rattle.equal.specs.Joined.{link_cover, both_cover}
+use Rattle.std.proofs.lemmas.List.Folds.{list_any_more}
+use Rattle.cyc_base.proofs.OrderLemmas.{EachBelow-at, bit-known}
+use Rattle.netlist.proofs.FixpointLemmas.{steps_below_fix, get_or-fix}
 use Rattle.refusals.specs.Refusals.{is_x}
-use Rattle.clause_decision.specs.Apart.{are_apart, is_apart_at}
-use Rattle.equal.specs.Joined.{link_cover, both_cover, no_pair, last_gate}
 use Rattle.equal.proofs.JoinLemmas.{length-moved, length-joined}
 
 -- ---- the covers
@@ -39,17 +37,7 @@ both_unknown One below = refl
 both_unknown Zero below = cc
 
 any_take : {A : Type 0} (p : A → Bool) (xs : List A) (i : ℕ) (d : A) → i < length xs → list_any p (take (suc i) xs) ≡ (list_any p (take i xs) || p (get_or xs i d))
-any_take p [] i d l = absurd (omega arith)
-any_take p (x ∷ xs) zero d l = by (p x)
-  where
-    by : (t : Bool) → (t || false) ≡ (false || t)
-    by true = refl
-    by false = refl
-any_take p (x ∷ xs) (suc i) d l = by (p x) (any_take p xs i d (omega arith))
-  where
-    by : (t : Bool) → list_any p (take (suc i) xs) ≡ (list_any p (take i xs) || p (get_or xs i d)) → (t || list_any p (take (suc i) xs)) ≡ ((t || list_any p (take i xs)) || p (get_or xs i d))
-    by true rest = refl
-    by false rest = rest
+any_take p xs i d l = ap (λ n. list_any p (take n xs)) (let e : suc i ≡ i + 1 = omega arith in e) ∙ list_any_more p xs i d l
 
 module _ (a b : Parts) (pairs : List Pair) where
   abbrev pub first : ℕ

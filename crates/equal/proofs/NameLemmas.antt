@@ -1,51 +1,35 @@
 -- What a name finds in a netlist.
-use Rattle.std.proofs.Common.{◌≡◌, ◌≢◌, ◌⊎◌, inl, inr, ℕ, zero, suc, ◌+◌, ◌-◌, ◌<◌, ◌≤◌, Bool, true, false, ◌||◌, cond, List, [], ◌∷◌, ◌++◌, length, map, get_or, take, slice_get, position, Some, None, refl, sym, ap, ap₂, ◌∙◌, arith}
-use Rattle.equal.proofs.Common.{find, list_any, option_or, bytes_eq, length-map, get_or_append_left, get_or-append-add, get_or-map, list_any-append, get_or_from_slice_get, slice_get_within, Sig, Latch, Gate, Parts, signal, sig_eq, signal_names, driven_names, IsSignal, IsNetlist, name_of, latch_named, is_input, is_output, number_or_0, column_named, signal_named}
-use Rattle.std.specs.List.{position_or_len}
-use Rattle.std.proofs.lemmas.Bool.{cases_eq, lt-ltb, or_parts, eqb-true, eq-eqb}
-use Rattle.std.proofs.lemmas.List.{take_more}
+use Rattle.std.proofs.Common.{◌≡◌, ◌≢◌, ◌⊎◌, inl, inr, ℕ, zero, suc, ◌+◌, ◌-◌, ◌<◌, ◌≤◌, Bool, true, false, ◌||◌, cond, List, [], ◌∷◌, ◌++◌, length, map, get_or, take, slice_get, position, Some, None, refl, sym, ap, ap₂, ◌∙◌, arith, true≢false}
+use Rattle.equal.proofs.Common.{find, is_none, list_any, option_or, bytes_eq, length-map, get_or_append_left, get_or-append-add, get_or-map, get_or_default, get_or-take, length-take-le, take_more, list_any-append, list_any_none, find_at, find-append, get_or_from_slice_get, slice_get_within, Sig, Latch, Gate, Parts, signal, sig_eq, signal_names, driven_names, IsSignal, IsNetlist, name_of, latch_named, is_input, is_output, number_or_0, column_named, signal_named, eq-eqb, false_from_ne_true, or_parts, list_any-map, length-signal_names, any-find}
+use Rattle.std.specs.Prelude.{not}
+use Rattle.std.proofs.lemmas.List.Folds.{list_any_at}
+use Rattle.std.proofs.lemmas.Bool.{cases_eq, ne_eqb}
 use Rattle.std.proofs.lemmas.List.Sums.{position_or_len_is}
-use Rattle.std.proofs.lemmas.List.Folds.{list_any_at, find-append}
-use Rattle.cyc_base.proofs.ListLemmas.{list_any-map}
 use Rattle.cyc_base.proofs.NameLemmas.{bytes_eq-same}
 use Rattle.netlist.proofs.Decisions.{found_none}
-use Rattle.netlist.proofs.NameLemmas.{length-signal_names}
 use Rattle.care_sets.proofs.BindingLemmas as binding
-use Rattle.care_sets.proofs.NameLemmas.{others_differ}
+use Rattle.care_sets.proofs.NameLemmas.{others_differ, place_of}
 
 -- ---- searches of lists
 
 -- where an item passes and none before it does
 pub find_is : {A : Type 0} (p : A → Bool) (xs : List A) (i : ℕ) (x : A) → slice_get xs i ≡ Some x → ((k : ℕ) (d : A) → k < i → p (get_or xs k d) ≡ false) → p x ≡ true → find p xs ≡ Some x
-find_is p [] i x is before passes = cc
-find_is p (y ∷ xs) zero x is before passes =
-    let same : y ≡ x = cc in
-    rw same (rw passes refl)
-find_is p (y ∷ xs) (suc i) x is before passes =
-    rw (before zero y (omega arith)) (find_is p xs i x is (λ k d l. before (suc k) d (omega arith)) passes)
+find_is p xs i x is before passes =
+    let inside = slice_get_within xs i x is in
+    find_at p xs
+    ∙ ap (slice_get xs) (position_or_len_is p xs i x (omega arith) (λ k l. before k x l) (λ l. ap p (get_or_from_slice_get xs i x x is) ∙ passes))
+    ∙ is
 
 pub find_nowhere : {A : Type 0} (p : A → Bool) (xs : List A) → ((k : ℕ) (d : A) → k < length xs → p (get_or xs k d) ≡ false) → find p xs ≡ None
 find_nowhere p [] none = refl
 find_nowhere p (x ∷ xs) none = rw (none zero x (omega arith)) (find_nowhere p xs (λ k d l. none (suc k) d (omega arith)))
 
-pub any_nowhere : {A : Type 0} (p : A → Bool) (xs : List A) → ((k : ℕ) (d : A) → k < length xs → p (get_or xs k d) ≡ false) → list_any p xs ≡ false
-any_nowhere p [] none = refl
-any_nowhere p (x ∷ xs) none = rw (none zero x (omega arith)) (any_nowhere p xs (λ k d l. none (suc k) d (omega arith)))
-
 -- and back
 pub nowhere_any : {A : Type 0} (p : A → Bool) (xs : List A) → list_any p xs ≡ false → (k : ℕ) (d : A) → k < length xs → p (get_or xs k d) ≡ false
-nowhere_any p [] none k d l = absurd (omega arith)
-nowhere_any p (x ∷ xs) none zero d l = (or_parts (p x) (list_any p xs) none).0
-nowhere_any p (x ∷ xs) none (suc k) d l = nowhere_any p xs (or_parts (p x) (list_any p xs) none).1 k d (omega arith)
+nowhere_any p xs none k d l = false_from_ne_true (p (get_or xs k d)) (λ e. true≢false (sym (list_any_at p xs k d l e) ∙ none))
 
 pub nowhere_find : {A : Type 0} (p : A → Bool) (xs : List A) → find p xs ≡ None → (k : ℕ) (d : A) → k < length xs → p (get_or xs k d) ≡ false
-nowhere_find p [] none k d l = absurd (omega arith)
-nowhere_find {A = A} p (x ∷ xs) none k d l = by (nowhere_find p xs) (p x) refl none k d l
-  where
-    by : (find p xs ≡ None → (k : ℕ) (d : A) → k < length xs → p (get_or xs k d) ≡ false) → (t : Bool) → p x ≡ t → cond t (Some x) (find p xs) ≡ None → (k : ℕ) (d : A) → k < length (x ∷ xs) → p (get_or (x ∷ xs) k d) ≡ false
-    by rest true is e k d l = cc
-    by rest false is e zero d l = is
-    by rest false is e (suc k) d l = rest e k d (omega arith)
+nowhere_find p xs none = nowhere_any p xs (any-find p xs ∙ ap (λ o. not (is_none o)) none)
 
 pub any_agree : {A : Type 0} (p q : A → Bool) (xs : List A) → ((k : ℕ) (d : A) → k < length xs → p (get_or xs k d) ≡ q (get_or xs k d)) → list_any p xs ≡ list_any q xs
 any_agree p q [] h = refl
@@ -59,13 +43,10 @@ find_next p xs i x none is fails =
     ∙ ap (λ t. cond t (Some x) None) fails
 
 pub find_here : {A : Type 0} (p : A → Bool) (xs : List A) (i : ℕ) (x : A) → find p (take i xs) ≡ None → slice_get xs i ≡ Some x → p x ≡ true → find p xs ≡ Some x
-find_here p xs zero x none is passes = find_is p xs zero x is (λ k d l. absurd (omega arith)) passes
-find_here p [] (suc i) x none is passes = cc
-find_here p (y ∷ xs) (suc i) x none is passes = by (λ e. find_here p xs i x e is passes) (p y) refl none
-  where
-    by : (find p (take i xs) ≡ None → find p xs ≡ Some x) → (t : Bool) → p y ≡ t → cond t (Some y) (find p (take i xs)) ≡ None → find p (y ∷ xs) ≡ Some x
-    by rest true here e = cc
-    by rest false here e = rw here (rest e)
+find_here p xs i x none is =
+    let inside = slice_get_within xs i x is in
+    let len = length-take-le i xs (omega arith) in
+    find_is p xs i x is (λ k d l. ap p (sym (get_or-take i xs k d l)) ∙ nowhere_find p (take i xs) none k d (omega arith))
 
 -- ---- names
 
@@ -80,13 +61,8 @@ latch_at net k d l =
     ∙ get_or_append_left (map (λ (latch : Latch). latch.name) net.latches) (map (λ (gate : Gate). gate.name) net.gates) [] k (omega arith)
     ∙ get_or-map (λ (latch : Latch). latch.name) net.latches k d [] l
 
-module _ (net : Parts) (name : List ℕ) where
-  module _ (s : ℕ) where
-    abbrev Found : Type 0
-    Found = slice_get (signal_names net) s ≡ Some name
-
-    found_is : Found → get_or (signal_names net) s [] ≡ name
-    found_is found = get_or_from_slice_get (signal_names net) s name [] found
+found_is : (net : Parts) (name : List ℕ) (s : ℕ) → slice_get (signal_names net) s ≡ Some name → get_or (signal_names net) s [] ≡ name
+found_is net name s found = get_or_from_slice_get (signal_names net) s name [] found
 
 pub input_found : (net : Parts) (name : List ℕ) (s : ℕ) → IsNetlist net → slice_get (signal_names net) s ≡ Some name → s < length net.inputs → is_input net name ≡ true
 input_found net name s valid found inside =
@@ -94,14 +70,9 @@ input_found net name s valid found inside =
 
 pub input_behind : (net : Parts) (name : List ℕ) (s : ℕ) → IsNetlist net → slice_get (signal_names net) s ≡ Some name → length net.inputs ≤ s → is_input net name ≡ false
 input_behind net name s valid found behind =
-    any_nowhere (bytes_eq name) net.inputs (λ k d l.
+    list_any_none (bytes_eq name) net.inputs (λ k d l.
     let n = length-signal_names net in
-    ap (bytes_eq name) (get_or_d net.inputs k d [] l ∙ sym (input_at net k l)) ∙ others_differ (signal_names net) name s k valid.names_differ found (omega arith) (omega arith))
-  where
-    get_or_d : {A : Type 0} (xs : List A) (k : ℕ) (d e : A) → k < length xs → get_or xs k d ≡ get_or xs k e
-    get_or_d [] k d e l = absurd (omega arith)
-    get_or_d (x ∷ xs) zero d e l = refl
-    get_or_d (x ∷ xs) (suc k) d e l = get_or_d xs k d e (omega arith)
+    ap (bytes_eq name) (get_or_default net.inputs k d [] l ∙ sym (input_at net k l)) ∙ others_differ (signal_names net) name s k valid.names_differ found (omega arith) (omega arith))
 
 pub input_absent : (net : Parts) (name : List ℕ) → list_any (bytes_eq name) (signal_names net) ≡ false → is_input net name ≡ false
 input_absent net name absent = (or_parts (is_input net name) (list_any (bytes_eq name) (driven_names net)) (sym (list_any-append (bytes_eq name) net.inputs (driven_names net)) ∙ absent)).0
@@ -153,17 +124,13 @@ output_found net name s valid found =
         let n = length-signal_names net in
         elim (cases_eq s t.0) [
           | inl e ↦ eq-eqb s t.0 e ∙ sym (bytes_eq-same name (name_of net t) (sym (found_is net name s found) ∙ ap (λ k. get_or (signal_names net) k []) e))
-          | inr ne ↦ other (sig_eq (signal s) t) refl ne ∙ sym (others_differ (signal_names net) name s t.0 valid.names_differ found (omega arith) (λ e. ne (sym e)))
+          | inr ne ↦ ne_eqb s t.0 ne ∙ sym (others_differ (signal_names net) name s t.0 valid.names_differ found (omega arith) (λ e. ne (sym e)))
         ]
-      where
-        other : (b : Bool) → sig_eq (signal s) t ≡ b → s ≢ t.0 → sig_eq (signal s) t ≡ false
-        other true e ne = absurd (ne (eqb-true s t.0 e))
-        other false e ne = e
 
 pub output_absent : (net : Parts) (name : List ℕ) → IsNetlist net → list_any (bytes_eq name) (signal_names net) ≡ false → is_output net name ≡ false
 output_absent net name valid absent =
     list_any-map (bytes_eq name) (name_of net) net.outputs
-    ∙ any_nowhere (λ t. bytes_eq name (name_of net t)) net.outputs (λ k d l.
+    ∙ list_any_none (λ t. bytes_eq name (name_of net t)) net.outputs (λ k d l.
     let n = length-signal_names net in
     let inside = valid.outputs k d l in
     nowhere_any (bytes_eq name) (signal_names net) absent (get_or net.outputs k d).0 [] (omega arith))
@@ -182,12 +149,10 @@ column_absent net name absent = ap number_or_0 (binding.column_absent net name a
 pub signal_place : (net : Parts) (name : List ℕ) (s : ℕ) → IsNetlist net → slice_get (signal_names net) s ≡ Some name → Some s ≡ position (bytes_eq name) (signal_names net)
 signal_place net name s valid found =
     let within : s < length (signal_names net) = slice_get_within (signal_names net) s name found in
-    let is : position_or_len (bytes_eq name) (signal_names net) ≡ s =
-    position_or_len_is (bytes_eq name) (signal_names net) s [] (omega arith)
+    place_of (bytes_eq name) (signal_names net) s
+    (position_or_len_is (bytes_eq name) (signal_names net) s [] (omega arith)
     (λ k lt. others_differ (signal_names net) name s k valid.names_differ found (omega arith) (omega arith))
-    (λ _. bytes_eq-same name (get_or (signal_names net) s []) (sym (found_is net name s found))) in
-    let below : position_or_len (bytes_eq name) (signal_names net) < length (signal_names net) = omega arith in
-    sym (ap (λ t. cond t (Some (position_or_len (bytes_eq name) (signal_names net))) None) (lt-ltb _ _ below) ∙ ap (λ n. Some n) is)
+    (λ _. bytes_eq-same name (get_or (signal_names net) s []) (sym (found_is net name s found)))) within
 
 pub signal_found : (net : Parts) (name : List ℕ) (s : ℕ) → IsNetlist net → slice_get (signal_names net) s ≡ Some name → signal s ≡ signal_named net name
 signal_found net name s valid found = ap (λ o. signal (number_or_0 o)) (signal_place net name s valid found)

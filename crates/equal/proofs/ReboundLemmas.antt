@@ -1,17 +1,14 @@
 -- Care models that are bound to one netlist have no fault for another whose names match, and are bound to it by name.
 use Rattle.std.proofs.Common.{◌≡◌, ◌⊎◌, inl, inr, ℕ, zero, suc, ◌<◌, ◌≤◌, true, false, cond, List, [], ◌∷◌, length, map, get_or, Option, Some, None, IfSome, refl, sym, ap, ap₂, subst, ◌∙◌, arith, true≢false}
-use Rattle.equal.proofs.Common.{find, option_map, option_map_or, bytes_eq, cases_lt, get_or_append_left, get_or_default, position-Some, Latch, Parts, IsBoundTo, IsCareOf, CareSet, column_names, CareModel, has_latch, is_input, is_latch, latch_named, unmatched, column_named, number_or_0, model_of, HaveOneSource}
-use Rattle.std.specs.Prelude.{◌||◌, is_none, is_some, nat_lt}
+use Rattle.equal.proofs.Common.{find, option_map, is_none, option_map_or, bytes_eq, cases_lt, get_or_append_left, get_or_default, position-Some, Latch, Parts, IsBoundTo, IsCareOf, column_of, CareSet, column_names, CareModel, has_latch, is_input, is_latch, latch_named, unmatched, init_eq, latch_name, column_named, number_or_0, model_of, HaveOneSource, column_within, rebound, list_any_none}
+use Rattle.std.specs.Prelude.{◌||◌, is_some, nat_lt}
+use Rattle.care_sets.specs.Binding.{is_unknown_name, is_before, BindsAny, BindsBoth, Binds, HasNoFault, IsCare, IsCareModel, IsFirstFault}
 use Rattle.care_sets.proofs.FaultLemmas as faults
-use Rattle.care_sets.specs.Binding.{column_of, is_unknown_name, is_before, BindsAny, BindsBoth, Binds, HasNoFault, IsCare, IsCareModel, IsFirstFault}
 use Rattle.care_sets.specs.declared.fault.CareFault.{CareFault}
 use Rattle.care_sets.specs.declared.fault.CareFault.TheVariants.{Memory}
 use Rattle.care_sets.proofs.FaultLemmas.{passing, none_there}
-use Rattle.care_sets.proofs.BindingLemmas.{column_within}
-use Rattle.equal.specs.Matching.{init_eq, latch_name}
-use Rattle.equal.specs.Rebound.{bound_to, rebound, BindsEach}
+use Rattle.equal.specs.Rebound.{bound_to, BindsEach}
 use Rattle.equal.proofs.MatchLemmas.{Match, matched, HasColumn, column_among, column_is}
-use Rattle.equal.proofs.NameLemmas.{any_nowhere}
 
 -- a latch that has a latch's name and init has its name
 has_is : (net : Parts) (latch : Latch) → has_latch net latch ≡ true → is_latch net latch.name ≡ true
@@ -44,7 +41,7 @@ module _ (a b : Parts) (match_ : Match a b) where
       no_input : is_input a name ≡ false
       no_input =
           let at = position-Some (bytes_eq name) (column_names a) c [] in_a in
-          any_nowhere (bytes_eq name) a.inputs (λ k d l.
+          list_any_none (bytes_eq name) a.inputs (λ k d l.
           ap (bytes_eq name) (get_or_default a.inputs k d [] l ∙ sym (get_or_append_left a.inputs (map latch_name a.latches) [] k l))
           ∙ at.2 k (omega arith))
 
@@ -95,9 +92,11 @@ binds_again a b match_ first_a first_b keeps model bound valid =
     valid.loop_free (record { named = names.named }) names.behind
 
 any_again : (a b : Parts) → Match a b → (first_a first_b : ℕ) → Keeps a b first_a first_b → (model : Option CareModel) → IfSome model (IsBoundTo a first_a) → IfSome model IsCareModel
-    → IfSome (model_of model) (HasNoFault b first_b)
-any_again a b match_ first_a first_b keeps None bound valid = tt
-any_again a b match_ first_a first_b keeps (Some model) bound valid = (binds_again a b match_ first_a first_b keeps model bound valid).passes
+    → IfSome (model_of model) (HasNoFault b first_b) × IfSome (option_map (bound_to b first_b) model) (IsBoundTo b first_b)
+any_again a b match_ first_a first_b keeps None bound valid = (tt, tt)
+any_again a b match_ first_a first_b keeps (Some model) bound valid =
+    let binds = binds_again a b match_ first_a first_b keeps model bound valid in
+    (binds.passes, binds.to)
 
 all_kept : (a b : Parts) → Keeps a b 0 0
 all_kept a b name c e in_a late in_b = omega arith
@@ -105,25 +104,20 @@ all_kept a b name c e in_a late in_b = omega arith
 pub assume_again : (a b : Parts) (care : CareSet) (model : Option Parts) → unmatched a b ≡ None → IsCareOf a care → IsCare care → model ≡ model_of care.assume
     → IfSome model (HasNoFault b 0)
 assume_again a b care model none is valid same =
-    subst (λ (m : Option Parts). IfSome m (HasNoFault b 0)) (sym same) (any_again a b (matched a b none) 0 0 (all_kept a b) care.assume is.assume valid.assume)
+    subst (λ (m : Option Parts). IfSome m (HasNoFault b 0)) (sym same) (any_again a b (matched a b none) 0 0 (all_kept a b) care.assume is.assume valid.assume).0
 
 pub invariant_again : (a b : Parts) (care : CareSet) (model : Option Parts) → unmatched a b ≡ None → IsCareOf a care → IsCare care → model ≡ model_of care.invariant
     → IfSome model (HasNoFault b (length b.inputs))
 invariant_again a b care model none is valid same =
     subst (λ (m : Option Parts). IfSome m (HasNoFault b (length b.inputs))) (sym same)
-    (any_again a b (matched a b none) (length a.inputs) (length b.inputs) (latch_again a b (matched a b none)) care.invariant is.invariant valid.invariant)
+    (any_again a b (matched a b none) (length a.inputs) (length b.inputs) (latch_again a b (matched a b none)) care.invariant is.invariant valid.invariant).0
 
 -- so it is the care set of b
-any_bound : (a b : Parts) → Match a b → (first_a first_b : ℕ) → Keeps a b first_a first_b → (model : Option CareModel) → IfSome model (IsBoundTo a first_a) → IfSome model IsCareModel
-    → IfSome (option_map (bound_to b first_b) model) (IsBoundTo b first_b)
-any_bound a b match_ first_a first_b keeps None bound valid = tt
-any_bound a b match_ first_a first_b keeps (Some model) bound valid = (binds_again a b match_ first_a first_b keeps model bound valid).to
-
 pub rebound_is_care : (a b : Parts) (care : CareSet) → unmatched a b ≡ None → IsCareOf a care → IsCare care → IsCareOf b (rebound b care)
 rebound_is_care a b care none is valid = record {
-  assume = any_bound a b (matched a b none) 0 0 (all_kept a b) care.assume is.assume valid.assume;
+  assume = (any_again a b (matched a b none) 0 0 (all_kept a b) care.assume is.assume valid.assume).1;
   invariant =
-      any_bound a b (matched a b none) (length a.inputs) (length b.inputs) (latch_again a b (matched a b none)) care.invariant is.invariant valid.invariant;
+      (any_again a b (matched a b none) (length a.inputs) (length b.inputs) (latch_again a b (matched a b none)) care.invariant is.invariant valid.invariant).1;
 }
 
 -- ---- models without a fault have no first fault
@@ -168,10 +162,7 @@ one_told net first model bound binds =
   where
     same : (n : Parts) (f : ℕ) (xs : List ℕ) → n ≡ model.net → f ≡ first → xs ≡ map (column_named net) model.net.inputs
         → record { net = n; first = f; columns = xs } ≡ bound_to net first model
-    same n f xs e g h =
-        ap (λ (m : Parts). record { net = m; first = f; columns = xs }) e
-        ∙ ap (λ (k : ℕ). record { net = model.net; first = k; columns = xs }) g
-        ∙ ap (λ (ys : List ℕ). record { net = model.net; first = first; columns = ys }) h
+    same n f xs e g h = rw (e, g, h) refl
 
 any_told : (net : Parts) (first : ℕ) (model bound : Option CareModel) → BindsAny net first (model_of model) bound → bound ≡ option_map (bound_to net first) model
 any_told net first None None binds = refl

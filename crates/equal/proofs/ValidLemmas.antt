@@ -1,21 +1,22 @@
 -- The joined netlist is a netlist.
-use Rattle.std.proofs.Common.{◌≡◌, ◌⊎◌, inl, inr, ℕ, zero, suc, ◌+◌, ◌-◌, ◌<◌, ◌≤◌, false, List, [], ◌∷◌, ◌++◌, length, map, get_or, All, Option, Some, None, IfSome, refl, sym, ap, subst, ◌∙◌, arith}
-use Rattle.equal.proofs.Common.{IsDistinct, list_any, range_with_len, option_map_or, bytes_eq, cases_lt, append_assoc, map-append, length-append, length-map, get_or-map, get_or_append_left, get_or-append_right, All-map, list_any-append, length-range_with_len, get_or-range_with_len, length-map-range_with_len, get_or-map-range_with_len, Sig, Gate, Latch, Parts, count, signal, sig_eq, gate_at, no_gate, signal_names, driven_names, IsSignal, IsNetlist, mark, Pair, IsPairOf, unmatched, columns_by_name, moved, moved_gate_by, moved_gates, joined, joined_pairs, link_gate, miter_gates}
+use Rattle.std.proofs.Common.{◌≡◌, inl, inr, ℕ, zero, suc, ◌+◌, ◌-◌, ◌<◌, ◌≤◌, false, List, [], ◌∷◌, ◌++◌, length, map, get_or, All, Option, Some, None, IfSome, refl, sym, ap, ap₂, subst, ◌∙◌, arith}
+use Rattle.equal.proofs.Common.{IsDistinct, list_any, range_with_len, option_map_or, bytes_eq, cases_lt, or_parts, append_assoc, map-append, length-append, length-map, get_or-map, get_or_default, get_or_append_left, get_or-append-add, get_or-append_right, map-map, columns, column_names, All-map, All-append, All-cons, All-nil, list_any-append, length-range_with_len, get_or-range_with_len, length-map-range_with_len, get_or-map-range_with_len, Sig, Gate, Latch, Parts, count, signal, gate_at, no_gate, signal_names, driven_names, IsSignal, IsNetlist, mark, Pair, IsPairOf, unmatched, columns_by_name, moved, moved_gate_by, moved_gates, joined, joined_pairs, link_gate, miter_gates, no_pair, last_gate, miter, length-column_names, IsBlifName, list_any-map}
 use Rattle.std.specs.List.{AllByRecursion}
-use Rattle.std.proofs.lemmas.Bool.{or_parts, or_from}
-use Rattle.std.proofs.lemmas.List.Elements.{All-append}
-use Rattle.cyc_base.specs.Names.{IsBlifName}
-use Rattle.cyc_base.proofs.ListLemmas.{list_any-map}
-use Rattle.cyc_base.proofs.NameLemmas.{bytes_eq-other}
+use Rattle.std.proofs.lemmas.Bool.{or_from}
+use Rattle.std.proofs.lemmas.List.Elements.{All-from_get_or, recursion_from_All}
+use Rattle.netlist.specs.Netlists.{is_driven, IsClockName}
+use Rattle.unroll.specs.Marks.{longest_run_in, clock_names, copy_name}
+use Rattle.equal.specs.Joined.{more_name, never_gate}
+use Rattle.std.proofs.lemmas.Map.Made.{IsDistinct-from_AllPairs}
+use Rattle.std.proofs.lemmas.Slice.Eq.{bytes_eq-Decides}
+use Rattle.care_sets.proofs.NameLemmas.{length-names, names_split}
 use Rattle.tildes.specs.Runs.{longest_run, longest_run_of}
 use Rattle.tildes.proofs.RunLemmas.{longest-append}
 use Rattle.netlist.specs.declared.parts.Clock.{Clock}
-use Rattle.netlist.specs.Netlists.{is_driven, IsClockName}
-use Rattle.unroll.specs.Marks.{longest_run_in, clock_names, copy_name}
 use Rattle.unroll.proofs.NameLemmas.{copy_is_long, copy_names_tell, copy_name_fits, all_short, distinct_append, short_from_long, short_is_none}
-use Rattle.equal.specs.Joined.{no_pair, last_gate, miter}
 use Rattle.equal.proofs.MatchLemmas.{matched}
 use Rattle.equal.proofs.JoinLemmas.{length-moved, length-joined, moved_within}
+use Rattle.equal.proofs.LatchlessLemmas.{nothing_twice}
 use Rattle.equal.proofs.MiterLemmas.{length-told}
 use Rattle.equal.proofs.CompareLemmas.{pairs_joined}
 
@@ -45,46 +46,31 @@ numbered_append a k xs ys first second i l =
           (subst (λ n. IsCopyName a n (get_or ys j [])) same (second j (omega arith)))
     ]
 
-numbered_rest : (a : Parts) (k : ℕ) (x : List ℕ) (xs : List (List ℕ)) → AreNumbered a k (x ∷ xs) → AreNumbered a (suc k) xs
-numbered_rest a k x xs h i l = subst (λ n. IsCopyName a n (get_or xs i [])) (let e : k + suc i ≡ suc k + i = omega arith in e) (h (suc i) (omega arith))
-
 numbered_long : (a : Parts) (k : ℕ) (xs : List (List ℕ)) → AreNumbered a k xs → AllByRecursion (λ name. longest_run_in a < longest_run name) xs
-numbered_long a k [] h = tt
-numbered_long a k (x ∷ xs) h =
-    let here = h zero (omega arith) in
-    let long = copy_is_long (suc (longest_run_in a)) (k + zero) here.own in
-    let same : longest_run x ≡ longest_run (copy_name (mark a) (k + zero) here.own) = ap longest_run here.is in
-    (omega arith, numbered_long a (suc k) xs (numbered_rest a k x xs h))
+numbered_long a k xs h =
+    recursion_from_All (λ name. longest_run_in a < longest_run name) xs
+    (All-from_get_or (λ name. longest_run_in a < longest_run name) xs [] (λ i l.
+    let here = h i l in
+    let long = copy_is_long (suc (longest_run_in a)) (k + i) here.own in
+    let same = ap longest_run here.is in
+    omega arith))
 
 numbered_fit : (a : Parts) (k : ℕ) (xs : List (List ℕ)) → k + length xs ≤ 4294967295 → AreNumbered a k xs → All IsBlifName xs
-numbered_fit a k xs few h i d l =
+numbered_fit a k xs few h =
+    All-from_get_or IsBlifName xs [] (λ i l.
     let here = h i l in
-    subst IsBlifName (sym (get_or_same xs i d [] l ∙ here.is)) (copy_name_fits (suc (longest_run_in a)) (k + i) here.own (omega arith) here.fits)
-  where
-    get_or_same : {A : Type 0} (ys : List A) (j : ℕ) (d e : A) → j < length ys → get_or ys j d ≡ get_or ys j e
-    get_or_same [] j d e l = absurd (omega arith)
-    get_or_same (y ∷ ys) zero d e l = refl
-    get_or_same (y ∷ ys) (suc j) d e l = get_or_same ys j d e (omega arith)
-
-numbered_apart : (a : Parts) (j k : ℕ) (own : List ℕ) (xs : List (List ℕ)) → j < k → k + length xs ≤ 4294967295 → AreNumbered a k xs → AllByRecursion (λ name. bytes_eq (copy_name (mark a) j own) name ≡ false) xs
-numbered_apart a j k own [] less few h = tt
-numbered_apart a j k own (x ∷ xs) less few h =
-    let here = h zero (omega arith) in (
-      bytes_eq-other (copy_name (mark a) j own) x (λ e.
-          let t = copy_names_tell (longest_run_in a) j (k + zero) own here.own (omega arith) (omega arith) (e ∙ here.is) in
-          let same = t.0 in
-          absurd (omega arith)),
-      numbered_apart a j (suc k) own xs (omega arith) (omega arith) (numbered_rest a k x xs h),
-    )
+    subst IsBlifName (sym here.is) (copy_name_fits (suc (longest_run_in a)) (k + i) here.own (omega arith) here.fits))
 
 numbered_distinct : (a : Parts) (k : ℕ) (xs : List (List ℕ)) → k + length xs ≤ 4294967295 → AreNumbered a k xs → IsDistinct bytes_eq xs
-unfolding IsDistinct
-numbered_distinct a k [] few h = tt
-numbered_distinct a k (x ∷ xs) few h =
-    let here = h zero (omega arith) in (
-      subst (λ (n : List ℕ). AllByRecursion (λ name. bytes_eq n name ≡ false) xs) (sym here.is) (numbered_apart a (k + zero) (suc k) here.own xs (omega arith) (omega arith) (numbered_rest a k x xs h)),
-      numbered_distinct a (suc k) xs (omega arith) (numbered_rest a k x xs h),
-    )
+numbered_distinct a k xs few h =
+    IsDistinct-from_AllPairs bytes_eq-Decides xs
+    (λ i j d less l e.
+    let one = h i (omega arith) in
+    let other = h j l in
+    let told = copy_names_tell (longest_run_in a) (k + i) (k + j) one.own other.own (omega arith) (omega arith)
+    (sym one.is ∙ get_or_default xs i [] d (omega arith) ∙ e ∙ get_or_default xs j d [] l ∙ other.is) in
+    let same = told.0 in
+    omega arith)
 
 -- those of the second netlist's gates
 moved_numbered : (a b : Parts) → IsNetlist b → AreNumbered a 0 (names_of (moved_gates a b))
@@ -103,53 +89,45 @@ moved_numbered a b valid_b i l =
   where
     gate_fits : (i : ℕ) → i < length b.gates → IsBlifName (gate_at b i).name
     gate_fits i l =
-        let L = length-map b.latches (λ (latch : Latch). latch.name) in
-        let G = length-map b.gates (λ (gate : Gate). gate.name) in
-        let A = length-append b.inputs (driven_names b) in
-        let B = length-append (map (λ (latch : Latch). latch.name) b.latches) (names_of b.gates) in
-        let k : ℕ = length b.inputs + (length b.latches + i) in
+        let wide = length-column_names b in
+        let all = length-names b in
+        let many = length-map b.gates (λ (gate : Gate). gate.name) in
         subst IsBlifName
-        (get_or-append_right b.inputs (driven_names b) (length b.inputs) k [] refl (omega arith)
-        ∙ get_or-append_right (map (λ (latch : Latch). latch.name) b.latches) (names_of b.gates) (length b.latches) (k - length b.inputs) [] L (omega arith)
-        ∙ ap (λ j. get_or (names_of b.gates) j []) (let e : (k - length b.inputs) - length b.latches ≡ i = omega arith in e)
+        (ap₂ (λ names n. get_or names (n + i) []) (names_split b) (sym wide)
+        ∙ get_or-append-add (column_names b) (names_of b.gates) i []
         ∙ get_or-map (λ (gate : Gate). gate.name) b.gates i no_gate [] l)
-        (valid_b.names k [] (omega arith))
+        (valid_b.names (columns b + i) [] (omega arith))
 
 -- those of the gates that tell
+numbered_one : (a : Parts) → IsNetlist a → (n k : ℕ) → n ≡ k → AreNumbered a k (more_name a n ∷ [])
+numbered_one a valid n k e zero l = record { own = a.name; fits = valid.name; is = ap (more_name a) (let f : n ≡ k + zero = omega arith in f) }
+numbered_one a valid n k e (suc i) l = absurd (omega arith)
+
 miter_numbered : (a : Parts) (k : ℕ) (pairs : List Pair) → IsNetlist a → AreNumbered a k (names_of (miter_gates a k pairs))
-miter_numbered a k pairs valid_a zero l = record { own = a.name; fits = valid_a.name; is = ap (λ n. copy_name (mark a) n a.name) (let e : k ≡ k + zero = omega arith in e) }
-miter_numbered a k pairs valid_a (suc i) l =
-    subst (λ n. IsCopyName a n (get_or (names_of rest) i [])) (let e : suc k + i ≡ k + suc i = omega arith in e)
-    (record { own = a.name; fits = valid_a.name; is = by (cases_lt i (length pairs)) })
+miter_numbered a k pairs valid =
+    let own = names_of links in
+    let last = more_name a (suc (k + length pairs)) ∷ [] in
+    let many = length-map links (λ (gate : Gate). gate.name) in
+    let long = length-map-range_with_len (link_gate a k pairs) 0 (length pairs) in
+    subst (λ names. AreNumbered a k (more_name a k ∷ names)) (sym (map-append (λ (gate : Gate). gate.name) links (last_gate a k (length pairs) ∷ [])))
+    (numbered_append a k (more_name a k ∷ []) (own ++ last) (numbered_one a valid k k refl)
+    (subst (λ n. AreNumbered a n (own ++ last)) (let e : suc k ≡ k + 1 = omega arith in e)
+    (numbered_append a (suc k) own last own_numbered (numbered_one a valid (suc (k + length pairs)) (suc k + length own) (omega arith)))))
   where
     links : List Gate
     links = map (link_gate a k pairs) (range_with_len 0 (length pairs))
 
-    rest : List Gate
-    rest = links ++ last_gate a k (length pairs) ∷ []
-
-    length-links : length links ≡ length pairs
-    length-links = length-map-range_with_len (link_gate a k pairs) 0 (length pairs)
-
-    by : (i < length pairs) ⊎ (length pairs ≤ i) → get_or (names_of rest) i [] ≡ copy_name (mark a) (suc k + i) a.name
-    by (inl low) =
-        let e = length-links in
-        let f = length-append links (last_gate a k (length pairs) ∷ []) in
-        get_or-map (λ (gate : Gate). gate.name) rest i no_gate [] (omega arith)
-        ∙ ap (λ (gate : Gate). gate.name)
-        (get_or_append_left links (last_gate a k (length pairs) ∷ []) no_gate i (omega arith)
-        ∙ get_or-map-range_with_len (link_gate a k pairs) 0 (length pairs) i i no_gate low (omega arith))
-        ∙ ap (λ n. copy_name (mark a) n a.name) (let g : suc (k + i) ≡ suc k + i = omega arith in g)
-    by (inr high) =
-        let e = length-links in
-        let f = length-append links (last_gate a k (length pairs) ∷ []) in
-        let m = length-map rest (λ (gate : Gate). gate.name) in
-        let same : i ≡ length pairs = omega arith in
-        get_or-map (λ (gate : Gate). gate.name) rest i no_gate [] (omega arith)
-        ∙ ap (λ (gate : Gate). gate.name)
-        (get_or-append_right links (last_gate a k (length pairs) ∷ []) (length pairs) i no_gate length-links high
-        ∙ ap (λ j. get_or (last_gate a k (length pairs) ∷ []) j no_gate) (let g : i - length pairs ≡ 0 = omega arith in g))
-        ∙ ap (λ n. copy_name (mark a) n a.name) (let g : suc (k + length pairs) ≡ suc k + i = omega arith in g)
+    own_numbered : AreNumbered a (suc k) (names_of links)
+    own_numbered i l =
+        let many = length-map links (λ (gate : Gate). gate.name) in
+        let long = length-map-range_with_len (link_gate a k pairs) 0 (length pairs) in
+        record {
+          own = a.name;
+          fits = valid.name;
+          is = ap (λ names. get_or names i []) (map-map (λ (gate : Gate). gate.name) (link_gate a k pairs) (range_with_len 0 (length pairs)))
+              ∙ get_or-map-range_with_len (λ n. more_name a (suc (k + n))) 0 (length pairs) i i [] (omega arith) (omega arith)
+              ∙ ap (more_name a) (let e : suc (k + i) ≡ suc k + i = omega arith in e);
+        }
 
 -- ---- a gate that reads signals, as many as its cover has pins
 
@@ -240,10 +218,6 @@ module _ (a b : Parts) (valid_a : IsNetlist a) (valid_b : IsNetlist b) (none : u
   clock_kept None short h = h
   clock_kept (Some clock) short h = record { blif = h.blif; named = h.named; undriven = still_undriven clock.name (omega arith) h.undriven }
 
-  nothing_twice : IsDistinct sig_eq []
-  unfolding IsDistinct
-  nothing_twice = tt
-
   pub joined_is_netlist : IsNetlist net
   joined_is_netlist = record {
     fits = let e = length-net in omega arith;
@@ -268,6 +242,9 @@ module _ (a b : Parts) (pairs : List Pair) where
   abbrev own_gates : List Gate
   own_gates = miter_gates a first pairs
 
+  abbrev IsHere : Sig → Type 0
+  IsHere s = IsSignal (joined a b own_gates) s
+
   count_miter : count (joined a b own_gates) ≡ count a + (first + suc (suc (length pairs)))
   count_miter = let e = length-joined a b own_gates in let f = length-told a b pairs in omega arith
 
@@ -275,35 +252,36 @@ module _ (a b : Parts) (pairs : List Pair) where
   link_sound are i l =
       let e = count_miter in
       let pair = are i no_pair l in
-      let here : IsSignal (joined a b own_gates) (get_or pairs i no_pair).here = pair.here in
-      let there : IsSignal (joined a b own_gates) (get_or pairs i no_pair).there = pair.there in
-      record { pins = three (signal (count a + (first + i))) (get_or pairs i no_pair).here (get_or pairs i no_pair).there (omega arith) here there; counted = refl }
-    where
-      three : (x y z : Sig) → IsSignal (joined a b own_gates) x → IsSignal (joined a b own_gates) y → IsSignal (joined a b own_gates) z → All (IsSignal (joined a b own_gates)) (x ∷ y ∷ z ∷ [])
-      three x y z h i j zero d l = h
-      three x y z h i j (suc zero) d l = i
-      three x y z h i j (suc (suc zero)) d l = j
-      three x y z h i j (suc (suc (suc k))) d l = absurd (omega arith)
+      let here : IsHere (get_or pairs i no_pair).here = pair.here in
+      let there : IsHere (get_or pairs i no_pair).there = pair.there in
+      let before = signal (count a + (first + i)) in
+      let one = (get_or pairs i no_pair).here in
+      let other = (get_or pairs i no_pair).there in
+      record {
+        pins = All-cons IsHere before (one ∷ other ∷ []) (omega arith) (All-cons IsHere one (other ∷ []) here (All-cons IsHere other [] there (All-nil IsHere)));
+        counted = refl;
+      }
+
+  last_sound : IsSound (joined a b own_gates) (last_gate a first (length pairs))
+  last_sound =
+      let e = count_miter in
+      let link = signal (count a + (first + length pairs)) in
+      let last = signal (count a + suc (first + length pairs)) in
+      record { pins = All-cons IsHere link (last ∷ []) (omega arith) (All-cons IsHere last [] (omega arith) (All-nil IsHere)); counted = refl }
 
   miter_sound : All (IsPairOf (joined a b own_gates)) pairs → All (IsSound (joined a b own_gates)) own_gates
-  miter_sound are zero d l = record { pins = λ i e m. absurd (omega arith); counted = refl }
-  miter_sound are (suc k) d l =
-      All-append (IsSound (joined a b own_gates)) (map (link_gate a first pairs) (range_with_len 0 (length pairs))) (last_gate a first (length pairs) ∷ [])
-      (All-map (IsSound (joined a b own_gates)) (link_gate a first pairs) (range_with_len 0 (length pairs))
+  miter_sound are =
+      let sound = IsSound (joined a b own_gates) in
+      let links = map (link_gate a first pairs) (range_with_len 0 (length pairs)) in
+      let last = last_gate a first (length pairs) in
+      All-cons sound (never_gate a first) (links ++ last ∷ []) (record { pins = All-nil IsHere; counted = refl })
+      (All-append sound links (last ∷ [])
+      (All-map sound (link_gate a first pairs) (range_with_len 0 (length pairs))
       (λ i e m.
       let len = length-range_with_len 0 (length pairs) in
       let at = get_or-range_with_len 0 (length pairs) i e (omega arith) in
       link_sound are (get_or (range_with_len 0 (length pairs)) i e) (omega arith)))
-      last k d (omega arith)
-    where
-      last : All (IsSound (joined a b own_gates)) (last_gate a first (length pairs) ∷ [])
-      last zero d l = record { pins = two; counted = refl }
-        where
-          two : All (IsSignal (joined a b own_gates)) (signal (count a + (first + length pairs)) ∷ signal (count a + suc (first + length pairs)) ∷ [])
-          two zero d l = let e = count_miter in omega arith
-          two (suc zero) d l = let e = count_miter in omega arith
-          two (suc (suc k)) d l = absurd (omega arith)
-      last (suc k) d l = absurd (omega arith)
+      (All-cons sound last [] last_sound (All-nil sound)))
 
 -- the joined netlist alone, and the miter
 pub joined_valid : (a b : Parts) → IsNetlist a → IsNetlist b → unmatched a b ≡ None → count a + length b.gates ≤ 4294967295 → IsNetlist (joined a b [])

@@ -197,28 +197,6 @@ pub fn compare(
     }
 }
 
-/// The comparison of two netlists whose names match, on a care set of the first.
-fn compare_rebound(
-    alloc: Global,
-    d: &mut Diagrams,
-    a: &Netlist,
-    b: &Netlist,
-    care: &Care,
-    limit: u32,
-) -> Result<Answer, EqualFault>
-    requires matched { unmatched a.now b.now ≡ None }
-    requires care { IsCareOf a.now care.now }
-    requires limit { limit ≤ MAX_NODES }
-    ensures answer { IfOk result (λ answer. answer ≡ found_of a.now b.now care.now) }
-    ensures fault { IfErr result (λ fault. (fault ≡ EqualFault.Memory) ⊎ (fault ≡ EqualFault.NodeLimit limit)) }
-    ensures cause { result ≡ Err (EqualFault.NodeLimit limit) → IsOutOfNodesForBoth d.new a.now care.now b.now limit }
-    ensures below { result ≡ Err (EqualFault.NodeLimit limit) → IsBelowEnoughForBoth a.now care.now b.now (rebound b.now care.now) limit }
-{
-    let other = rebind(alloc, a, b, care)?;
-    let matched = MatchedNetlists::new(a, b, care, &other, limit);
-    matched.compare(alloc, d)
-}
-
 /// The same as `compare`, where the care set of the second netlist is that of the first: its models, bound to the second
 /// one's columns by name. Where a name isn't matched, they aren't looked at.
 pub fn compare_by_name(
@@ -237,6 +215,10 @@ pub fn compare_by_name(
 {
     match first_unmatched(alloc, a, b)? {
         Some(name) => Ok(Answer::Unmatched { name }),
-        None => compare_rebound(alloc, d, a, b, care, limit),
+        None => {
+            let other = rebind(alloc, a, b, care)?;
+            let matched = MatchedNetlists::new(a, b, care, &other, limit);
+            matched.compare(alloc, d)
+        }
     }
 }

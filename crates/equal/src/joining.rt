@@ -37,11 +37,9 @@ fn moved_pins(
     requires fits { All (λ pin. first + (pin.0 - length columns.now) ≤ 4294967295) pins.now }
     ensures { IfOk result (λ moved. moved.items ≡ map (moved_by columns.now first) pins.now) }
 {
-    let mut read = Vec::with_capacity(alloc, pins.len())?;
-    for pin in pins {
-        read.push(moved(columns, first, *pin))?;
-    }
-    Ok(read)
+    pins.iter()
+        .map(|pin| moved(columns, first, *pin))
+        .collect(alloc)
 }
 
 /// A gate of the second netlist.
@@ -179,6 +177,17 @@ fn want_of_memory(_fault: PartsFault) -> AllocError
     AllocError
 }
 
+/// The netlist of parts that make one.
+fn netlist_by(alloc: Global, parts: Parts) -> Result<Netlist, AllocError>
+    requires { IsNetlist parts }
+    ensures { IfOk result (λ net. net ≡ parts) }
+{
+    match Netlist::new(alloc, parts) {
+        Ok(net) => Ok(net),
+        Err(fault) => Err(want_of_memory(fault)),
+    }
+}
+
 /// The parts of a netlist.
 fn copy_parts(alloc: Global, net: &Netlist) -> Result<Parts, AllocError>
     ensures { IfOk result (λ parts. parts ≡ net.now) }
@@ -195,10 +204,7 @@ pub(crate) fn copy_netlist(alloc: Global, net: &Netlist) -> Result<Netlist, Allo
 {
     net.laws();
     let parts = copy_parts(alloc, net)?;
-    match Netlist::new(alloc, parts) {
-        Ok(copy) => Ok(copy),
-        Err(fault) => Err(want_of_memory(fault)),
-    }
+    netlist_by(alloc, parts)
 }
 
 /// The netlist of the first one's columns and these gates.
@@ -211,10 +217,7 @@ pub(crate) fn netlist_of(
     ensures { IfOk result (λ net. net ≡ record { name = a.now.name; inputs = a.now.inputs; clock = a.now.clock; latches = a.now.latches; gates = gates.items; outputs = [] }) }
 {
     let parts = joined_parts(alloc, a, gates)?;
-    match Netlist::new(alloc, parts) {
-        Ok(net) => Ok(net),
-        Err(fault) => Err(want_of_memory(fault)),
-    }
+    netlist_by(alloc, parts)
 }
 
 impl<'a> AcceptedNetlists<'a> {

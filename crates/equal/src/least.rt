@@ -71,11 +71,9 @@ fn moved_pairs(
     requires { All (λ pair. first + (pair.there.0 - length columns.now) ≤ 4294967295) own.now }
     ensures { IfOk result (λ pairs. pairs.items ≡ map (moved_pair_by columns.now first) own.now) }
 {
-    let mut pairs = Vec::with_capacity(alloc, own.len())?;
-    for pair in own {
-        pairs.push(moved_pair(columns, first, *pair))?;
-    }
-    Ok(pairs)
+    own.iter()
+        .map(|pair| moved_pair(columns, first, *pair))
+        .collect(alloc)
 }
 
 /// The outputs of one name, and what the latches of one name load.
@@ -213,28 +211,6 @@ impl<'a> AcceptedNetlists<'a> {
     }
 
     /// The least vector on which they differ, by the diagrams of the joined netlist.
-    fn difference_on(
-        &self,
-        alloc: Global,
-        d: &mut Diagrams,
-        looped: &LoopedNetlist<'_>,
-        limit: u32,
-    ) -> Result<Option<Bits>, EqualFault>
-        requires joined { looped.now.net ≡ joined self.now.a self.now.b [] }
-        requires limit { limit ≤ MAX_NODES }
-        ensures { FindsLeast self.now limit d.new result }
-    {
-        let order = order(alloc, self.a)?;
-        let comparison = Comparison {
-            looped,
-            care: self.care,
-            order: &order,
-            pairs: self.pairs,
-        };
-        least_on(alloc, d, &comparison, limit)
-    }
-
-    /// The same, where the joined netlist is made here.
     fn late_difference(
         &self,
         alloc: Global,
@@ -248,7 +224,14 @@ impl<'a> AcceptedNetlists<'a> {
         let blocks = find_blocks(alloc, &net)?;
         let cut = find_cut(alloc, &net, &blocks)?;
         let looped = LoopedNetlist::new(&net, &blocks, &cut);
-        self.difference_on(alloc, d, &looped, limit)
+        let order = order(alloc, self.a)?;
+        let comparison = Comparison {
+            looped: &looped,
+            care: self.care,
+            order: &order,
+            pairs: self.pairs,
+        };
+        least_on(alloc, d, &comparison, limit)
     }
 
     /// The same, within a budget or else by the diagrams.

@@ -51,10 +51,7 @@ pub(crate) fn latch_of<'a>(net: &'a Netlist, name: &Name) -> Option<&'a Latch>
 fn is_latch(net: &Netlist, name: &Name) -> bool
     ensures { result ≡ is_latch_of net.now name.now }
 {
-    match latch_of(net, name) {
-        Some(_) => true,
-        None => false,
-    }
+    latch_of(net, name).is_some()
 }
 
 /// Whether a latch has the name and the init of this one.

@@ -1,7 +1,9 @@
 //! Wires of the same name.
 
 ghost use Rattle.std.specs.Prelude.{◌≡◌, IfOk};
-ghost use Rattle.equal.specs.Differences.{column_named, columns_by_name, signal_named, source_named, output_pairs as output_pairs_of, latch_pairs as latch_pairs_of};
+ghost use Rattle.netlist.specs.Netlists.{IsSignal};
+ghost use Rattle.equal.specs.Differences.{column_named, columns_by_name, pair_of, signal_named, source_named, output_pairs as output_pairs_of, latch_pairs as latch_pairs_of};
+ghost use Rattle.equal.specs.Matching.{name_of};
 
 use crate::matching::latch_of;
 use clause_decision::Pair;
@@ -58,20 +60,25 @@ fn source_in(net: &Netlist, name: &Name) -> Sig
     }
 }
 
+/// An output of the first netlist, and the signal of the second of the same name.
+fn output_pair(a: &Netlist, b: &Netlist, output: Sig) -> Pair
+    requires { IsSignal a.now output }
+    ensures { result ≡ pair_of output (signal_named b.now (name_of a.now output)) }
+{
+    Pair {
+        here: output,
+        there: signal_in(b, a.name_of(output)),
+    }
+}
+
 /// The outputs of the first netlist, and the signals of the second of the same names.
 pub(crate) fn output_pairs(alloc: Global, a: &Netlist, b: &Netlist) -> Result<Vec<Pair>, AllocError>
     ensures { IfOk result (λ pairs. pairs.items ≡ output_pairs_of a.now b.now) }
 {
-    let mut pairs = Vec::new(alloc);
-    let own = a.outputs();
-    for output in own {
-        let there = signal_in(b, a.name_of(*output));
-        pairs.push(Pair {
-            here: *output,
-            there,
-        })?;
-    }
-    Ok(pairs)
+    a.outputs()
+        .iter()
+        .map(|output| output_pair(a, b, *output))
+        .collect(alloc)
 }
 
 /// What the latches of the first netlist load, and what those of the second of the same names do.

@@ -64,11 +64,10 @@ fn values_of_columns(
 ) -> Result<Vec<bool>, AllocError>
     ensures { IfOk result (λ values. values.items ≡ map (λ column. slice_index_or vector.now column false) columns.now) }
 {
-    let mut values = Vec::with_capacity(alloc, columns.len())?;
-    for column in columns {
-        values.push(value_at(vector, *column))?;
-    }
-    Ok(values)
+    columns
+        .iter()
+        .map(|column| value_at(vector, *column))
+        .collect(alloc)
 }
 
 /// A vector of the first netlist as one of the second.

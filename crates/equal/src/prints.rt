@@ -91,11 +91,10 @@ fn words_of_columns(
     words: &[Word],
     columns: &[u32],
 ) -> Result<Vec<Word>, AllocError> {
-    let mut read = Vec::with_capacity(alloc, columns.len())?;
-    for column in columns {
-        read.push(word_at(words, *column as usize))?;
-    }
-    Ok(read)
+    columns
+        .iter()
+        .map(|column| word_at(words, *column as usize))
+        .collect(alloc)
 }
 
 /// A care model, as it is simulated.

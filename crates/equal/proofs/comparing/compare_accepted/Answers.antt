@@ -1,6 +1,6 @@
-use Rattle.std.proofs.Common.{◌≡◌, sym, subst, ◌∙◌}
+use Rattle.std.proofs.Common.{◌≡◌, None, Some, sym, subst, ◌∙◌}
 use Rattle.equal.proofs.Common.{IfOk, Answer}
-use Rattle.equal.proofs.CompareLemmas.{difference_wide, told_at, told_nowhere}
+use Rattle.equal.proofs.CompareLemmas.{difference_wide, told_of}
 use Rattle.equal.proofs.comparing.compare_accepted.Goals as goal
 
 pub at_difference-requires : goal.at_difference-requires
@@ -9,7 +9,7 @@ at_difference-requires c = difference_wide c.args.a.now c.args.b.now c.args.care
 pub returns-in-Some-clause-answer : goal.returns-in-Some-clause-answer
 returns-in-Some-clause-answer c =
     subst (λ (told : Answer). IfOk c.at_difference.result (λ answer. answer ≡ told))
-    (told_at c.args.a.now c.args.b.now c.args.care.now c.in-Some.vector (sym c.in-Some.is ∙ c.in_ok-vector.ensures.found)) c.at_difference.ensures.answer
+    (told_of c.args.a.now c.args.b.now c.args.care.now (Some c.in-Some.vector) (sym c.in-Some.is ∙ c.in_ok-vector.ensures.found)) c.at_difference.ensures.answer
 
 pub returns-in-None-clause-answer : goal.returns-in-None-clause-answer
-returns-in-None-clause-answer c = told_nowhere c.args.a.now c.args.b.now c.args.care.now (sym c.in-None.is ∙ c.in_ok-vector.ensures.found)
+returns-in-None-clause-answer c = told_of c.args.a.now c.args.b.now c.args.care.now None (sym c.in-None.is ∙ c.in_ok-vector.ensures.found)

@@ -1,6 +1,5 @@
-use Rattle.std.proofs.Common.{◌++◌, ◌∷◌, [], map, ap, ap₂, sym, ◌∙◌}
-use Rattle.equal.proofs.Common.{append_assoc, map-append, range_with_len, moved_gate_by}
-use Rattle.unroll.proofs.SizeLemmas.{range_next}
+use Rattle.std.proofs.Common.{◌++◌, ◌∷◌, [], map, ap, ap₂, sym, ◌∙◌, arith}
+use Rattle.equal.proofs.Common.{append_assoc, range_with_len, moved_gate_by, map-range_with_len_more}
 use Rattle.equal.proofs.joining.add_moved.Goals as goal
 
 pub loop-number-preserved : goal.loop-number-preserved
@@ -11,4 +10,4 @@ loop-number-preserved c =
     c.in_ok-push.ensures.items
     ∙ ap₂ (λ xs x. xs ++ x ∷ []) c.loop-number.invariant c.in_ok-moved_gate.ensures
     ∙ append_assoc old (map f (range_with_len 0 n)) (f n ∷ [])
-    ∙ ap (λ xs. old ++ xs) (sym (ap (map f) (range_next n) ∙ map-append f (range_with_len 0 n) (n ∷ [])))
+    ∙ ap (λ xs. old ++ xs) (sym (map-range_with_len_more f 0 n n (omega arith)))

@@ -1,5 +1,5 @@
 use Rattle.std.proofs.Common.{◌++◌, ◌∷◌, [], ap₂, sym, ◌∙◌}
-use Rattle.unroll.proofs.Kept.{taken}
+use Rattle.equal.proofs.Common.{taken}
 use Rattle.equal.proofs.joining.copy_gates.Goals as goal
 
 pub loop-number-preserved : goal.loop-number-preserved

@@ -1,5 +1,6 @@
 use Rattle.std.proofs.Common.{subst}
-use Rattle.equal.specs.Compared.{Accepted, FindsLeast}
+use Rattle.equal.proofs.Common.{Accepted}
+use Rattle.equal.specs.Compared.{FindsLeast}
 use Rattle.equal.proofs.least.least_difference.Goals as goal
 
 pub returns-in-Some : goal.returns-in-Some

@@ -1,6 +1,5 @@
 use Rattle.std.proofs.Common.{sym, subst, ◌∙◌}
-use Rattle.std.proofs.lemmas.Result.{IfOk-weaker}
-use Rattle.equal.proofs.Common.{IsCareOf, CareSet}
+use Rattle.equal.proofs.Common.{IfOk-weaker, IsCareOf, CareSet}
 use Rattle.equal.proofs.ReboundLemmas.{assume_again, invariant_again, rebound_is_care, rebound_told}
 use Rattle.equal.proofs.rebinding.rebind.Goals as goal
 

@@ -1,8 +1,5 @@
 use Rattle.std.proofs.Common.{◌≡◌, length, ap, subst, sym, ◌∙◌}
-use Rattle.equal.proofs.Common.{IfOk, Parts, IsCareOf, IsKnownEarly, difference, joined_pairs, miter_gates}
-use Rattle.equal.specs.Compared.{Accepted}
-use Rattle.equal.specs.Early.{IsFound}
-use Rattle.equal.specs.Joined.{miter}
+use Rattle.equal.proofs.Common.{IfOk, Parts, IsCareOf, IsKnownEarly, IsFound, difference, joined_pairs, miter_gates, miter, Accepted}
 use Rattle.equal.proofs.CompareLemmas.{care_joined}
 use Rattle.equal.proofs.DifferenceLemmas.{early_found}
 use Rattle.equal.proofs.MatchLemmas.{matched}

@@ -1,8 +1,5 @@
 use Rattle.std.proofs.Common.{◌≡◌, ◌≤◌, ◌+◌, ◌++◌, List, [], length, ap, subst, sym, ◌∙◌, arith}
-use Rattle.equal.proofs.Common.{IfOk, Gate, IsNetlist, count, joined, moved_gates}
-use Rattle.std.proofs.lemmas.List.{append-nil}
-use Rattle.equal.specs.Compared.{Accepted}
-use Rattle.equal.specs.Joined.{with_gates}
+use Rattle.equal.proofs.Common.{IfOk, Gate, IsNetlist, count, joined, moved_gates, with_gates, append-nil, Accepted}
 use Rattle.equal.proofs.ValidLemmas.{joined_valid}
 use Rattle.equal.proofs.accepted.AcceptedNetlists.joined_netlist.Goals as goal
 

@@ -1,8 +1,6 @@
 use Rattle.std.proofs.Common.{◌≡◌, ◌++◌, ◌+◌, ◌≤◌, List, length, ap, subst, sym, ◌∙◌}
+use Rattle.equal.proofs.Common.{IfOk, Gate, count, IsNetlist, Pair, joined_pairs, moved_gates, miter_gates, miter, with_gates, Accepted}
 use Rattle.std.specs.Prelude.{suc}
-use Rattle.equal.proofs.Common.{IfOk, Gate, count, IsNetlist, Pair, joined_pairs, moved_gates, miter_gates}
-use Rattle.equal.specs.Compared.{Accepted}
-use Rattle.equal.specs.Joined.{miter, with_gates}
 use Rattle.equal.proofs.ValidLemmas.{miter_valid}
 use Rattle.equal.proofs.accepted.AcceptedNetlists.miter.Goals as goal
 

@@ -1,7 +1,6 @@
 use Rattle.std.proofs.Common.{◌≡◌, None, sym, subst, ◌∙◌}
 use Rattle.refusals.specs.declared.observe.Observe.TheVariants as observe
-use Rattle.refusals.specs.Refusals.{refusal}
-use Rattle.equal.specs.Compared.{Matched}
+use Rattle.equal.proofs.Common.{refusal, Matched}
 use Rattle.equal.proofs.BoundLemmas.{below_first, out_first, same_fault}
 use Rattle.equal.proofs.CompareLemmas.{told_first, answered, given_up}
 use Rattle.equal.proofs.comparing.MatchedNetlists.compare.Goals as goal

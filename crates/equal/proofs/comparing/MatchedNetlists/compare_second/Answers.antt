@@ -1,8 +1,6 @@
 use Rattle.std.proofs.Common.{◌≡◌, None, sym, subst, ◌∙◌}
 use Rattle.refusals.specs.declared.observe.Observe.TheVariants as observe
-use Rattle.refusals.specs.Refusals.{refusal}
-use Rattle.equal.proofs.Common.{IfOk, Answer}
-use Rattle.equal.specs.Compared.{Matched, Compares}
+use Rattle.equal.proofs.Common.{refusal, IfOk, Answer, Matched, Compares}
 use Rattle.equal.proofs.BoundLemmas.{below_second, below_both, out_second, out_both, same_fault}
 use Rattle.equal.proofs.CompareLemmas.{both_accepted, told_second, told_last, answered, given_up}
 use Rattle.equal.proofs.comparing.MatchedNetlists.compare_second.Goals as goal
