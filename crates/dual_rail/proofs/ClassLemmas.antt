@@ -1,6 +1,6 @@
 -- Classes of rows that agree from a pin on.
 use Rattle.std.proofs.Common.{◌≡◌, ℕ, zero, suc, ◌+◌, ◌-◌, ◌<◌, ◌⊎◌, inl, inr, List, [], ◌∷◌, ◌++◌, length, drop, replicate, get_or, map, Some, None, refl, sym, ap, subst, ◌∙◌, arith, add-one}
-use Rattle.dual_rail.proofs.Common.{cases_lt, get_or_append_left, length_push, All-get_or, All, list_any, Lit, Any, Row, matches, lits_of, matches_from, MatchAlike}
+use Rattle.dual_rail.proofs.Common.{cases_lt, get_or_append_left, length_push, All-get_or, All, Lit, Any, Row, lits_of, matches_from, MatchAlike}
 use Rattle.std.proofs.lemmas.List.{drop_all, get_or-drop, get_or_past, get_or_push, get_or-replicate, length-replicate}
 use Rattle.std.proofs.lemmas.Option.{none-some, same_Some}
 use Rattle.dual_rail.specs.declared.classes.Firsts.{Firsts}

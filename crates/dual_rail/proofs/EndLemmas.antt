@@ -1,6 +1,6 @@
 -- Where rows end.
-use Rattle.std.proofs.Common.{◌≡◌, ℕ, zero, suc, ◌+◌, ◌<◌, ◌≤◌, ◌⊎◌, inl, inr, Bool, true, false, not, ◌&&◌, List, [], ◌∷◌, ◌++◌, length, take, drop, map, get_or, refl, sym, ap, ◌∙◌, arith, true≢false, leb}
-use Rattle.dual_rail.proofs.Common.{cases_lt, and_from, list_any, list_all, Lit, Zero, One, Any, Row, lits_of}
+use Rattle.std.proofs.Common.{◌≡◌, ℕ, zero, suc, ◌+◌, ◌<◌, ◌≤◌, ◌⊎◌, Bool, true, false, not, ◌&&◌, List, [], ◌∷◌, ◌++◌, length, take, drop, map, get_or, refl, ap, ◌∙◌, arith, leb}
+use Rattle.dual_rail.proofs.Common.{cases_lt, and_from, list_any, list_all, Lit, Any, Row, lits_of}
 use Rattle.std.proofs.lemmas.Bool.{le-leb, lt-leb}
 use Rattle.std.proofs.lemmas.List.{take_more, length-take-le}
 use Rattle.dual_rail.specs.declared.classes.Classes.{Classes}

@@ -1,9 +1,8 @@
 -- Shannon's expansion of rows.
-use Rattle.std.proofs.Common.{not, ◌≡◌, ℕ, zero, suc, ◌+◌, ◌<◌, ◌≤◌, Bool, true, false, cond, ◌&&◌, ◌||◌, ◌⊎◌, inl, inr, List, [], ◌∷◌, ◌++◌, length, drop, replicate, get_or, Result, Ok, IfOk, if◌then◌else◌, refl, sym, ap, subst, ◌∙◌, arith, add-one, append_assoc, length-append, length-drop, true≢false}
+use Rattle.std.proofs.Common.{not, ◌≡◌, ℕ, zero, suc, ◌+◌, ◌<◌, ◌≤◌, Bool, true, false, ◌&&◌, ◌||◌, ◌⊎◌, inl, inr, List, [], ◌∷◌, ◌++◌, length, drop, replicate, get_or, Result, Ok, IfOk, refl, sym, ap, subst, ◌∙◌, arith, add-one, append_assoc, length-append, length-drop, true≢false}
 use Rattle.std.proofs.lemmas.List.Folds.{Any-from_list_any, list_any-from_Any}
-use Rattle.std.proofs.lemmas.List.FromFn.{map-range_with_len_more}
 use Rattle.dual_rail.proofs.Common.{length_push, All-get_or, list_any, list_all, All, range_with_len, Node, Arena, complemented, den, top_of, IsNodeOf, KeepsNodes, IsPart, Lit, Zero, One, Any, Row, matches, lits_of, matches_from, remainder, narrowed, IsExpansion}
-use Rattle.std.proofs.lemmas.List.{map-id, get_or_at, drop_at, length-replicate}
+use Rattle.std.proofs.lemmas.List.{get_or_at, drop_at, length-replicate}
 use Rattle.std.specs.List.{filter}
 use Rattle.bdd_store.specs.Arena.{choice}
 use Rattle.bdd_store.specs.Growth.{NewAreParts, IsNewFunction, IsRefusedPart}
@@ -24,12 +23,6 @@ any_filter p q (x ∷ xs) = grind (arith, any_filter p q xs)
 
 pub any_weaker : (f g : ℕ → Bool) → ((x : ℕ) → f x ≡ true → g x ≡ true) → (xs : List ℕ) → list_any f xs ≡ true → list_any g xs ≡ true
 any_weaker f g h xs e = grind (arith, Any-from_list_any f xs e, list_any-from_Any g xs)
-
-pub range-more : (n : ℕ) → range_with_len 0 (n + 1) ≡ range_with_len 0 n ++ n ∷ []
-range-more n =
-    sym (map-id (range_with_len 0 (n + 1)))
-    ∙ map-range_with_len_more (λ (i : ℕ). i) 0 n n (omega arith)
-    ∙ ap (λ (ns : List ℕ). ns ++ n ∷ []) (map-id (range_with_len 0 n))
 
 -- ---- literals
 

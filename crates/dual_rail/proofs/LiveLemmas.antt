@@ -1,6 +1,6 @@
 -- Lists of rows that match alike.
-use Rattle.std.proofs.Common.{◌≡◌, ℕ, ◌+◌, ◌<◌, Bool, true, false, not, cond, ◌||◌, List, [], ◌∷◌, ◌++◌, length, drop, map, Result, Ok, Err, IfOk, refl, sym, ap, subst, ◌∙◌, arith, true≢false, eqb, eqb-true}
-use Rattle.dual_rail.proofs.Common.{and_parts, and_from, list_any, list_all, Node, Arena, Lit, Zero, One, Row, matches, matches_from, MatchAlike, remainder, narrowed, IsExpansion, IsPart}
+use Rattle.std.proofs.Common.{◌≡◌, ℕ, ◌+◌, ◌<◌, Bool, true, false, not, ◌||◌, List, [], ◌∷◌, ◌++◌, length, drop, map, Result, IfOk, refl, sym, ap, subst, ◌∙◌, arith, true≢false, eqb, eqb-true}
+use Rattle.dual_rail.proofs.Common.{and_parts, and_from, list_any, list_all, Node, Arena, Lit, Row, matches, matches_from, MatchAlike, remainder, narrowed, IsExpansion, IsPart}
 use Rattle.std.proofs.Math.Bool.{or-true}
 use Rattle.std.proofs.lemmas.List.Filters.{dedup_is}
 use Rattle.std.proofs.lemmas.List.Folds.{list_any-append, Any-from_list_any, list_any-from_Any}
@@ -10,7 +10,6 @@ use Rattle.std.specs.List.{filter, zip, dedup, Contains}
 use Rattle.std.specs.List.Retain.{IsFiltered, DiffersFromLast}
 use Rattle.std.specs.List.Sorted.{IsPermutation}
 use Rattle.cyc_base.proofs.TruthLemmas.{same_truth, or-false}
-use Rattle.cover_logic.specs.declared.row.Lit.TheVariants.{Any as Either}
 use Rattle.cover_logic.specs.Covers.{allows}
 use Rattle.dual_rail.specs.Expansion.{suffix, is_within, is_contained, in_plane}
 use Rattle.dual_rail.specs.declared.live.Live.{Live}
@@ -78,17 +77,11 @@ any_kept rows pin kept left new row fewer is bits =
 
 -- ---- what is left to be matched
 
-pub MatchAlike-chain : (rows : List Row) (pin : ℕ) (xs ys zs : List ℕ) → MatchAlike rows pin xs ys → MatchAlike rows pin ys zs → MatchAlike rows pin xs zs
-MatchAlike-chain rows pin xs ys zs xy yz bits = xy bits ∙ yz bits
-
 pub MatchAlike-of : {E : Type 0} (rows : List Row) (pin : ℕ) (xs ys : List ℕ) (r : Result Live E) → IfOk r (λ next. MatchAlike rows pin next.rows.items xs) → MatchAlike rows pin xs ys → IfOk r (λ next. MatchAlike rows pin next.rows.items ys)
 MatchAlike-of rows pin xs ys r is same = grind arith
 
 pub remainder-alike : (rows : List Row) (plane : Bool) (pin : ℕ) (xs ys : List ℕ) → MatchAlike rows pin xs ys → (bits : List Bool) → remainder rows plane pin xs bits ≡ remainder rows plane pin ys bits
 remainder-alike rows plane pin xs ys same bits = ap (in_plane plane) (same bits)
-
-pub IsExpansion-alike : {rows : List Row} {plane : Bool} {s : Arena} {pin : ℕ} {xs ys : List ℕ} {n : Node} → MatchAlike rows pin xs ys → IsExpansion rows plane s pin xs n → IsExpansion rows plane s pin ys n
-IsExpansion-alike {rows} {plane} {pin = pin} {xs} {ys} same is = record { node = is.node; function = λ bits len. is.function bits len ∙ remainder-alike rows plane pin xs ys same bits; top = is.top }
 
 -- what is left at a value of the pin is a part
 pub IsPart-next : (rows : List Row) (plane : Bool) {pin : ℕ} (live : List ℕ) (b : Bool) {vars next : ℕ} (left : List ℕ) → pin < vars → next ≡ pin + 1 → MatchAlike rows (pin + 1) left (narrowed rows pin b live) → IsPart vars (remainder rows plane pin live) (remainder rows plane next left)

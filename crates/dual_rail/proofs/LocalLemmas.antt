@@ -1,5 +1,5 @@
 -- The diagram of a cover.
-use Rattle.std.proofs.Common.{◌≡◌, ℕ, ◌-◌, ◌^◌, ◌<◌, ◌≤◌, Bool, List, [], length, inl, inr, Result, Ok, Err, IfOk, sym, ap, subst, ◌∙◌, arith}
+use Rattle.std.proofs.Common.{◌≡◌, ℕ, ◌-◌, ◌^◌, ◌<◌, ◌≤◌, Bool, List, [], length, inl, inr, Result, IfOk, sym, ap, subst, ◌∙◌, arith}
 use Rattle.dual_rail.proofs.Common.{range_with_len, Node, Arena, den, IsNodeOf, IsLawful, nodes, IsPart, KeepsNodes, Row, value, remainder, IsExpansion}
 use Rattle.bdd_store.specs.Subfunctions.{Alike}
 use Rattle.bdd_store.specs.Growth.{NewAreParts, IsRefusedPart}

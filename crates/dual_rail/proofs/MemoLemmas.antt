@@ -1,5 +1,5 @@
 -- The memo of the expansion.
-use Rattle.std.proofs.Common.{◌≡◌, ℕ, Bool, true, false, cond, List, Option, Some, Result, Ok, Err, is_err, OnOk, nat_eq, refl, sym, subst, ◌∙◌, true≢false, eq-eqb, arith}
+use Rattle.std.proofs.Common.{◌≡◌, ℕ, Bool, true, false, cond, List, Option, Some, Result, is_err, OnOk, nat_eq, refl, sym, ◌∙◌, eq-eqb, arith}
 use Rattle.std.proofs.lemmas.Option.{same_Some}
 use Rattle.dual_rail.proofs.Common.{and_parts, Node, Arena, KeepsNodes, Row, IsExpansion}
 use Rattle.std.proofs.lemmas.Bool.{eqb-true}

@@ -1,12 +1,11 @@
 -- The table of rails, and what a loop over the nodes adds.
 use Rattle.std.proofs.Common.{◌≡◌, ℕ, ◌<◌, ◌≤◌, Bool, true, false, not, ◌⊎◌, inl, inr, List, [], ◌∷◌, ◌++◌, length, if◌then◌else◌, sym, ap, subst, ◌∙◌, arith}
-use Rattle.dual_rail.proofs.Common.{not-not, cases_lt, get_or_append_left, length_push, All, slice_index_or, Node, Arena, complemented, den, IsNodeOf, IsLawful, nodes, KeepsNodes, Rails, values_of, AreRailsOf, function, IsLift, IsTable}
+use Rattle.dual_rail.proofs.Common.{not-not, cases_lt, get_or_append_left, length_push, All, slice_index_or, Node, Arena, complemented, den, IsLawful, nodes, KeepsNodes, Rails, values_of, AreRailsOf, function, IsLift, IsTable}
 use Rattle.std.proofs.lemmas.List.{get_or_push}
 use Rattle.bdd_store.specs.Arena.{empty, index, is_marked, flipped, value_at, constant}
 use Rattle.bdd_store.proofs.NodeLemmas.{same_node, index-complemented, is_marked-complemented}
 use Rattle.bdd_store.proofs.ValueLemmas.{value_at-zero, node_value-complemented, den-constant}
 use Rattle.bdd_store.proofs.GrowthLemmas.{count-parts}
-use Rattle.bdd_store.specs.Growth.{IsPartAt}
 use Rattle.dual_rail.specs.Local.{Local, local_size, IsLocal}
 use Rattle.dual_rail.proofs.SurelyLemmas.{surely-constant, IsLift-kept, IsLift-complement}
 

@@ -1,5 +1,5 @@
 -- Counting the nodes of a lift.
-use Rattle.std.proofs.Common.{inl, inr, ◌≡◌, ℕ, zero, suc, ◌+◌, ◌≤◌, Bool, true, false, not, ◌&&◌, List, [], ◌∷◌, ◌++◌, length, map, drop, refl, sym, ap, ap₂, subst, ◌∙◌, arith}
+use Rattle.std.proofs.Common.{inl, inr, ◌≡◌, ℕ, zero, suc, ◌+◌, ◌≤◌, Bool, true, false, not, ◌&&◌, List, [], ◌∷◌, ◌++◌, length, map, drop, refl, sym, ap, subst, ◌∙◌, arith}
 use Rattle.std.proofs.Common.{cond, filter}
 use Rattle.dual_rail.proofs.Common.{All, length-map, Node, Arena, complemented, den, not-not, KeepsNodes, nodes, IsPart, exact, Rails, values_of, AreRailsOf, selection, function, IsFork, BoundsEach, IsExtended}
 use Rattle.std.specs.Bool.{beq}

@@ -1,4 +1,4 @@
-use Rattle.std.proofs.Common.{rules, sym, ap, subst, ◌∙◌, ◌≡◌, ◌+◌, ◌-◌, arith, [], length, get_or}
+use Rattle.std.proofs.Common.{sym, subst, ◌∙◌, ◌≡◌, ◌+◌, ◌-◌, arith, [], get_or}
 use Rattle.dual_rail.proofs.Common.{length_push}
 use Rattle.std.proofs.lemmas.List.{get_or_read}
 use Rattle.dual_rail.specs.Classes.{AreClasses}

@@ -1,7 +1,6 @@
-use Rattle.std.proofs.Common.{Err, sym, ap, ◌∙◌, arith}
-use Rattle.bdd_store.specs.declared.fault.StoreFault.{StoreFault}
+use Rattle.std.proofs.Common.{ap, ◌∙◌, arith}
 use Rattle.dual_rail.proofs.Common.{Arena}
-use Rattle.dual_rail.proofs.LocalLemmas.{local-size, local-most, local-full, local-is, local-of}
+use Rattle.dual_rail.proofs.LocalLemmas.{local-size, local-most, local-full, local-is}
 use Rattle.dual_rail.proofs.diagram.local.Goals as goal
 
 pub returns-in_err-top-clause-full : goal.returns-in_err-top-clause-full

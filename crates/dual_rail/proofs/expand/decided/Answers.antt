@@ -1,5 +1,4 @@
-use Rattle.std.proofs.Common.{length, sym, ap, ◌∙◌, true≢false, arith}
-use Rattle.std.specs.Bool.{◌==◌}
+use Rattle.std.proofs.Common.{true≢false, arith}
 use Rattle.dual_rail.proofs.EndLemmas.{any-settled}
 use Rattle.dual_rail.proofs.ExpansionLemmas.{remainder-settled, asks_within}
 use Rattle.dual_rail.proofs.expand.decided.Goals as goal

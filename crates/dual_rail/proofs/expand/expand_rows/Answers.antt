@@ -1,7 +1,7 @@
 use Rattle.std.proofs.Common.{length, arith}
 use Rattle.dual_rail.proofs.Common.{range_with_len}
-use Rattle.dual_rail.proofs.LiveLemmas.{IsExpansion-next, remainder-first}
-use Rattle.dual_rail.proofs.LocalLemmas.{NewAreParts-alike, IsRefusedPart-alike}
+use Rattle.dual_rail.proofs.LiveLemmas.{remainder-first}
+use Rattle.dual_rail.proofs.LocalLemmas.{NewAreParts-alike}
 use Rattle.dual_rail.proofs.expand.expand_rows.Goals as goal
 
 pub returns-clause-node : goal.returns-clause-node

@@ -1,5 +1,5 @@
 use Rattle.std.proofs.Common.{◌≡◌, ◌+◌, ◌*◌, ◌≤◌, [], ◌∷◌, ◌++◌, length, sym, ap, ap₂, subst, ◌∙◌, arith}
-use Rattle.dual_rail.proofs.Common.{All, length_push, Node, Arena, den, IsLawful, KeepsNodes, BoundsEach, IsExtended, value, exact, Rails, values_of, AreRailsOf, function, IsLift, IsTable}
+use Rattle.dual_rail.proofs.Common.{All, length_push, Node, den, KeepsNodes, BoundsEach, IsExtended, value, exact, Rails, values_of, AreRailsOf, function, IsLift, IsTable}
 use Rattle.bdd_ops.proofs.ChainLemmas.{pushed}
 use Rattle.bdd_store.specs.Growth.{GrowsWithin, NoOtherCause}
 use Rattle.bdd_store.proofs.NodeLemmas.{plain}

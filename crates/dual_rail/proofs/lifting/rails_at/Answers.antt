@@ -1,5 +1,4 @@
-use Rattle.std.proofs.Common.{◌∙◌, sym, ap, subst, true, arith}
-use Rattle.dual_rail.proofs.Common.{slice_index_or, den, IsLift}
+use Rattle.std.proofs.Common.{true, arith}
 use Rattle.dual_rail.proofs.SurelyLemmas.{no_rails}
 use Rattle.dual_rail.proofs.TableLemmas.{IsLift-at}
 use Rattle.dual_rail.proofs.lifting.rails_at.Goals as goal
