@@ -3,7 +3,7 @@ use Rattle.std.proofs.Common.{◌≡◌, ℕ, ◌<◌, Bool, true, ◌&&◌, ◌
 use Rattle.std.specs.Prelude.{option_map}
 use Rattle.std.specs.Option.{option_or, option_map_or}
 use Rattle.std.proofs.lemmas.List.{length-map}
-use Rattle.std.proofs.lemmas.List.Folds.{list_any-append}
+use Rattle.std.proofs.lemmas.List.Folds.{list_any-append, list_any_none}
 use Rattle.std.proofs.lemmas.List.Quantifiers.{position-Some}
 use Rattle.netlist.specs.declared.parts.Parts.{Parts}
 use Rattle.netlist.specs.Netlists.{signal, IsNetlist}
@@ -18,7 +18,6 @@ use Rattle.equal.specs.declared.answer.Answer.{Answer}
 use Rattle.equal.specs.declared.answer.Answer.TheVariants.{Equal, Unmatched, First, Second, Output, Latch}
 use Rattle.equal.specs.Matching.{unmatched}
 use Rattle.equal.specs.Differences.{number_or_0, output_pairs, latch_pairs, differs_at, differs, difference, at_difference, comparison, comparison_of_accepted}
-use Rattle.equal.proofs.NameLemmas.{any_nowhere}
 use Rattle.equality.specs.Answers.{IsAnswerOf}
 
 module _ (a b : Parts) (care_a care_b : CareSet) (valid_a : IsNetlist a) (valid_b : IsNetlist b) where
@@ -52,7 +51,7 @@ module _ (a b : Parts) (care_a care_b : CareSet) (valid_a : IsNetlist a) (valid_
       absurd (true≢false (
       sym (really v is)
       ∙ list_any-append (differs_at a b v) (output_pairs a b) (latch_pairs a b)
-      ∙ ap₂ (λ x y. x || y) (any_nowhere (differs_at a b v) (output_pairs a b) (none_found (differs_at a b v) (output_pairs a b) at_is)) (any_nowhere (differs_at a b v) (latch_pairs a b) (none_found (differs_at a b v) (latch_pairs a b) l_is))))
+      ∙ ap₂ (λ x y. x || y) (list_any_none (differs_at a b v) (output_pairs a b) (none_found (differs_at a b v) (output_pairs a b) at_is)) (list_any_none (differs_at a b v) (latch_pairs a b) (none_found (differs_at a b v) (latch_pairs a b) l_is))))
 
   accepted-fit : (o : Option (List Bool)) → difference a b care_a ≡ o → IsAnswerOf a b (option_map_or (at_difference a b) o Equal)
   accepted-fit None is = tt

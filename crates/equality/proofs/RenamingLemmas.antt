@@ -3,6 +3,7 @@ use Rattle.std.proofs.Common.{◌≡◌, inl, inr, ℕ, ◌+◌, ◌-◌, ◌<�
 use Rattle.std.specs.List.{list_any, position_or_len}
 use Rattle.std.specs.Str.{bytes_eq}
 use Rattle.std.proofs.lemmas.Bool.{cases_lt, lt-ltb}
+use Rattle.std.proofs.lemmas.List.Folds.{list_any_none}
 use Rattle.std.proofs.lemmas.List.{ext_get_or, get_or-map, get_or_append_left, get_or-append-add, length-append, length-map}
 use Rattle.std.proofs.lemmas.List.Quantifiers.{position-Some}
 use Rattle.std.proofs.lemmas.List.Sums.{position_or_len_is}
@@ -12,7 +13,7 @@ use Rattle.cyc_base.specs.declared.trit.Trit.TheVariants.{X}
 use Rattle.cyc_base.specs.Values.{bit, bits}
 use Rattle.netlist.proofs.Decisions.{none_found}
 use Rattle.equal.specs.Differences.{number_or_0}
-use Rattle.equal.proofs.NameLemmas.{any_nowhere, nowhere_any}
+use Rattle.equal.proofs.NameLemmas.{nowhere_any}
 use Rattle.equality.specs.Runs.{renamed}
 
 -- ---- a place of a name
@@ -40,7 +41,7 @@ place_of names name any = by (position (bytes_eq name) names) refl
   where
     by : (o : Option ℕ) → position (bytes_eq name) names ≡ o → (place : ℕ) × IsPlaceOf names name place
     by (Some n) is = (n, place_is names name n is)
-    by None is = absurd (true≢false (sym any ∙ any_nowhere (bytes_eq name) names (none_found (bytes_eq name) names is)))
+    by None is = absurd (true≢false (sym any ∙ list_any_none (bytes_eq name) names (none_found (bytes_eq name) names is)))
 
 -- in two lists, one behind the other
 pub place_first : (p : List ℕ → Bool) (xs ys : List (List ℕ)) (n : ℕ) → position p xs ≡ Some n → position p (xs ++ ys) ≡ Some n

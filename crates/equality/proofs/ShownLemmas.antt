@@ -2,7 +2,7 @@
 use Rattle.std.proofs.Common.{◌≡◌, ℕ, Bool, true, ◌&&◌, ◌||◌, List, position, Option, Some, None, refl, sym, ap₂, ◌∙◌, true≢false}
 use Rattle.std.specs.Prelude.{option_map}
 use Rattle.std.specs.Option.{option_or, option_map_or}
-use Rattle.std.proofs.lemmas.List.Folds.{list_any-append}
+use Rattle.std.proofs.lemmas.List.Folds.{list_any-append, list_any_none}
 use Rattle.std.proofs.lemmas.List.Quantifiers.{position-Some}
 use Rattle.std.proofs.lemmas.Bool.{and_parts}
 use Rattle.netlist.specs.declared.parts.Parts.{Parts}
@@ -22,7 +22,6 @@ use Rattle.equal.specs.declared.answer.Answer.TheVariants.{Equal, Unmatched, Fir
 use Rattle.equal.specs.Matching.{unmatched}
 use Rattle.equal.specs.Differences.{number_or_0, output_pairs, latch_pairs, differs_at, differs, difference, at_difference, comparison_of_accepted}
 use Rattle.equal.specs.Rebound.{rebound, found}
-use Rattle.equal.proofs.NameLemmas.{any_nowhere}
 use Rattle.equal.proofs.ReboundLemmas.{rebound_is_care, rebound_source}
 use Rattle.equality.specs.Runs.{RunAlike}
 use Rattle.equality.proofs.AlikeLemmas.{equal_run_alike}
@@ -52,14 +51,14 @@ module _ (a b : Parts) (care : CareSet) (valid_a : IsNetlist a) (valid_b : IsNet
   placed v is None (Some at) at_is l_is =
       let p = position-Some (differs_at a b v) (latch_pairs a b) at (record { here = signal 0; there = signal 0 }) l_is in
       record {
-        outputs_agree = any_nowhere (differs_at a b v) (output_pairs a b) (none_found (differs_at a b v) (output_pairs a b) at_is);
+        outputs_agree = list_any_none (differs_at a b v) (output_pairs a b) (none_found (differs_at a b v) (output_pairs a b) at_is);
         latch = record { vector = care_vector v is; there = p.0; differs = p.1 };
       }
   placed v is None None at_is l_is =
       absurd (true≢false (
       sym (really v is)
       ∙ list_any-append (differs_at a b v) (output_pairs a b) (latch_pairs a b)
-      ∙ ap₂ (λ x y. x || y) (any_nowhere (differs_at a b v) (output_pairs a b) (none_found (differs_at a b v) (output_pairs a b) at_is)) (any_nowhere (differs_at a b v) (latch_pairs a b) (none_found (differs_at a b v) (latch_pairs a b) l_is))))
+      ∙ ap₂ (λ x y. x || y) (list_any_none (differs_at a b v) (output_pairs a b) (none_found (differs_at a b v) (output_pairs a b) at_is)) (list_any_none (differs_at a b v) (latch_pairs a b) (none_found (differs_at a b v) (latch_pairs a b) l_is))))
 
   of_accepted : unmatched a b ≡ None → (o : Option (List Bool)) → difference a b care ≡ o → found a b care ≡ option_map_or (at_difference a b) o Equal →
       IsShown a b care (option_map_or (at_difference a b) o Equal)
