@@ -1,5 +1,5 @@
 -- The least completion with a value, found place by place.
-use Rattle.std.proofs.Common.{◌≡◌, ◌≢◌, ◌⊎◌, inl, inr, ◌<◌, ℕ, zero, suc, Bool, true, false, not, cond, ◌&&◌, List, [], ◌∷◌, length, map, get_or, set, refl, ap, sym, ◌∙◌, subst, arith, true≢false, Some, None}
+use Rattle.std.proofs.Common.{◌≡◌, ◌≢◌, ◌⊎◌, inl, inr, ◌<◌, ℕ, zero, suc, Bool, true, false, not, cond, ◌&&◌, List, [], ◌∷◌, length, map, get_or, set, refl, ap, ap₂, sym, ◌∙◌, subst, arith, true≢false, Some, None}
 use Rattle.std.specs.Prelude.{option_map, unwrap_or}
 use Rattle.std.specs.List.{find, list_all}
 use Rattle.std.specs.Option.{option_or}
@@ -9,9 +9,9 @@ use Rattle.std.proofs.lemmas.List.Folds.{find-append}
 use Rattle.std.proofs.lemmas.Bool.{not-true, not_from_false}
 use Rattle.cyc_base.specs.declared.trit.Trit.{Trit}
 use Rattle.cyc_base.specs.declared.trit.Trit.TheVariants.{Zero, One, X}
-use Rattle.cyc_base.specs.Values.{bit, bits, Completes}
+use Rattle.cyc_base.specs.Values.{bit, bits, Below, Completes}
 use Rattle.cyc_base.specs.Vectors.{AtMost}
-use Rattle.cyc_base.proofs.ListLemmas.{find-map, option_map-or, option_or-cases}
+use Rattle.cyc_base.proofs.ListLemmas.{find-map, option_map-nothing, option_map-or, option_or-cases}
 use Rattle.cover_logic.specs.Extensions.{completions, exact}
 use Rattle.cover_logic.proofs.ExtensionLemmas.{exact_says, exact_from, exact_at_bits, exact_split, passes_above, passes_listed}
 use Rattle.storm.specs.Least.{is, first_where, least_where, IsLeastWhere, AreKnown}
@@ -40,9 +40,8 @@ is_so_back false b e = ap not e
 
 other_is : (wanted b : Bool) → b ≢ not wanted → is wanted b ≡ true
 other_is true true n = refl
-other_is true false n = absurd (n refl)
-other_is false true n = absurd (n refl)
 other_is false false n = refl
+other_is wanted b n = absurd (n refl)
 
 -- ---- the first that passes a test
 
@@ -66,26 +65,26 @@ all_fail p (x ∷ xs) none = by (p x) (all_fail p xs) none
 none_above : (p : List Bool → Bool) (ts : List Trit) → find p (completions ts) ≡ None → (bs : List Bool) → Completes ts bs → p bs ≡ false
 none_above p ts none bs above = not-true (p bs) (passes_above (λ cs. not (p cs)) ts (all_fail p (completions ts) none) bs above)
 
+-- with one known value in front of all
+find_behind : (b : Bool) (p : List Bool → Bool) (xs ys zs : List (List Bool)) → find (λ bs. p (b ∷ bs)) xs ≡ option_or (find (λ bs. p (b ∷ bs)) ys) (find (λ bs. p (b ∷ bs)) zs)
+    → find p (map (λ bs. b ∷ bs) xs) ≡ option_or (find p (map (λ bs. b ∷ bs) ys)) (find p (map (λ bs. b ∷ bs) zs))
+find_behind b p xs ys zs split =
+    rw (find-map p (λ bs. b ∷ bs) xs, find-map p (λ bs. b ∷ bs) ys, find-map p (λ bs. b ∷ bs) zs, split)
+    (option_map-or (λ bs. b ∷ bs) (find (λ bs. p (b ∷ bs)) ys) (find (λ bs. p (b ∷ bs)) zs))
+
 -- where a place is X, those with 0 there come first
 find_split : (p : List Bool → Bool) (ts : List Trit) (n : ℕ) → AreKnown ts n → n < length ts → get_or ts n X ≡ X
     → find p (completions ts) ≡ option_or (find p (completions (set ts n Zero))) (find p (completions (set ts n One)))
 find_split p [] n known l x = absurd (omega arith)
 find_split p (X ∷ ts) zero known l x = find-append p (map (λ bs. false ∷ bs) (completions ts)) (map (λ bs. true ∷ bs) (completions ts))
-find_split p (Zero ∷ ts) zero known l x = cc
-find_split p (One ∷ ts) zero known l x = cc
 find_split p (X ∷ ts) (suc n) known l x = absurd (known 0 (omega arith) refl)
 find_split p (Zero ∷ ts) (suc n) known l x =
-    find-map p (λ bs. false ∷ bs) (completions ts)
-    ∙ ap (option_map (λ bs. false ∷ bs)) (find_split (λ bs. p (false ∷ bs)) ts n (λ i m. known (suc i) (omega arith)) (omega arith) x)
-    ∙ option_map-or (λ bs. false ∷ bs) (find (λ bs. p (false ∷ bs)) (completions (set ts n Zero))) (find (λ bs. p (false ∷ bs)) (completions (set ts n One)))
-    ∙ ap (λ o. option_or o (option_map (λ bs. false ∷ bs) (find (λ bs. p (false ∷ bs)) (completions (set ts n One))))) (sym (find-map p (λ bs. false ∷ bs) (completions (set ts n Zero))))
-    ∙ ap (option_or (find p (map (λ bs. false ∷ bs) (completions (set ts n Zero))))) (sym (find-map p (λ bs. false ∷ bs) (completions (set ts n One))))
+    find_behind false p (completions ts) (completions (set ts n Zero)) (completions (set ts n One))
+    (find_split (λ bs. p (false ∷ bs)) ts n (λ i m. known (suc i) (omega arith)) (omega arith) x)
 find_split p (One ∷ ts) (suc n) known l x =
-    find-map p (λ bs. true ∷ bs) (completions ts)
-    ∙ ap (option_map (λ bs. true ∷ bs)) (find_split (λ bs. p (true ∷ bs)) ts n (λ i m. known (suc i) (omega arith)) (omega arith) x)
-    ∙ option_map-or (λ bs. true ∷ bs) (find (λ bs. p (true ∷ bs)) (completions (set ts n Zero))) (find (λ bs. p (true ∷ bs)) (completions (set ts n One)))
-    ∙ ap (λ o. option_or o (option_map (λ bs. true ∷ bs) (find (λ bs. p (true ∷ bs)) (completions (set ts n One))))) (sym (find-map p (λ bs. true ∷ bs) (completions (set ts n Zero))))
-    ∙ ap (option_or (find p (map (λ bs. true ∷ bs) (completions (set ts n Zero))))) (sym (find-map p (λ bs. true ∷ bs) (completions (set ts n One))))
+    find_behind true p (completions ts) (completions (set ts n Zero)) (completions (set ts n One))
+    (find_split (λ bs. p (true ∷ bs)) ts n (λ i m. known (suc i) (omega arith)) (omega arith) x)
+find_split p (t ∷ ts) zero known l x = cc
 
 -- ---- a value that is possible
 
@@ -159,28 +158,34 @@ test_some : {A : Type 0} (t : Bool) (x y : A) → cond t (Some x) None ≡ Some 
 test_some true x y e = ((let P : Some x ≡ Some y = e in cc), refl)
 test_some false x y e = cc
 
+-- the least with this value in front is the least of all, where none of the others that pass is less
+first_behind : (b : Bool) (p : List Bool → Bool) (t : Trit) (ts : List Trit) (bs : List Bool) → Below t (bit b)
+    → ((cs other : List Bool) → ((ds : List Bool) → Completes ts ds → p (b ∷ ds) ≡ true → AtMost cs ds) → Completes (t ∷ ts) other → p other ≡ true → AtMost (b ∷ cs) other)
+    → option_map (λ cs. b ∷ cs) (find (λ cs. p (b ∷ cs)) (completions ts)) ≡ Some bs
+    → ((cs : List Bool) → find (λ ds. p (b ∷ ds)) (completions ts) ≡ Some cs → IsFirst (λ ds. p (b ∷ ds)) ts cs) → IsFirst p (t ∷ ts) bs
+first_behind b p t ts bs here least found first =
+    let (cs, there, same) = mapped_some (λ cs. b ∷ cs) (find (λ cs. p (b ∷ cs)) (completions ts)) bs found in
+    let rest = first cs there in
+    subst (λ ds. IsFirst p (t ∷ ts) ds) same ((here, rest.0), rest.1, λ other. least cs other rest.2)
+
 pub first_is_least : (p : List Bool → Bool) (ts : List Trit) (bs : List Bool) → find p (completions ts) ≡ Some bs → IsFirst p ts bs
 first_is_least p [] bs e =
     let (same, passes) = test_some (p []) [] bs e in
     subst (λ cs. IsFirst p [] cs) same (tt, passes, λ other above ok. tt)
 first_is_least p (Zero ∷ ts) bs e =
-    let (cs, found, same) = mapped_some (λ cs. false ∷ cs) (find (λ cs. p (false ∷ cs)) (completions ts)) bs (sym (find-map p (λ cs. false ∷ cs) (completions ts)) ∙ e) in
-    let rest = first_is_least (λ cs. p (false ∷ cs)) ts cs found in
-    subst (λ ds. IsFirst p (Zero ∷ ts) ds) same ((refl, rest.0), rest.1, below cs rest.2)
+    first_behind false p Zero ts bs refl below (sym (find-map p (λ cs. false ∷ cs) (completions ts)) ∙ e) (first_is_least (λ cs. p (false ∷ cs)) ts)
   where
-    below : (cs : List Bool) → ((other : List Bool) → Completes ts other → p (false ∷ other) ≡ true → AtMost cs other) → (other : List Bool) → Completes (Zero ∷ ts) other → p other ≡ true → AtMost (false ∷ cs) other
-    below cs h [] above ok = absurd above
-    below cs h (false ∷ other) above ok = h other above.1 ok
-    below cs h (true ∷ other) above ok = let e = above.0 in cc
+    below : (cs other : List Bool) → ((ds : List Bool) → Completes ts ds → p (false ∷ ds) ≡ true → AtMost cs ds) → Completes (Zero ∷ ts) other → p other ≡ true → AtMost (false ∷ cs) other
+    below cs [] h above ok = absurd above
+    below cs (false ∷ other) h above ok = h other above.1 ok
+    below cs (true ∷ other) h above ok = let e = above.0 in cc
 first_is_least p (One ∷ ts) bs e =
-    let (cs, found, same) = mapped_some (λ cs. true ∷ cs) (find (λ cs. p (true ∷ cs)) (completions ts)) bs (sym (find-map p (λ cs. true ∷ cs) (completions ts)) ∙ e) in
-    let rest = first_is_least (λ cs. p (true ∷ cs)) ts cs found in
-    subst (λ ds. IsFirst p (One ∷ ts) ds) same ((refl, rest.0), rest.1, below cs rest.2)
+    first_behind true p One ts bs refl below (sym (find-map p (λ cs. true ∷ cs) (completions ts)) ∙ e) (first_is_least (λ cs. p (true ∷ cs)) ts)
   where
-    below : (cs : List Bool) → ((other : List Bool) → Completes ts other → p (true ∷ other) ≡ true → AtMost cs other) → (other : List Bool) → Completes (One ∷ ts) other → p other ≡ true → AtMost (true ∷ cs) other
-    below cs h [] above ok = absurd above
-    below cs h (true ∷ other) above ok = h other above.1 ok
-    below cs h (false ∷ other) above ok = let e = above.0 in cc
+    below : (cs other : List Bool) → ((ds : List Bool) → Completes ts ds → p (true ∷ ds) ≡ true → AtMost cs ds) → Completes (One ∷ ts) other → p other ≡ true → AtMost (true ∷ cs) other
+    below cs [] h above ok = absurd above
+    below cs (true ∷ other) h above ok = h other above.1 ok
+    below cs (false ∷ other) h above ok = let e = above.0 in cc
 first_is_least p (X ∷ ts) bs e =
     by (first_is_least (λ cs. p (false ∷ cs)) ts) (first_is_least (λ cs. p (true ∷ cs)) ts)
     (option_or-cases (option_map (λ cs. false ∷ cs) low) (option_map (λ cs. true ∷ cs) high) bs split)
@@ -194,35 +199,23 @@ first_is_least p (X ∷ ts) bs e =
     split : option_or (option_map (λ cs. false ∷ cs) low) (option_map (λ cs. true ∷ cs) high) ≡ Some bs
     split =
         sym (find-append p (map (λ cs. false ∷ cs) (completions ts)) (map (λ cs. true ∷ cs) (completions ts))
-        ∙ ap (λ o. option_or o (find p (map (λ cs. true ∷ cs) (completions ts)))) (find-map p (λ cs. false ∷ cs) (completions ts))
-        ∙ ap (option_or (option_map (λ cs. false ∷ cs) low)) (find-map p (λ cs. true ∷ cs) (completions ts)))
+        ∙ ap₂ option_or (find-map p (λ cs. false ∷ cs) (completions ts)) (find-map p (λ cs. true ∷ cs) (completions ts)))
         ∙ e
 
-    unmapped : {A B : Type 0} (g : A → B) (o : Option A) → option_map g o ≡ None → o ≡ None
-    unmapped g None n = refl
-    unmapped g (Some x) n = cc
+    below_low : (cs other : List Bool) → ((ds : List Bool) → Completes ts ds → p (false ∷ ds) ≡ true → AtMost cs ds) → Completes (X ∷ ts) other → p other ≡ true → AtMost (false ∷ cs) other
+    below_low cs [] h above ok = absurd above
+    below_low cs (true ∷ other) h above ok = tt
+    below_low cs (false ∷ other) h above ok = h other above.1 ok
 
-    below_low : (cs : List Bool) → ((other : List Bool) → Completes ts other → p (false ∷ other) ≡ true → AtMost cs other) → (other : List Bool) → Completes (X ∷ ts) other → p other ≡ true → AtMost (false ∷ cs) other
-    below_low cs h [] above ok = absurd above
-    below_low cs h (true ∷ other) above ok = tt
-    below_low cs h (false ∷ other) above ok = h other above.1 ok
-
-    below_high : (cs : List Bool) → low ≡ None → ((other : List Bool) → Completes ts other → p (true ∷ other) ≡ true → AtMost cs other) → (other : List Bool) → Completes (X ∷ ts) other → p other ≡ true → AtMost (true ∷ cs) other
-    below_high cs none h [] above ok = absurd above
-    below_high cs none h (true ∷ other) above ok = h other above.1 ok
-    below_high cs none h (false ∷ other) above ok = absurd (true≢false (sym ok ∙ none_above (λ cs. p (false ∷ cs)) ts none other above.1))
+    below_high : low ≡ None → (cs other : List Bool) → ((ds : List Bool) → Completes ts ds → p (true ∷ ds) ≡ true → AtMost cs ds) → Completes (X ∷ ts) other → p other ≡ true → AtMost (true ∷ cs) other
+    below_high none cs [] h above ok = absurd above
+    below_high none cs (true ∷ other) h above ok = h other above.1 ok
+    below_high none cs (false ∷ other) h above ok = absurd (true≢false (sym ok ∙ none_above (λ cs. p (false ∷ cs)) ts none other above.1))
 
     by : ((cs : List Bool) → low ≡ Some cs → IsFirst (λ ds. p (false ∷ ds)) ts cs) → ((cs : List Bool) → high ≡ Some cs → IsFirst (λ ds. p (true ∷ ds)) ts cs)
         → (option_map (λ cs. false ∷ cs) low ≡ Some bs) ⊎ ((option_map (λ cs. false ∷ cs) low ≡ None) × (option_map (λ cs. true ∷ cs) high ≡ Some bs)) → IsFirst p (X ∷ ts) bs
-    by lows highs (inl found) =
-        let (cs, there, same) = mapped_some (λ cs. false ∷ cs) low bs found in
-        let rest = lows cs there in
-        subst (λ ds. IsFirst p (X ∷ ts) ds) same ((tt, rest.0), rest.1, below_low cs rest.2)
-    by lows highs (inr found) =
-        let none = unmapped (λ cs. false ∷ cs) low found.0 in
-        let (cs, there, same) = mapped_some (λ cs. true ∷ cs) high bs found.1 in
-        let rest = highs cs there in
-        subst (λ ds. IsFirst p (X ∷ ts) ds) same ((tt, rest.0), rest.1, below_high cs none rest.2)
+    by lows highs (inl found) = first_behind false p X ts bs tt below_low found lows
+    by lows highs (inr found) = first_behind true p X ts bs tt (below_high (option_map-nothing (λ cs. false ∷ cs) low found.0)) found.1 highs
 
 pub first_where_is_least : FirstIsLeast
 first_where_is_least f wanted ts bs found =

@@ -149,17 +149,13 @@ module _ (net : Parts) (v : List Bool) (valid : IsNetlist net) (wide : length v 
       pub shaking_takes : (wanted : Bool) → is_shaking net fixed turn.gate ≡ true → turn.values ≡ pin_values net fixed wanted turn.gate → event_at ≡ wanted
       shaking_takes wanted shaking values =
           let is = turn_least turn inside wanted shaking values in
-          ap (λ (t : Bool). value gate.cover (seen h gate.pins (if t then map (pin_age net plan back i) (zip gate.pins turn.values) else map (λ (pin : Sig). i) gate.pins))) (shakes_is turn.gate inside ∙ shaking)
-          ∙ ap (value gate.cover) (pins_see gate.pins turn.values signals is.above)
-          ∙ is.value
+          rw (shakes_is turn.gate inside, shaking, pins_see gate.pins turn.values signals is.above) is.value
 
       -- any other keeps its value of the fixpoint
       resting_by : (shaking : Bool) → is_shaking net fixed turn.gate ≡ shaking → Below (wire fixed (gate_sig net turn.gate)) (bit event_at)
       resting_by true is = below_of_unknown (wire fixed (gate_sig net turn.gate)) (bit event_at) is
       resting_by false is =
-          let sees : event_at ≡ value gate.cover (map (bit_at (moment_at h i)) gate.pins) =
-          ap (λ (t : Bool). value gate.cover (seen h gate.pins (if t then map (pin_age net plan back i) (zip gate.pins turn.values) else map (λ (pin : Sig). i) gate.pins))) (shakes_is turn.gate inside ∙ is)
-          ∙ ap (value gate.cover) (resting_see gate.pins) in
+          let sees : event_at ≡ value gate.cover (map (bit_at (moment_at h i)) gate.pins) = rw (shakes_is turn.gate inside, is, resting_see gate.pins) refl in
           let P : Bool → Type 0 = λ b. Below (wire fixed (gate_sig net turn.gate)) (bit b) in
           let Q : Trit → Type 0 = λ x. Below x (bit (value gate.cover (map (bit_at (moment_at h i)) gate.pins))) in
           subst P (sym sees)

@@ -84,12 +84,7 @@ module _ (net : Parts) (plan : StormPlan) (back : ℕ) where
   low_more n old new values pushed is listed =
       let before : List Turn = map (low_turn plan) (range_with_len 0 n) in
       let count : length old ≡ 0 + length before = ap length listed ∙ length-turn_events 0 before ∙ (let e : length before ≡ 0 + length before = omega arith in e) in
-      pushed
-      ∙ ap (λ l. l ++ turn_event net plan back (length old) (record { gate = n; values = values }) ∷ []) listed
-      ∙ ap (λ j. turn_events net plan back 0 before ++ turn_event net plan back j (record { gate = n; values = values }) ∷ []) count
-      ∙ ap (λ bs. turn_events net plan back 0 before ++ turn_event net plan back (0 + length before) (record { gate = n; values = bs }) ∷ []) is
-      ∙ sym (turn_events-append 0 before (low_turn plan n ∷ []))
-      ∙ ap (turn_events net plan back 0) (sym (map-range_with_len_more (low_turn plan) 0 n n (omega arith)))
+      rw (pushed, count, listed, is, map-range_with_len_more (low_turn plan) 0 n n (omega arith)) (sym (turn_events-append 0 before (low_turn plan n ∷ [])))
 
   pub low_count : (n : ℕ) → length (turn_events net plan back 0 (map (low_turn plan) (range_with_len 0 n))) ≡ n
   low_count n = length-turn_events 0 (map (low_turn plan) (range_with_len 0 n)) ∙ length-map-range_with_len (low_turn plan) 0 n
@@ -111,12 +106,8 @@ module _ (net : Parts) (plan : StormPlan) (back : ℕ) where
       let next : List Turn = map (high_turn plan) (filter (shakes plan) (n ∷ [])) in
       let count : length old ≡ length first + length (high_turns n) =
       ap length listed ∙ length-append first before ∙ ap (λ k. length first + k) (length-turn_events (length first) (high_turns n)) in
-      pushed
-      ∙ ap (λ l. l ++ turn_events net plan back (length old) next) listed
-      ∙ ap (λ j. first ++ before ++ turn_events net plan back j next) count
-      ∙ append_assoc first before (turn_events net plan back (length first + length (high_turns n)) next)
-      ∙ ap (λ l. first ++ l) (sym (turn_events-append (length first) (high_turns n) next))
-      ∙ ap (λ l. first ++ turn_events net plan back (length first) l) (sym (high_turns-more n))
+      rw (pushed, count, listed, high_turns-more n, turn_events-append (length first) (high_turns n) next)
+      (append_assoc first before (turn_events net plan back (length first + length (high_turns n)) next))
 
   pub high_count : (n : ℕ) (first old : List PlannedEvent) → old ≡ first ++ turn_events net plan back (length first) (high_turns n) → length old ≤ length first + n
   high_count n first old listed =
@@ -138,10 +129,10 @@ module _ (net : Parts) (v : List Bool) (plan : StormPlan) where
   values_of_plan values is fixed = ap if_shaking (is ∙ ap (plan_at net) fixed)
 
   pub some_plan : (values : List Trit) → plan ≡ plan_at net values → values ≡ fix net (bits v) → list_any (λ shakes. shakes) plan.shaking ≡ true → Some plan ≡ storm_plan net v
-  some_plan values is fixed any = sym (ap (λ (t : Bool). if t then Some plan else None) any) ∙ values_of_plan values is fixed
+  some_plan values is fixed any = rw (← values_of_plan values is fixed, any) refl
 
   pub no_plan : (values : List Trit) → plan ≡ plan_at net values → values ≡ fix net (bits v) → list_any (λ shakes. shakes) plan.shaking ≡ false → None ≡ storm_plan net v
-  no_plan values is fixed any = sym (ap (λ (t : Bool). if t then Some plan else None) any) ∙ values_of_plan values is fixed
+  no_plan values is fixed any = rw (← values_of_plan values is fixed, any) refl
 
   module _ (made : storm_plan net v ≡ Some plan) where
     pub plan_is : plan ≡ plan_at net (fix net (bits v))
@@ -176,12 +167,9 @@ pub both_halves : (net : Parts) (plan : StormPlan) (back : ℕ) (low all : List 
 both_halves net plan back low all is whole =
     let first : List Turn = each_gate net (low_turn plan) in
     let second : List Turn = high_turns net plan back (length net.gates) in
-    let events : all ≡ turn_events net plan back 0 (turns net plan) =
-    whole
-    ∙ ap (λ l. l ++ turn_events net plan back (length low) second) is
-    ∙ ap (λ k. turn_events net plan back 0 first ++ turn_events net plan back k second) (ap length is ∙ length-turn_events net plan back 0 first ∙ (let e : length first ≡ 0 + length first = omega arith in e))
-    ∙ sym (turn_events-append net plan back 0 first second)
-    in ap (λ es. record { line = 0; events = es }) events
+    let count : length low ≡ 0 + length first = ap length is ∙ length-turn_events net plan back 0 first ∙ (let e : length first ≡ 0 + length first = omega arith in e) in
+    let events : all ≡ turn_events net plan back 0 (turns net plan) = rw (whole, count, is) (sym (turn_events-append net plan back 0 first second)) in
+    ap (λ es. record { line = 0; events = es }) events
 
 -- a product that is cut off at the greatest number, and isn't over the limit
 pub not_over : (events found : ℕ) → found ≡ min events 18446744073709551615 → found ≤ most_events → events ≤ most_events

@@ -1,10 +1,10 @@
 -- A round of a storm, event by event.
-use Rattle.std.proofs.Common.{◌≡◌, ◌≢◌, ◌⊎◌, inl, inr, ◌<◌, ◌≤◌, ◌+◌, ◌-◌, ℕ, zero, suc, Bool, true, false, not, cond, ◌&&◌, List, [], ◌∷◌, ◌++◌, length, map, zip, refl, ap, sym, ◌∙◌, subst, arith, All, append_assoc}
+use Rattle.std.proofs.Common.{◌≡◌, ◌≢◌, ◌⊎◌, inl, inr, ◌<◌, ◌≤◌, ◌+◌, ◌-◌, ℕ, zero, suc, Bool, true, false, not, cond, ◌&&◌, List, [], ◌∷◌, ◌++◌, length, map, zip, get_or, refl, ap, sym, ◌∙◌, subst, arith, All, append_assoc}
 use Rattle.std.specs.Prelude.{Any, filter, if◌then◌else◌}
 use Rattle.std.specs.List.{range_with_len}
 use Rattle.std.proofs.lemmas.List.{length-map, length-append, get_or-set_same, get_or-set_other, map-append}
-use Rattle.std.proofs.lemmas.List.Elements.{All-head, All-tail, All-cons, All-nil, All-append, All-weaker, filter-append}
-use Rattle.std.proofs.lemmas.List.FromFn.{get_or-map-range_with_len, length-map-range_with_len}
+use Rattle.std.proofs.lemmas.List.Elements.{All-head, All-tail, All-cons, All-nil, All-append, All-filter, All-map, All-weaker, filter-append, filter_passes}
+use Rattle.std.proofs.lemmas.List.FromFn.{get_or-map-range_with_len, get_or-range_with_len, length-map-range_with_len, length-range_with_len}
 use Rattle.cyc_base.specs.declared.sig.Sig.{Sig}
 use Rattle.cyc_base.specs.declared.trit.Trit.{Trit}
 use Rattle.cyc_base.specs.Values.{Completes}
@@ -56,25 +56,17 @@ range_around k n inside =
     ∙ ap (λ j. range_with_len 0 k ++ (j ∷ range_with_len (j + 1) (n - k - 1))) (let e : 0 + k ≡ k = omega arith in e)
 
 range_below : (a n k : ℕ) → a + n ≤ k → All (λ j. j < k) (range_with_len a n)
-range_below a zero k l = All-nil (λ j. j < k)
-range_below a (suc n) k l = All-cons (λ j. j < k) a (range_with_len (a + 1) n) (omega (arith, l)) (range_below (a + 1) n k (omega (arith, l)))
+range_below a n k l = λ i d inside. omega (arith, get_or-range_with_len a n i d (omega (arith, length-range_with_len a n)), length-range_with_len a n)
 
 range_not : (a n k : ℕ) → (a + n ≤ k) ⊎ (k < a) → All (λ j. j ≢ k) (range_with_len a n)
-range_not a zero k out = All-nil (λ j. j ≢ k)
-range_not a (suc n) k (inl l) = All-cons (λ j. j ≢ k) a (range_with_len (a + 1) n) (λ e. omega (arith, l, e)) (range_not (a + 1) n k (inl (omega (arith, l))))
-range_not a (suc n) k (inr l) = All-cons (λ j. j ≢ k) a (range_with_len (a + 1) n) (λ e. omega (arith, l, e)) (range_not (a + 1) n k (inr (omega (arith, l))))
+range_not a n k (inl l) = λ i d inside e. omega (arith, get_or-range_with_len a n i d (omega (arith, length-range_with_len a n)), length-range_with_len a n)
+range_not a n k (inr l) = λ i d inside e. omega (arith, get_or-range_with_len a n i d (omega (arith, length-range_with_len a n)), length-range_with_len a n)
 
 filter_all : {A : Type 0} (P : A → Type 0) (p : A → Bool) (xs : List A) → All P xs → All (λ x. P x × (p x ≡ true)) (filter p xs)
-filter_all P p [] all = All-nil (λ x. P x × (p x ≡ true))
-filter_all P p (x ∷ xs) all = by (p x) refl (filter_all P p xs (All-tail P x xs all))
-  where
-    by : (t : Bool) → p x ≡ t → All (λ y. P y × (p y ≡ true)) (filter p xs) → All (λ y. P y × (p y ≡ true)) (cond t (x ∷ filter p xs) (filter p xs))
-    by true is rest = All-cons (λ y. P y × (p y ≡ true)) x (filter p xs) (All-head P x xs all, is) rest
-    by false is rest = rest
+filter_all P p xs all = λ k d l. (All-filter p P xs all k d l, filter_passes p xs k d l)
 
 map_all : {A B : Type 0} (P : A → Type 0) (Q : B → Type 0) (f : A → B) (xs : List A) → ((x : A) → P x → Q (f x)) → All P xs → All Q (map f xs)
-map_all P Q f [] h all = All-nil Q
-map_all P Q f (x ∷ xs) h all = All-cons Q (f x) (map f xs) (h x (All-head P x xs all)) (map_all P Q f xs h (All-tail P x xs all))
+map_all P Q f xs h all = All-map Q f xs (All-weaker P (λ x. Q (f x)) h xs all)
 
 module _ (net : Parts) (v : List Bool) (valid : IsNetlist net) (wide : length v ≡ length net.inputs + length net.latches) where
   abbrev pub G : ℕ
@@ -358,11 +350,9 @@ module _ (net : Parts) (v : List Bool) (valid : IsNetlist net) (wide : length v 
 
   ages_width : (back i : ℕ) (turn : Turn) (wanted shaking : Bool) → is_shaking net all_fixed turn.gate ≡ shaking → IsTurnTo wanted turn → length (ages net the_plan back i turn) ≡ length (gate_at net turn.gate).pins
   ages_width back i turn wanted true is to =
-      ap (λ (t : Bool). length (if t then map (pin_age net the_plan back i) (zip (gate_at net turn.gate).pins turn.values) else map (λ (pin : Sig). i) (gate_at net turn.gate).pins)) (shakes_is net v valid wide turn.gate to.gate ∙ is)
-      ∙ length-mapped (pin_age net the_plan back i) (gate_at net turn.gate).pins turn.values (turn_width net v valid wide turn to.gate wanted is (to.values is))
-  ages_width back i turn wanted false is to =
-      ap (λ (t : Bool). length (if t then map (pin_age net the_plan back i) (zip (gate_at net turn.gate).pins turn.values) else map (λ (pin : Sig). i) (gate_at net turn.gate).pins)) (shakes_is net v valid wide turn.gate to.gate ∙ is)
-      ∙ length-map (gate_at net turn.gate).pins (λ (pin : Sig). i)
+      rw (shakes_is net v valid wide turn.gate to.gate, is)
+      (length-mapped (pin_age net the_plan back i) (gate_at net turn.gate).pins turn.values (turn_width net v valid wide turn to.gate wanted is (to.values is)))
+  ages_width back i turn wanted false is to = rw (shakes_is net v valid wide turn.gate to.gate, is) (length-map (gate_at net turn.gate).pins (λ (pin : Sig). i))
 
   turns_valid : (back i : ℕ) (ts : List Turn) → All IsTurn ts → All (IsEventOf net) (events back i ts)
   turns_valid back i [] all = All-nil (IsEventOf net)
@@ -377,18 +367,11 @@ module _ (net : Parts) (v : List Bool) (valid : IsNetlist net) (wide : length v 
   age_by back i true = omega arith
   age_by back i false = omega arith
 
-  zipped_ages : (back i : ℕ) (pins : List (Sig × Bool)) → All (λ age. age ≤ i + back) (map (pin_age net the_plan back i) pins)
-  zipped_ages back i [] = All-nil (λ age. age ≤ i + back)
-  zipped_ages back i (pin ∷ pins) =
-      All-cons (λ age. age ≤ i + back) (pin_age net the_plan back i pin) (map (pin_age net the_plan back i) pins) (age_by back i (is_of_shaking net the_plan pin.0 && not pin.1)) (zipped_ages back i pins)
-
-  plain_ages : (back i : ℕ) (pins : List Sig) → All (λ age. age ≤ i + back) (map (λ (pin : Sig). i) pins)
-  plain_ages back i [] = All-nil (λ age. age ≤ i + back)
-  plain_ages back i (pin ∷ pins) = All-cons (λ age. age ≤ i + back) i (map (λ (p : Sig). i) pins) (omega arith) (plain_ages back i pins)
-
   ages_by : (back i : ℕ) (pins : List Sig) (values : List Bool) (t : Bool) → All (λ age. age ≤ i + back) (if t then map (pin_age net the_plan back i) (zip pins values) else map (λ (pin : Sig). i) pins)
-  ages_by back i pins values true = zipped_ages back i (zip pins values)
-  ages_by back i pins values false = plain_ages back i pins
+  ages_by back i pins values true =
+      All-map (λ age. age ≤ i + back) (pin_age net the_plan back i) (zip pins values)
+      (λ k d l. let pin = get_or (zip pins values) k d in age_by back i (is_of_shaking net the_plan pin.0 && not pin.1))
+  ages_by back i pins values false = All-map (λ age. age ≤ i + back) (λ (pin : Sig). i) pins (λ k d l. omega arith)
 
   turns_read : (back i first size : ℕ) (ts : List Turn) → first + (i + back) ≤ size → ReadsFrom first size (events back i ts)
   turns_read back i first size [] l = tt

@@ -4,8 +4,8 @@ use Rattle.std.specs.Prelude.{filter, if◌then◌else◌}
 use Rattle.std.specs.List.{range_with_len}
 use Rattle.std.proofs.lemmas.Bool.{ne_eqb}
 use Rattle.std.proofs.lemmas.List.{length-map, length-append, length-drop, take-append-drop, map-append, get_or-append-add}
-use Rattle.std.proofs.lemmas.List.Elements.{All-cons, All-nil}
-use Rattle.std.proofs.lemmas.List.FromFn.{get_or-map-range_with_len, length-map-range_with_len}
+use Rattle.std.proofs.lemmas.List.Elements.{All-cons, All-map, All-nil}
+use Rattle.std.proofs.lemmas.List.FromFn.{get_or-map-range_with_len, get_or-range_with_len, length-map-range_with_len, length-range_with_len}
 use Rattle.std.proofs.lemmas.List.Sums.{length-filter}
 use Rattle.cyc_base.specs.declared.trit.Trit.{Trit}
 use Rattle.cyc_base.specs.declared.trit.Trit.TheVariants.{Zero, One, X}
@@ -16,7 +16,7 @@ use Rattle.netlist.specs.Netlists.{IsNetlist, count, gate_sig}
 use Rattle.netlist.specs.Fixpoint.{wires, wire, fix, fix_gates}
 use Rattle.netlist.proofs.FixpointLemmas.{length-steps}
 use Rattle.schedules.specs.Moments.{History, Round, after_events, after_rounds}
-use Rattle.schedules.specs.Fairness.{earliest, AreFairAfter, IsFair}
+use Rattle.schedules.specs.Fairness.{AreFairAfter, IsFair}
 use Rattle.schedules.specs.Runs.{Played, played}
 use Rattle.delay_core.specs.declared.plan.PlannedEvent.{PlannedEvent}
 use Rattle.delay_core.specs.declared.plan.RoundPlan.{RoundPlan}
@@ -47,8 +47,7 @@ filter_same p q (x ∷ xs) same =
     ∙ ap (λ l. cond (q x) (x ∷ l) l) (filter_same p q xs (λ k d l. same (suc k) d (omega (arith, l))))
 
 range_agrees : (p q : ℕ → Bool) (a n m : ℕ) → a + n ≤ m → ((k : ℕ) → k < m → p k ≡ q k) → All (λ k. p k ≡ q k) (range_with_len a n)
-range_agrees p q a zero m l same = All-nil (λ k. p k ≡ q k)
-range_agrees p q a (suc n) m l same = All-cons (λ k. p k ≡ q k) a (range_with_len (a + 1) n) (same a (omega (arith, l))) (range_agrees p q (a + 1) n m (omega (arith, l)) same)
+range_agrees p q a n m l same = λ i d inside. same (get_or (range_with_len a n) i d) (omega (arith, get_or-range_with_len a n i d (omega (arith, length-range_with_len a n)), length-range_with_len a n))
 
 -- ---- the gates at the opening and in the past
 
@@ -69,9 +68,6 @@ chosen_where b One e = cc
 back_later : (plan : StormPlan) (n : ℕ) → zeros_back plan (n + 1) ≡ shaking_count plan
 back_later plan n = ap (λ (t : Bool). if t then 1 else shaking_count plan) (ne_eqb (n + 1) 0 (omega arith))
 
-first_start : (starts : List ℕ) (size : ℕ) → earliest 1 (size ∷ starts) ≡ get_or starts 0 1
-first_start starts size = refl
-
 module _ (net : Parts) (v : List Bool) (valid : IsNetlist net) (wide : length v ≡ length net.inputs + length net.latches) where
   abbrev Gs : ℕ
   Gs = length net.gates
@@ -81,12 +77,6 @@ module _ (net : Parts) (v : List Bool) (valid : IsNetlist net) (wide : length v 
 
   abbrev P : StormPlan
   P = plan_at net F
-
-  chosen : Bool → ℕ → Bool
-  chosen b n = if is_shaking net F n then b else rest_value net F n
-
-  abbrev gates_at_start : Bool → List Bool
-  gates_at_start b = gates_with P b
 
   gates_are : (b : Bool) → gates_with P b ≡ map (λ n. if is_shaking net F n then b else rest_value net F n) (range_with_len 0 Gs)
   gates_are b = zip_mapped (λ gate. if gate.0 then b else gate.1) (is_shaking net F) (rest_value net F) (range_with_len 0 Gs)
@@ -211,9 +201,8 @@ module _ (net : Parts) (v : List Bool) (valid : IsNetlist net) (wide : length v 
     RoundInside round = All (λ (planned : PlannedEvent). planned.event.gate < Gs) round.events
 
     rounds_inside : (ns : List ℕ) → All RoundInside (map (nth_round net P) ns)
-    rounds_inside [] = All-nil RoundInside
-    rounds_inside (n ∷ ns) =
-        All-cons RoundInside (nth_round net P n) (map (nth_round net P) ns) (events_inside (zeros_back P n) 0 (lows net v valid wide 0 Gs ++ highs net v valid wide 0 Gs) turns_are_inside) (rounds_inside ns)
+    rounds_inside ns =
+        All-map RoundInside (nth_round net P) ns (λ k d l. events_inside (zeros_back P (get_or ns k d)) 0 (lows net v valid wide 0 Gs ++ highs net v valid wide 0 Gs) turns_are_inside)
 
     fits : FitsOneTick net (storm_of net v rounds)
     fits = record {

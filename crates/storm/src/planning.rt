@@ -3,7 +3,7 @@ ghost use Rattle.std.specs.List.{list_any};
 ghost use Rattle.netlist.specs.Netlists.{count};
 ghost use Rattle.netlist.specs.Fixpoint.{wire};
 ghost use Rattle.storm.specs.Building.{AreFixed};
-ghost use Rattle.storm.specs.Plans.{is_unknown, or_zero, is_shaking, rest_value, pin_values, each_gate, plan_at, storm_plan};
+ghost use Rattle.storm.specs.Plans.{is_unknown, or_zero, is_shaking as shakes_at, rest_value as rest_at, pin_values, each_gate, plan_at, storm_plan};
 
 use crate::least::least_completion;
 use cyc_base::{Bits, Items, Sig, Trit};
@@ -63,26 +63,38 @@ fn values_of(alloc: Global, values: &[Trit], signals: &[Sig]) -> Result<Vec<Trit
     signals.iter().map(|s| value_of(values, *s)).collect(alloc)
 }
 
-fn shaking_gates(alloc: Global, net: &Netlist, values: &[Trit]) -> Result<Bits, AllocError>
-    requires { length values.now ≡ count net.now }
-    ensures { IfOk result (λ list. list ≡ each_gate net.now (is_shaking net.now values.now)) }
+fn is_shaking(net: &Netlist, values: &[Trit], number: u32) -> bool
+    requires gate { number < length net.now.gates }
+    requires width { length values.now ≡ count net.now }
+    ensures { result ≡ shakes_at net.now values.now number }
 {
-    let mut shaking = Vec::with_capacity(alloc, net.gates() as usize)?;
-    for number in 0..net.gates() {
-        shaking.push_reserved(is_unknown(value_of(values, net.gate_sig(number))));
-    }
-    Ok(Bits::of(shaking))
+    is_unknown(value_of(values, net.gate_sig(number)))
 }
 
-fn rest_values(alloc: Global, net: &Netlist, values: &[Trit]) -> Result<Bits, AllocError>
-    requires { length values.now ≡ count net.now }
-    ensures { IfOk result (λ list. list ≡ each_gate net.now (rest_value net.now values.now)) }
+fn rest_value(net: &Netlist, values: &[Trit], number: u32) -> bool
+    requires gate { number < length net.now.gates }
+    requires width { length values.now ≡ count net.now }
+    ensures { result ≡ rest_at net.now values.now number }
 {
-    let mut rest = Vec::with_capacity(alloc, net.gates() as usize)?;
-    for number in 0..net.gates() {
-        rest.push_reserved(or_zero(value_of(values, net.gate_sig(number))));
-    }
-    Ok(Bits::of(rest))
+    or_zero(value_of(values, net.gate_sig(number)))
+}
+
+fn shaking_gates(alloc: Global, net: &Netlist, values: &[Trit]) -> Result<Vec<bool>, AllocError>
+    requires { length values.now ≡ count net.now }
+    ensures { IfOk result (λ list. list.items ≡ each_gate net.now (shakes_at net.now values.now)) }
+{
+    (0..net.gates())
+        .map(|number| is_shaking(net, values, number))
+        .collect(alloc)
+}
+
+fn rest_values(alloc: Global, net: &Netlist, values: &[Trit]) -> Result<Vec<bool>, AllocError>
+    requires { length values.now ≡ count net.now }
+    ensures { IfOk result (λ list. list.items ≡ each_gate net.now (rest_at net.now values.now)) }
+{
+    (0..net.gates())
+        .map(|number| rest_value(net, values, number))
+        .collect(alloc)
 }
 
 /// The least values of a gate's pins at which its cover is 0, or 1, where the gate is unknown.
@@ -97,7 +109,7 @@ fn pin_values_of(
     requires fixed { AreFixed net.now values.now }
     ensures { IfOk result (λ list. list ≡ pin_values net.now values.now wanted number) }
 {
-    if !is_unknown(value_of(values, net.gate_sig(number))) {
+    if !is_shaking(net, values, number) {
         return Ok(Bits::of(Vec::new(alloc)));
     }
     let gate = net.gate(number);
@@ -137,8 +149,8 @@ fn plan_of(alloc: Global, net: &Netlist, values: &[Trit]) -> Result<StormPlan, A
     let low = all_pin_values(alloc, net, values, false)?;
     let high = all_pin_values(alloc, net, values, true)?;
     Ok(StormPlan {
-        shaking,
-        rest,
+        shaking: Bits::of(shaking),
+        rest: Bits::of(rest),
         low,
         high,
     })
