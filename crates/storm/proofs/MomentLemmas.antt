@@ -8,7 +8,7 @@ use Rattle.std.proofs.lemmas.List.Elements.{All-head, All-tail, All-get_or}
 use Rattle.std.proofs.lemmas.List.FromFn.{get_or-map-range_with_len}
 use Rattle.cyc_base.specs.declared.sig.Sig.{Sig}
 use Rattle.cyc_base.specs.declared.trit.Trit.{Trit}
-use Rattle.cyc_base.specs.declared.trit.Trit.TheVariants.{Zero, One, X}
+use Rattle.cyc_base.specs.declared.trit.Trit.TheVariants.{X}
 use Rattle.cyc_base.specs.Values.{bit, bits, Below, Completes}
 use Rattle.cyc_base.proofs.OrderLemmas.{Completes-at, Completes-length, same_bit}
 use Rattle.cover_logic.specs.Covers.{value}
@@ -34,13 +34,11 @@ bit_is_known false = refl
 -- two bits above one known value
 pub same_above : (x : Trit) (a b : Bool) → is_unknown x ≡ false → Below x (bit a) → Below x (bit b) → a ≡ b
 same_above X a b known ha hb = cc
-same_above Zero a b known ha hb = same_bit a b (ha ∙ sym hb)
-same_above One a b known ha hb = same_bit a b (ha ∙ sym hb)
+same_above x a b known ha hb = same_bit a b (ha ∙ sym hb)
 
 below_of_unknown : (x y : Trit) → is_unknown x ≡ true → Below x y
 below_of_unknown X y e = tt
-below_of_unknown Zero y e = cc
-below_of_unknown One y e = cc
+below_of_unknown x y e = cc
 
 module _ (net : Parts) (v : List Bool) (valid : IsNetlist net) (wide : length v ≡ length net.inputs + length net.latches) where
   abbrev pub fixed : List Trit

@@ -9,7 +9,7 @@ use Rattle.std.proofs.lemmas.List.Filters.{length-filter_both}
 use Rattle.std.proofs.Math.Nat.{suc-mul}
 use Rattle.std.proofs.lemmas.List.FromFn.{get_or-map-range_with_len, length-range_with_len, length-map-range_with_len, map-range_with_len_more}
 use Rattle.cyc_base.specs.declared.trit.Trit.{Trit}
-use Rattle.cyc_base.specs.declared.trit.Trit.TheVariants.{Zero, One, X}
+use Rattle.cyc_base.specs.declared.trit.Trit.TheVariants.{X}
 use Rattle.cyc_base.specs.Values.{bit, bits}
 use Rattle.netlist.specs.declared.parts.Parts.{Parts}
 use Rattle.netlist.specs.Netlists.{gate_sig, no_gate}
@@ -46,8 +46,7 @@ module _ (net : Parts) (v : List Bool) (wide : length v ≡ length net.inputs + 
 
 pub unknown_is : (x : Trit) → is_unknown x ≡ true → x ≡ X
 unknown_is X e = refl
-unknown_is Zero e = cc
-unknown_is One e = cc
+unknown_is x e = cc
 
 pub unknown_is_no_bit : (x : Trit) (b : Bool) → is_unknown x ≡ true → x ≢ bit b
 unknown_is_no_bit x true e same = let h : is_unknown (bit true) ≡ true = ap is_unknown (sym same) ∙ e in cc

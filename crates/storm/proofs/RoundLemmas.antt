@@ -1,9 +1,9 @@
 -- A round of a storm, event by event.
-use Rattle.std.proofs.Common.{◌≡◌, ◌≢◌, ◌⊎◌, inl, inr, ◌<◌, ◌≤◌, ◌+◌, ◌-◌, ℕ, zero, suc, Bool, true, false, not, cond, ◌&&◌, List, [], ◌∷◌, ◌++◌, length, map, zip, get_or, refl, ap, sym, ◌∙◌, subst, arith, All, append_assoc}
+use Rattle.std.proofs.Common.{◌≡◌, ◌≢◌, ◌⊎◌, inl, inr, ◌<◌, ◌≤◌, ◌+◌, ◌-◌, ℕ, zero, suc, Bool, true, false, not, ◌&&◌, List, [], ◌∷◌, ◌++◌, length, map, zip, get_or, refl, ap, sym, ◌∙◌, subst, arith, All, append_assoc}
 use Rattle.std.specs.Prelude.{Any, filter, if◌then◌else◌}
 use Rattle.std.specs.List.{range_with_len}
 use Rattle.std.proofs.lemmas.List.{length-map, length-append, get_or-set_same, get_or-set_other, map-append}
-use Rattle.std.proofs.lemmas.List.Elements.{All-head, All-tail, All-cons, All-nil, All-append, All-filter, All-map, All-weaker, filter-append, filter_passes}
+use Rattle.std.proofs.lemmas.List.Elements.{All-head, All-tail, All-cons, All-nil, All-append, All-filter, All-map, All-weaker, filter-append}
 use Rattle.std.proofs.lemmas.List.FromFn.{get_or-map-range_with_len, get_or-range_with_len, length-map-range_with_len, length-range_with_len}
 use Rattle.cyc_base.specs.declared.sig.Sig.{Sig}
 use Rattle.cyc_base.specs.declared.trit.Trit.{Trit}
@@ -61,9 +61,6 @@ range_below a n k l = λ i d inside. omega (arith, get_or-range_with_len a n i d
 range_not : (a n k : ℕ) → (a + n ≤ k) ⊎ (k < a) → All (λ j. j ≢ k) (range_with_len a n)
 range_not a n k (inl l) = λ i d inside e. omega (arith, get_or-range_with_len a n i d (omega (arith, length-range_with_len a n)), length-range_with_len a n)
 range_not a n k (inr l) = λ i d inside e. omega (arith, get_or-range_with_len a n i d (omega (arith, length-range_with_len a n)), length-range_with_len a n)
-
-filter_all : {A : Type 0} (P : A → Type 0) (p : A → Bool) (xs : List A) → All P xs → All (λ x. P x × (p x ≡ true)) (filter p xs)
-filter_all P p xs all = λ k d l. (All-filter p P xs all k d l, filter_passes p xs k d l)
 
 map_all : {A B : Type 0} (P : A → Type 0) (Q : B → Type 0) (f : A → B) (xs : List A) → ((x : A) → P x → Q (f x)) → All P xs → All Q (map f xs)
 map_all P Q f xs h all = All-map Q f xs (All-weaker P (λ x. Q (f x)) h xs all)
@@ -139,11 +136,11 @@ module _ (net : Parts) (v : List Bool) (valid : IsNetlist net) (wide : length v 
     turn_leaves n other = get_or-set_other (newest h) (gate_sig net turn.gate).0 (gate_sig net n).0 (event_value net h (turn_event net the_plan back i turn).event) false (λ e. other (omega (arith, e)))
 
   pub turns_keep : (back i : ℕ) (h : History) (ts : List Turn) → During back i h → All (λ (turn : Turn). turn.gate < G) ts → During back (i + length ts) (after_events net h (events back i ts))
-  turns_keep back i h [] during inside = subst (λ k. During back k h) (let e : i ≡ i + 0 = omega arith in e) during
+  turns_keep back i h [] during inside = let e : i + 0 ≡ i = omega arith in rw e during
   turns_keep back i h (turn ∷ ts) during inside =
       let here = All-head (λ (t : Turn). t.gate < G) turn ts inside in
-      subst (λ k. During back k (after_events net h (events back i (turn ∷ ts)))) (let e : suc i + length ts ≡ i + suc (length ts) = omega arith in e)
-      (turns_keep back (suc i) (next back i h turn during) ts (turn_keeps back i h turn during here) (All-tail (λ (t : Turn). t.gate < G) turn ts inside))
+      let e : i + suc (length ts) ≡ suc i + length ts = omega arith in
+      rw e (turns_keep back (suc i) (next back i h turn during) ts (turn_keeps back i h turn during here) (All-tail (λ (t : Turn). t.gate < G) turn ts inside))
 
   -- turns of other gates leave a gate as it is
   pub turns_leave : (back i : ℕ) (h : History) (ts : List Turn) (n : ℕ) → During back i h → All (λ (turn : Turn). turn.gate < G) ts → All (λ (turn : Turn). turn.gate ≢ n) ts
@@ -163,20 +160,20 @@ module _ (net : Parts) (v : List Bool) (valid : IsNetlist net) (wide : length v 
   highs a n = map (high_turn the_plan) (filter (shakes the_plan) (range_with_len a n))
 
   lows_inside : (a n : ℕ) → a + n ≤ G → All (λ (turn : Turn). turn.gate < G) (lows a n)
-  lows_inside a n l = map_all (λ j. j < G) (λ (turn : Turn). turn.gate < G) (low_turn the_plan) (range_with_len a n) (λ j k. k) (range_below a n G l)
+  lows_inside a n l = All-map (λ (turn : Turn). turn.gate < G) (low_turn the_plan) (range_with_len a n) (range_below a n G l)
 
   lows_not : (a n k : ℕ) → (a + n ≤ k) ⊎ (k < a) → All (λ (turn : Turn). turn.gate ≢ k) (lows a n)
-  lows_not a n k out = map_all (λ j. j ≢ k) (λ (turn : Turn). turn.gate ≢ k) (low_turn the_plan) (range_with_len a n) (λ j ne. ne) (range_not a n k out)
+  lows_not a n k out = All-map (λ (turn : Turn). turn.gate ≢ k) (low_turn the_plan) (range_with_len a n) (range_not a n k out)
+
+  highs_each : (P : ℕ → Type 0) (a n : ℕ) → All P (range_with_len a n) → All (λ (turn : Turn). P turn.gate) (highs a n)
+  highs_each P a n each =
+      All-map (λ (turn : Turn). P turn.gate) (high_turn the_plan) (filter (shakes the_plan) (range_with_len a n)) (All-filter (shakes the_plan) P (range_with_len a n) each)
 
   highs_inside : (a n : ℕ) → a + n ≤ G → All (λ (turn : Turn). turn.gate < G) (highs a n)
-  highs_inside a n l =
-      map_all (λ j. (j < G) × (shakes the_plan j ≡ true)) (λ (turn : Turn). turn.gate < G) (high_turn the_plan) (filter (shakes the_plan) (range_with_len a n)) (λ j k. k.0)
-      (filter_all (λ j. j < G) (shakes the_plan) (range_with_len a n) (range_below a n G l))
+  highs_inside a n l = highs_each (λ j. j < G) a n (range_below a n G l)
 
   highs_not : (a n k : ℕ) → (a + n ≤ k) ⊎ (k < a) → All (λ (turn : Turn). turn.gate ≢ k) (highs a n)
-  highs_not a n k out =
-      map_all (λ j. (j ≢ k) × (shakes the_plan j ≡ true)) (λ (turn : Turn). turn.gate ≢ k) (high_turn the_plan) (filter (shakes the_plan) (range_with_len a n)) (λ j ne. ne.0)
-      (filter_all (λ j. j ≢ k) (shakes the_plan) (range_with_len a n) (range_not a n k out))
+  highs_not a n k out = highs_each (λ j. j ≢ k) a n (range_not a n k out)
 
   low_is : (n : ℕ) → n < G → IsTurnTo false (low_turn the_plan n)
   low_is n inside = record { gate = inside; values = λ shaking. get_or-map-range_with_len (pin_values net all_fixed false) 0 G n n [] inside (omega arith) }
@@ -195,101 +192,48 @@ module _ (net : Parts) (v : List Bool) (valid : IsNetlist net) (wide : length v 
       highs_around : highs 0 G ≡ highs 0 k ++ (high_turn the_plan k ∷ highs (k + 1) left)
       highs_around =
           ap (λ l. map (high_turn the_plan) (filter (shakes the_plan) l)) (range_around k G inside)
-          ∙ ap (map (high_turn the_plan)) (filter-append (shakes the_plan) (range_with_len 0 k) (k ∷ range_with_len (k + 1) left))
-          ∙ map-append (high_turn the_plan) (filter (shakes the_plan) (range_with_len 0 k)) (filter (shakes the_plan) (k ∷ range_with_len (k + 1) left))
-          ∙ ap (λ (t : Bool). highs 0 k ++ map (high_turn the_plan) (cond t (k ∷ filter (shakes the_plan) (range_with_len (k + 1) left)) (filter (shakes the_plan) (range_with_len (k + 1) left))))
-          (shakes_is net v valid wide k inside ∙ shaking)
+          ∙ rw (filter-append (shakes the_plan) (range_with_len 0 k) (k ∷ range_with_len (k + 1) left), shakes_is net v valid wide k inside, shaking)
+          (map-append (high_turn the_plan) (filter (shakes the_plan) (range_with_len 0 k)) (k ∷ filter (shakes the_plan) (range_with_len (k + 1) left)))
 
       turns_around : lows 0 G ++ highs 0 G ≡ lows 0 k ++ (low_turn the_plan k ∷ ((lows (k + 1) left ++ highs 0 k) ++ (high_turn the_plan k ∷ highs (k + 1) left)))
-      turns_around =
-          ap (λ l. l ++ highs 0 G) lows_around
-          ∙ ap (λ l. (lows 0 k ++ (low_turn the_plan k ∷ lows (k + 1) left)) ++ l) highs_around
-          ∙ append_assoc (lows 0 k) (low_turn the_plan k ∷ lows (k + 1) left) (highs 0 k ++ (high_turn the_plan k ∷ highs (k + 1) left))
-          ∙ ap (λ l. lows 0 k ++ (low_turn the_plan k ∷ l)) (sym (append_assoc (lows (k + 1) left) (highs 0 k) (high_turn the_plan k ∷ highs (k + 1) left)))
+      turns_around = rw (lows_around, highs_around) (simp append_assoc)
 
       -- the gate falls and rises
-      module _ (back : ℕ) (h : History) (during : During back 0 h) (one : bit_at (newest h) (gate_sig net k) ≡ true) where
-        fewer : 0 + k ≤ G
-        fewer = omega (arith, inside)
-
-        more : k + 1 + left ≤ G
-        more = omega (arith, inside)
-
-        middle : List Turn
-        middle = lows (k + 1) left ++ highs 0 k
-
-        middle_inside : All (λ (turn : Turn). turn.gate < G) (lows (k + 1) left ++ highs 0 k)
-        middle_inside = All-append (λ (turn : Turn). turn.gate < G) (lows (k + 1) left) (highs 0 k) (lows_inside (k + 1) left more) (highs_inside 0 k fewer)
-
-        middle_not : All (λ (turn : Turn). turn.gate ≢ k) (lows (k + 1) left ++ highs 0 k)
-        middle_not =
-            All-append (λ (turn : Turn). turn.gate ≢ k) (lows (k + 1) left) (highs 0 k)
-            (lows_not (k + 1) left k (inr (omega arith))) (highs_not 0 k k (inl (omega arith)))
-
-        abbrev i1 : ℕ
-        i1 = 0 + length (lows 0 k)
-
-        abbrev h1 : History
-        h1 = after_events net h (events back 0 (lows 0 k))
-
-        d1 : During back i1 h1
-        d1 = turns_keep back 0 h (lows 0 k) during (lows_inside 0 k fewer)
-
-        abbrev fall_at : Event
-        fall_at = (turn_event net the_plan back i1 (low_turn the_plan k)).event
-
-        abbrev h2 : History
-        h2 = next_moment net h1 fall_at ∷ h1
-
-        d2 : During back (suc i1) h2
-        d2 = turn_keeps back i1 h1 (low_turn the_plan k) d1 inside
-
-        abbrev i3 : ℕ
-        i3 = suc i1 + length (lows (k + 1) left ++ highs 0 k)
-
-        abbrev h3 : History
-        h3 = after_events net h2 (events back (suc i1) (lows (k + 1) left ++ highs 0 k))
-
-        d3 : During back i3 h3
-        d3 = turns_keep back (suc i1) h2 (lows (k + 1) left ++ highs 0 k) d2 middle_inside
-
-        gives_zero : event_value net h1 fall_at ≡ false
-        gives_zero = turn_gives back i1 h1 (low_turn the_plan k) d1 inside false (low_is k inside) shaking
-
-        abbrev rise_at : Event
-        rise_at = (turn_event net the_plan back i3 (high_turn the_plan k)).event
-
-        h3_is : after_events net h (events back 0 (lows 0 k) ++ (fall_at ∷ events back (suc i1) (lows (k + 1) left ++ highs 0 k))) ≡ h3
-        h3_is = after_events-append net h (events back 0 (lows 0 k)) (fall_at ∷ events back (suc i1) (lows (k + 1) left ++ highs 0 k))
-
-        falls_here : ChangesTo net k false h1 fall_at
-        falls_here = record {
-          of = refl;
-          before = turns_leave back 0 h (lows 0 k) k during (lows_inside 0 k fewer) (lows_not 0 k k (inl (omega arith))) ∙ one;
-          gives = gives_zero;
-        }
-
-        rises_here : ChangesTo net k true h3 rise_at
-        rises_here = record {
-          of = refl;
-          before = turns_leave back (suc i1) h2 (lows (k + 1) left ++ highs 0 k) k d2 middle_inside middle_not ∙ turn_sets back i1 h1 (low_turn the_plan k) d1 inside ∙ gives_zero;
-          gives = turn_gives back i3 h3 (high_turn the_plan k) d3 inside true (high_is k inside) shaking;
-        }
-
-        pub falls_and_rises : FallsAndRises net k h (events back 0 (lows 0 G ++ highs 0 G))
-        falls_and_rises = record {
-          before = events back 0 (lows 0 k);
-          fall = fall_at;
-          between = events back (suc i1) (lows (k + 1) left ++ highs 0 k);
-          rise = rise_at;
-          after = events back (suc i3) (highs (k + 1) left);
-          order =
-              ap (events back 0) turns_around
-              ∙ events-append back 0 (lows 0 k) (low_turn the_plan k ∷ ((lows (k + 1) left ++ highs 0 k) ++ (high_turn the_plan k ∷ highs (k + 1) left)))
-              ∙ ap (λ l. events back 0 (lows 0 k) ++ (fall_at ∷ l)) (events-append back (suc i1) (lows (k + 1) left ++ highs 0 k) (high_turn the_plan k ∷ highs (k + 1) left));
-          falls = falls_here;
-          rises = subst (λ past. ChangesTo net k true past rise_at) (sym h3_is) rises_here;
-        }
+      pub falls_and_rises : (back : ℕ) (h : History) → During back 0 h → bit_at (newest h) (gate_sig net k) ≡ true → FallsAndRises net k h (events back 0 (lows 0 G ++ highs 0 G))
+      falls_and_rises back h during one =
+          let middle : List Turn = lows (k + 1) left ++ highs 0 k in
+          let first_inside = lows_inside 0 k (omega (arith, inside)) in
+          let middle_inside = All-append (λ (turn : Turn). turn.gate < G) (lows (k + 1) left) (highs 0 k) (lows_inside (k + 1) left (omega (arith, inside))) (highs_inside 0 k (omega (arith, inside))) in
+          let middle_not = All-append (λ (turn : Turn). turn.gate ≢ k) (lows (k + 1) left) (highs 0 k) (lows_not (k + 1) left k (inr (omega arith))) (highs_not 0 k k (inl (omega arith))) in
+          let i1 : ℕ = 0 + length (lows 0 k) in
+          let h1 : History = after_events net h (events back 0 (lows 0 k)) in
+          let d1 = turns_keep back 0 h (lows 0 k) during first_inside in
+          let fall : Event = (turn_event net the_plan back i1 (low_turn the_plan k)).event in
+          let zero : event_value net h1 fall ≡ false = turn_gives back i1 h1 (low_turn the_plan k) d1 inside false (low_is k inside) shaking in
+          let h2 : History = next_moment net h1 fall ∷ h1 in
+          let d2 = turn_keeps back i1 h1 (low_turn the_plan k) d1 inside in
+          let i3 : ℕ = suc i1 + length middle in
+          let h3 : History = after_events net h2 (events back (suc i1) middle) in
+          let d3 = turns_keep back (suc i1) h2 middle d2 middle_inside in
+          let rise : Event = (turn_event net the_plan back i3 (high_turn the_plan k)).event in
+          let rises : ChangesTo net k true h3 rise = record {
+            of = refl;
+            before = turns_leave back (suc i1) h2 middle k d2 middle_inside middle_not ∙ turn_sets back i1 h1 (low_turn the_plan k) d1 inside ∙ zero;
+            gives = turn_gives back i3 h3 (high_turn the_plan k) d3 inside true (high_is k inside) shaking;
+          } in
+          record {
+            before = events back 0 (lows 0 k);
+            fall = fall;
+            between = events back (suc i1) middle;
+            rise = rise;
+            after = events back (suc i3) (highs (k + 1) left);
+            order =
+                ap (events back 0) turns_around
+                ∙ events-append back 0 (lows 0 k) (low_turn the_plan k ∷ (middle ++ (high_turn the_plan k ∷ highs (k + 1) left)))
+                ∙ ap (λ l. events back 0 (lows 0 k) ++ (fall ∷ l)) (events-append back (suc i1) middle (high_turn the_plan k ∷ highs (k + 1) left));
+            falls = record { of = refl; before = turns_leave back 0 h (lows 0 k) k during first_inside (lows_not 0 k k (inl (omega arith))) ∙ one; gives = zero };
+            rises = subst (λ past. ChangesTo net k true past rise) (sym (after_events-append net h (events back 0 (lows 0 k)) (fall ∷ events back (suc i1) middle))) rises;
+          }
 
       -- ---- where a half leads
 
@@ -386,8 +330,8 @@ module _ (net : Parts) (v : List Bool) (valid : IsNetlist net) (wide : length v 
     events = turns_valid back 0 (lows 0 G ++ highs 0 G)
         (All-append IsTurn (lows 0 G) (highs 0 G)
         (map_all (λ j. j < G) IsTurn (low_turn the_plan) (range_with_len 0 G) (λ j inside. (false, low_is j inside)) (range_below 0 G G (omega arith)))
-        (map_all (λ j. (j < G) × (shakes the_plan j ≡ true)) IsTurn (high_turn the_plan) (filter (shakes the_plan) (range_with_len 0 G)) (λ j inside. (true, high_is j inside.0))
-        (filter_all (λ j. j < G) (shakes the_plan) (range_with_len 0 G) (range_below 0 G G (omega arith)))));
+        (map_all (λ j. j < G) IsTurn (high_turn the_plan) (filter (shakes the_plan) (range_with_len 0 G)) (λ j inside. (true, high_is j inside))
+        (All-filter (shakes the_plan) (λ j. j < G) (range_with_len 0 G) (range_below 0 G G (omega arith)))));
     each_gate = λ n inside.
         subst (λ es. Any (λ (event : Event). event.gate ≡ n) es) (sym (ap (events back 0) (ap (λ l. l ++ highs 0 G) (lows_around n inside) ∙ append_assoc (lows 0 n) (low_turn the_plan n ∷ lows (n + 1) (G - n - 1)) (highs 0 G)) ∙ events-append back 0 (lows 0 n) (low_turn the_plan n ∷ (lows (n + 1) (G - n - 1) ++ highs 0 G))))
         (Any-middle (λ (event : Event). event.gate ≡ n) (events back 0 (lows 0 n)) (turn_event net the_plan back (0 + length (lows 0 n)) (low_turn the_plan n)).event (events back (suc (0 + length (lows 0 n))) (lows (n + 1) (G - n - 1) ++ highs 0 G)) refl);

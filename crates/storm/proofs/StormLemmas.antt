@@ -8,7 +8,7 @@ use Rattle.std.proofs.lemmas.List.Elements.{All-cons, All-map, All-nil}
 use Rattle.std.proofs.lemmas.List.FromFn.{get_or-map-range_with_len, get_or-range_with_len, length-map-range_with_len, length-range_with_len}
 use Rattle.std.proofs.lemmas.List.Sums.{length-filter}
 use Rattle.cyc_base.specs.declared.trit.Trit.{Trit}
-use Rattle.cyc_base.specs.declared.trit.Trit.TheVariants.{Zero, One, X}
+use Rattle.cyc_base.specs.declared.trit.Trit.TheVariants.{X}
 use Rattle.cyc_base.specs.Values.{bit, bits, Below, Completes}
 use Rattle.cyc_base.proofs.OrderLemmas.{EachBelow-refl, EachBelow-append, Completes-from_at}
 use Rattle.netlist.specs.declared.parts.Parts.{Parts}
@@ -57,13 +57,11 @@ zip_mapped f p q (x ∷ xs) = ap (λ l. f (p x, q x) ∷ l) (zip_mapped f p q xs
 
 chosen_above : (b : Bool) (x : Trit) → Below x (bit (if is_unknown x then b else or_zero x))
 chosen_above b X = tt
-chosen_above b Zero = refl
-chosen_above b One = refl
+chosen_above b x = refl
 
 chosen_where : (b : Bool) (x : Trit) → is_unknown x ≡ true → (if is_unknown x then b else or_zero x) ≡ b
 chosen_where b X e = refl
-chosen_where b Zero e = cc
-chosen_where b One e = cc
+chosen_where b x e = cc
 
 back_later : (plan : StormPlan) (n : ℕ) → zeros_back plan (n + 1) ≡ shaking_count plan
 back_later plan n = ap (λ (t : Bool). if t then 1 else shaking_count plan) (ne_eqb (n + 1) 0 (omega arith))
@@ -94,9 +92,7 @@ module _ (net : Parts) (v : List Bool) (valid : IsNetlist net) (wide : length v 
       (Completes-from_at (fix_gates net (bits v)) (gates_with P b) (length-steps net (bits v) Gs ∙ sym (length-start b))
       (λ n l.
       let inside : n < Gs = let e = length-steps net (bits v) Gs in omega (arith, e, l) in
-      let B : Bool → Type 0 = λ c. Below (get_or (fix_gates net (bits v)) n X) (bit c) in
-      let T : Trit → Type 0 = λ x. Below x (bit (if is_shaking net F n then b else rest_value net F n)) in
-      subst B (sym (gate_starts b n inside)) (subst T (fix_at_gate net v wide n) (chosen_above b (wire F (gate_sig net n)))))))
+      rw (gate_starts b n inside, ← fix_at_gate net v wide n) (chosen_above b (wire F (gate_sig net n))))))
 
   pub stands_at_start : (b : Bool) → Stands net v valid wide b (wires v (gates_with P b))
   stands_at_start b = record {
@@ -164,32 +160,23 @@ module _ (net : Parts) (v : List Bool) (valid : IsNetlist net) (wide : length v 
     zeros = stands_at_start false;
   }
 
-  unknown_shakes : (x : Trit) → x ≡ X → is_unknown x ≡ true
-  unknown_shakes x e = ap is_unknown e
-
   module _ (rounds : ℕ) where
-    vector_is : inputs_in net v ++ drop (length net.inputs) v ≡ v
-    vector_is = take-append-drop (length net.inputs) v
-
     abbrev the_tick : Played
     the_tick = played net ((wires v (gates_with P false)) ∷ []) (drop (length net.inputs) v) (gates_with P true) (tick_of (inputs_in net v, storm_rounds net P rounds))
 
     opened_is : wires (inputs_in net v ++ drop (length net.inputs) v) (gates_with P true) ∷ (wires v (gates_with P false) ∷ []) ≡ opening
-    opened_is = ap (λ vector. wires vector (gates_with P true) ∷ (wires v (gates_with P false) ∷ [])) vector_is
+    opened_is = ap (λ vector. wires vector (gates_with P true) ∷ (wires v (gates_with P false) ∷ [])) (take-append-drop (length net.inputs) v)
 
     tick_is_storm : IsStorm net v the_tick
     tick_is_storm = record {
       fair = subst (λ h. IsFair net 1 h (rounds_from 0 rounds)) (sym opened_is) (rounds_are_fair 0 rounds [] 2 (omega arith));
       shakes = λ n inside unknown. subst (λ h. EachRound net (FallsAndRises net n) h (rounds_from 0 rounds)) (sym opened_is)
-          (rounds_shake 0 rounds n opening begins_here inside (unknown_shakes (wire F (gate_sig net n)) unknown));
+          (rounds_shake 0 rounds n opening begins_here inside (ap is_unknown unknown));
       rests = subst (λ h. All (Completes F) (after_rounds net h (rounds_from 0 rounds))) (sym opened_is) (rounds_rest 0 rounds opening begins_here);
     }
 
     width : (b : Bool) → length (wires v (gates_with P b)) ≡ count net
     width b = let a = length-append v (gates_with P b) in let s = length-start b in omega (arith, a, s, wide)
-
-    turns_are_inside : All (λ (turn : Turn). turn.gate < Gs) (lows net v valid wide 0 Gs ++ highs net v valid wide 0 Gs)
-    turns_are_inside = turns_inside net v valid wide
 
     events_inside : (back i : ℕ) (ts : List Turn) → All (λ (turn : Turn). turn.gate < Gs) ts → All (λ (planned : PlannedEvent). planned.event.gate < Gs) (turn_events net P back i ts)
     events_inside back i [] inside = All-nil (λ (planned : PlannedEvent). planned.event.gate < Gs)
@@ -202,7 +189,7 @@ module _ (net : Parts) (v : List Bool) (valid : IsNetlist net) (wide : length v 
 
     rounds_inside : (ns : List ℕ) → All RoundInside (map (nth_round net P) ns)
     rounds_inside ns =
-        All-map RoundInside (nth_round net P) ns (λ k d l. events_inside (zeros_back P (get_or ns k d)) 0 (lows net v valid wide 0 Gs ++ highs net v valid wide 0 Gs) turns_are_inside)
+        All-map RoundInside (nth_round net P) ns (λ k d l. events_inside (zeros_back P (get_or ns k d)) 0 (lows net v valid wide 0 Gs ++ highs net v valid wide 0 Gs) (turns_inside net v valid wide))
 
     fits : FitsOneTick net (storm_of net v rounds)
     fits = record {
