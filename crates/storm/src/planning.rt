@@ -3,7 +3,7 @@ ghost use Rattle.std.specs.List.{list_any};
 ghost use Rattle.netlist.specs.Netlists.{count};
 ghost use Rattle.netlist.specs.Fixpoint.{wire};
 ghost use Rattle.storm.specs.Building.{AreFixed};
-ghost use Rattle.storm.specs.Plans.{is_unknown, or_zero, is_shaking as shakes_at, rest_value as rest_at, pin_values, each_gate, plan_at, storm_plan};
+ghost use Rattle.storm.specs.Plans.{is_shaking as shakes_at, rest_value as rest_at, pin_values, each_gate, plan_at, storm_plan};
 
 use crate::least::least_completion;
 use cyc_base::{Bits, Items, Sig, Trit};
@@ -36,19 +36,6 @@ impl Drop for StormPlan {
     }
 }
 
-fn is_unknown(value: Trit) -> bool
-    ensures { result ≡ is_unknown value }
-{
-    matches!(value, Trit::X)
-}
-
-/// A value, or 0 where it is unknown.
-fn or_zero(value: Trit) -> bool
-    ensures { result ≡ or_zero value }
-{
-    matches!(value, Trit::One)
-}
-
 fn value_of(values: &[Trit], s: Sig) -> Trit
     requires { s.0 < length values.now }
     ensures { result ≡ wire values.now s }
@@ -68,15 +55,16 @@ fn is_shaking(net: &Netlist, values: &[Trit], number: u32) -> bool
     requires width { length values.now ≡ count net.now }
     ensures { result ≡ shakes_at net.now values.now number }
 {
-    is_unknown(value_of(values, net.gate_sig(number)))
+    matches!(value_of(values, net.gate_sig(number)), Trit::X)
 }
 
+/// The value of a gate, or 0 where it is unknown.
 fn rest_value(net: &Netlist, values: &[Trit], number: u32) -> bool
     requires gate { number < length net.now.gates }
     requires width { length values.now ≡ count net.now }
     ensures { result ≡ rest_at net.now values.now number }
 {
-    or_zero(value_of(values, net.gate_sig(number)))
+    matches!(value_of(values, net.gate_sig(number)), Trit::One)
 }
 
 fn shaking_gates(alloc: Global, net: &Netlist, values: &[Trit]) -> Result<Vec<bool>, AllocError>
