@@ -1,5 +1,5 @@
 -- The least completion with a value, found place by place.
-use Rattle.std.proofs.Common.{◌≡◌, ◌≢◌, ◌⊎◌, inl, inr, ◌<◌, ℕ, zero, suc, Bool, true, false, not, cond, ◌&&◌, List, [], ◌∷◌, length, map, get_or, set, refl, ap, ap₂, sym, ◌∙◌, subst, arith, true≢false, Some, None}
+use Rattle.std.proofs.Common.{◌≡◌, ◌↔◌, ◌≢◌, ◌⊎◌, inl, inr, ◌<◌, ℕ, zero, suc, Bool, true, false, not, cond, ◌&&◌, List, [], ◌∷◌, length, map, get_or, set, refl, ap, ap₂, sym, ◌∙◌, subst, arith, true≢false, Some, None}
 use Rattle.std.specs.Prelude.{option_map, unwrap_or}
 use Rattle.std.specs.List.{find, list_all}
 use Rattle.std.specs.Option.{option_or}
@@ -20,23 +20,15 @@ use Rattle.storm.specs.Laws.{FirstIsLeast}
 
 -- ---- a value is the wanted one, or the other
 
-is_not : (wanted b : Bool) → b ≡ not wanted → is wanted b ≡ false
-is_not true b e = e
-is_not false b e = ap not e
+is_wanted : (wanted b : Bool) → (is wanted b ≡ true) ↔ (b ≡ wanted)
+is_wanted true b = (λ e. e, λ e. e)
+is_wanted false true = (λ e. cc, λ e. cc)
+is_wanted false false = (λ e. refl, λ e. refl)
 
-is_not_back : (wanted b : Bool) → is wanted b ≡ false → b ≡ not wanted
-is_not_back true b e = e
-is_not_back false true e = refl
-is_not_back false false e = cc
-
-is_so : (wanted b : Bool) → is wanted b ≡ true → b ≡ wanted
-is_so true b e = e
-is_so false true e = cc
-is_so false false e = refl
-
-is_so_back : (wanted b : Bool) → b ≡ wanted → is wanted b ≡ true
-is_so_back true b e = e
-is_so_back false b e = ap not e
+is_other : (wanted b : Bool) → (is wanted b ≡ false) ↔ (b ≡ not wanted)
+is_other true b = (λ e. e, λ e. e)
+is_other false true = (λ e. refl, λ e. refl)
+is_other false false = (λ e. cc, λ e. cc)
 
 other_is : (wanted b : Bool) → b ≢ not wanted → is wanted b ≡ true
 other_is true true n = refl
@@ -45,25 +37,17 @@ other_is wanted b n = absurd (n refl)
 
 -- ---- the first that passes a test
 
-none_found : {A : Type 0} (p : A → Bool) (xs : List A) → list_all (λ x. not (p x)) xs ≡ true → find p xs ≡ None
-none_found p [] all = refl
-none_found p (x ∷ xs) all = by (p x) (none_found p xs) all
+none_passes : {A : Type 0} (p : A → Bool) (xs : List A) → (find p xs ≡ None) ↔ (list_all (λ x. not (p x)) xs ≡ true)
+none_passes p [] = (λ e. refl, λ e. refl)
+none_passes p (x ∷ xs) = by (p x) (none_passes p xs)
   where
-    by : (t : Bool) → (list_all (λ y. not (p y)) xs ≡ true → find p xs ≡ None) → (not t && list_all (λ y. not (p y)) xs) ≡ true → cond t (Some x) (find p xs) ≡ None
-    by true rest all = cc
-    by false rest all = rest all
-
-all_fail : {A : Type 0} (p : A → Bool) (xs : List A) → find p xs ≡ None → list_all (λ x. not (p x)) xs ≡ true
-all_fail p [] none = refl
-all_fail p (x ∷ xs) none = by (p x) (all_fail p xs) none
-  where
-    by : (t : Bool) → (find p xs ≡ None → list_all (λ y. not (p y)) xs ≡ true) → cond t (Some x) (find p xs) ≡ None → (not t && list_all (λ y. not (p y)) xs) ≡ true
-    by true rest none = cc
-    by false rest none = rest none
+    by : (t : Bool) → (find p xs ≡ None) ↔ (list_all (λ y. not (p y)) xs ≡ true) → (cond t (Some x) (find p xs) ≡ None) ↔ ((not t && list_all (λ y. not (p y)) xs) ≡ true)
+    by true rest = (λ e. cc, λ e. cc)
+    by false rest = rest
 
 -- no completion passes where none is found
 none_above : (p : List Bool → Bool) (ts : List Trit) → find p (completions ts) ≡ None → (bs : List Bool) → Completes ts bs → p bs ≡ false
-none_above p ts none bs above = not-true (p bs) (passes_above (λ cs. not (p cs)) ts (all_fail p (completions ts) none) bs above)
+none_above p ts none bs above = not-true (p bs) (passes_above (λ cs. not (p cs)) ts ((none_passes p (completions ts)).0 none) bs above)
 
 -- with one known value in front of all
 find_behind : (b : Bool) (p : List Bool → Bool) (xs ys zs : List (List Bool)) → find (λ bs. p (b ∷ bs)) xs ≡ option_or (find (λ bs. p (b ∷ bs)) ys) (find (λ bs. p (b ∷ bs)) zs)
@@ -90,8 +74,8 @@ find_split p (t ∷ ts) zero known l x = cc
 
 none_where : (f : List Bool → Bool) (wanted : Bool) (ts : List Trit) → exact f ts ≡ bit (not wanted) → first_where f wanted ts ≡ None
 none_where f wanted ts out =
-    none_found (λ bs. is wanted (f bs)) (completions ts)
-    (passes_listed (λ bs. not (is wanted (f bs))) ts (λ bs above. not_from_false (is wanted (f bs)) (is_not wanted (f bs) (exact_says f ts (not wanted) out bs above))))
+    (none_passes (λ bs. is wanted (f bs)) (completions ts)).1
+    (passes_listed (λ bs. not (is wanted (f bs))) ts (λ bs above. not_from_false (is wanted (f bs)) ((is_other wanted (f bs)).1 (exact_says f ts (not wanted) out bs above))))
 
 some_is : {A : Type 0} (o : Option A) → o ≢ None → (x : A) × (o ≡ Some x)
 some_is None n = absurd (n refl)
@@ -101,7 +85,7 @@ some_is (Some x) n = (x, refl)
 pub found_where : (f : List Bool → Bool) (wanted : Bool) (ts : List Trit) → exact f ts ≢ bit (not wanted) → (bs : List Bool) × (first_where f wanted ts ≡ Some bs)
 found_where f wanted ts possible =
     some_is (first_where f wanted ts)
-    (λ none. possible (exact_from f ts (not wanted) (λ bs above. is_not_back wanted (f bs) (none_above (λ cs. is wanted (f cs)) ts none bs above))))
+    (λ none. possible (exact_from f ts (not wanted) (λ bs above. (is_other wanted (f bs)).0 (none_above (λ cs. is wanted (f cs)) ts none bs above))))
 
 module _ (f : List Bool → Bool) (wanted : Bool) (ts : List Trit) (n : ℕ) (known : AreKnown ts n) (inside : n < length ts) (unknown : get_or ts n X ≡ X) where
   -- 0 is kept where the value is possible with it
@@ -222,8 +206,8 @@ first_where_is_least f wanted ts bs found =
     let (above, passes, below) = first_is_least (λ cs. is wanted (f cs)) ts bs found in
     record {
       above = above;
-      value = is_so wanted (f bs) passes;
-      least = λ other completes same. below other completes (is_so_back wanted (f other) same);
+      value = (is_wanted wanted (f bs)).0 passes;
+      least = λ other completes same. below other completes ((is_wanted wanted (f other)).1 same);
     }
 
 -- a possible value has a least completion

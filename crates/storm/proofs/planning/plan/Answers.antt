@@ -1,18 +1,11 @@
-use Rattle.std.proofs.Common.{◌≡◌, ap, sym, ◌∙◌, subst, List}
+use Rattle.std.proofs.Common.{ap, sym, ◌∙◌}
 use Rattle.std.specs.List.{list_any}
-use Rattle.cyc_base.specs.declared.trit.Trit.{Trit}
-use Rattle.cyc_base.specs.Values.{bits}
-use Rattle.netlist.specs.Fixpoint.{fix}
-use Rattle.storm.specs.Building.{AreFixed}
 use Rattle.storm.proofs.PlanLemmas.{fix_is_fixed, some_plan, no_plan}
 use Rattle.storm.proofs.planning.plan.Goals as goal
 
 pub plan_of-requires : goal.plan_of-requires
 plan_of-requires c =
-    let P : List Trit → Type 0 = λ values. AreFixed c.args.net.now values in
-    let is : c.deref.result.now ≡ fix c.args.net.now (bits c.args.v.now) =
-    c.deref.ensures.value ∙ c.in_ok-values.ensures in
-    subst P (sym is) (fix_is_fixed c.args.net.now c.args.v.now c.requires)
+    rw (c.deref.ensures.value, c.in_ok-values.ensures) (fix_is_fixed c.args.net.now c.args.v.now c.requires)
 
 pub returns-then-any_shakes : goal.returns-then-any_shakes
 returns-then-any_shakes c =
