@@ -1,7 +1,7 @@
 //! Where two rails differ in a set, and the least such vector of many pairs.
 
 ghost use Rattle.std.specs.Prelude.{◌≡◌, ◌*◌, Bool, List, length, All, IfOk, find, option_map};
-ghost use Rattle.bdd_store.specs.Arena.{den, IsNodeOf};
+ghost use Rattle.bdd_store.specs.Arena.{IsNodeOf};
 ghost use Rattle.bdd_store.specs.Growth.{GrowsWithin, NoOtherCause};
 ghost use Rattle.bdd_ops.specs.Least.{IsLayout, by_variable};
 ghost use Rattle.cyc_base.specs.Vectors.{vectors};
@@ -24,17 +24,6 @@ pub struct ComparedRails {
     pub there: Rails,
 }
 
-/// The vectors of the set at which the first rails are 1 and the second 0.
-fn above(d: &mut Diagrams, compared: ComparedRails) -> Result<Node, StoreFault>
-    requires { AreComparedIn d.old compared }
-    ensures node { IfOk result (IsNodeOf d.new) }
-    ensures function { IfOk result (λ n. (v : List Bool) → den d.new n v ≡ is_above d.old compared.set compared.here compared.there v) }
-    ensures grows { GrowsWithin result d.old d.new NoOtherCause (BoundsAbove d.old compared.set compared.here compared.there) 2 }
-{
-    let both = d.and(compared.here.one, compared.there.zero)?;
-    d.and(compared.set, both)
-}
-
 /// The least vector of the set at which the first rails are 1 and the second 0. `order` has the column of each variable.
 fn least_above(
     alloc: Global,
@@ -47,7 +36,8 @@ fn least_above(
     ensures least { IfOk result (λ found. option_map (λ v. v.items) found ≡ find (λ v. is_above d.old compared.set compared.here compared.there (by_variable order.now v)) (vectors d.old.vars)) }
     ensures grows { GrowsWithin result d.old d.new NoOtherCause (BoundsAbove d.old compared.set compared.here compared.there) 2 }
 {
-    let node = above(d, compared)?;
+    let both = d.and(compared.here.one, compared.there.zero)?;
+    let node = d.and(compared.set, both)?;
     Ok(least_of(alloc, d, order, node)?)
 }
 

@@ -1,20 +1,35 @@
-use Rattle.std.proofs.Common.{◌∙◌, refl}
-use Rattle.differences.proofs.Common.{den, within_answered, within_refused, by_variable, is_above}
-use Rattle.bdd_store.proofs.GrowthLemmas.{within_memory}
-use Rattle.differences.proofs.PartingLemmas.{first-same}
+use Rattle.std.proofs.Common.{◌≡◌, ◌∙◌, ◌&&◌, Bool, List, refl, ap₂, arith}
+use Rattle.differences.proofs.Common.{den, GrowsWithin, NoOtherCause, within_then, within_more, within_answered, within_refused, by_variable, conjunction, is_above, BoundsAbove}
+use Rattle.bdd_store.proofs.GrowthLemmas.{within_one, within_memory}
+use Rattle.differences.proofs.PartingLemmas.{bounded-same, first-same}
 use Rattle.differences.proofs.parting.least_above.Goals as goal
+use Rattle.differences.proofs.parting.least_above.Goals.{After-and-2}
 
-pub returns-clause-least : goal.returns-clause-least
-returns-clause-least c =
-    c.in_ok-least_of.ensures
-    ∙ first-same c.above.new.d.vars c.args.d.now.vars (λ v. den c.above.new.d c.in_ok-node.node (by_variable c.args.order.now v)) (λ v. is_above c.args.d.now c.args.compared.set c.args.compared.here c.args.compared.there (by_variable c.args.order.now v))
-    c.above.ensures.grows.keeps.vars (λ v. c.in_ok-node.ensures.function (by_variable c.args.order.now v))
+-- the second conjunction is that of three functions
+inside : (c : After-and-2) → (v : List Bool) → conjunction c.and.new.self c.args.compared.set c.in_ok-both.both v ≡ is_above c.args.d.now c.args.compared.set c.args.compared.here c.args.compared.there v
+inside c v = ap₂ (λ x y. x && y) (c.and.ensures.grows.keeps.function c.args.compared.set v c.requires.compared.set) (c.in_ok-both.ensures.function v)
+
+grown : (c : After-and-2) → GrowsWithin c.and-2.result c.args.d.now c.and-2.new.self NoOtherCause (BoundsAbove c.args.d.now c.args.compared.set c.args.compared.here c.args.compared.there) 2
+grown c =
+    within_then (within_one (λ w b. b.first) c.and.ensures.grows) (within_one (λ w b.
+    bounded-same c.and.new.self.vars c.args.d.now.vars (conjunction c.and.new.self c.args.compared.set c.in_ok-both.both) (is_above c.args.d.now c.args.compared.set c.args.compared.here c.args.compared.there)
+    c.and.ensures.grows.keeps.vars (inside c) b.second) c.and-2.ensures.grows)
+
+pub returns-in_err-both-clause-grows : goal.returns-in_err-both-clause-grows
+returns-in_err-both-clause-grows c = within_more (omega arith) (within_refused c.in_err-both.was c.from_residual.ensures.1 (within_one (λ w b. b.first) c.and.ensures.grows))
 
 pub returns-in_err-node-clause-grows : goal.returns-in_err-node-clause-grows
-returns-in_err-node-clause-grows c = within_refused c.in_err-node.was c.from_residual.ensures.1 c.above.ensures.grows
+returns-in_err-node-clause-grows c = within_refused c.in_err-node.was c.from_residual-in_err-node.ensures.1 (grown (goal.at.returns-in_err-node-clause-grows c).After-and-2)
 
 pub returns-in_err-least_of-clause-grows : goal.returns-in_err-least_of-clause-grows
-returns-in_err-least_of-clause-grows c = within_refused {U = Unit} refl c.from_residual-in_err-least_of.ensures.1 (within_memory c.above.ensures.grows)
+returns-in_err-least_of-clause-grows c = within_refused {U = Unit} refl c.from_residual-in_err-least_of.ensures.1 (within_memory (grown (goal.at.returns-in_err-least_of-clause-grows c).After-and-2))
 
 pub returns-clause-grows : goal.returns-clause-grows
-returns-clause-grows c = within_answered c.above.ensures.grows
+returns-clause-grows c = within_answered (grown (goal.at.returns-clause-grows c).After-and-2)
+
+pub returns-clause-least : goal.returns-clause-least
+returns-clause-least g =
+    let c : After-and-2 = (goal.at.returns-clause-least g).After-and-2 in
+    g.in_ok-least_of.ensures
+    ∙ first-same g.and-2.new.self.vars g.args.d.now.vars (λ v. den g.and-2.new.self g.in_ok-node.node (by_variable g.args.order.now v)) (λ v. is_above g.args.d.now g.args.compared.set g.args.compared.here g.args.compared.there (by_variable g.args.order.now v))
+    (g.and-2.ensures.grows.keeps.vars ∙ g.and.ensures.grows.keeps.vars) (λ v. g.in_ok-node.ensures.function (by_variable g.args.order.now v) ∙ inside c (by_variable g.args.order.now v))
