@@ -19,16 +19,11 @@ never_differ a b care valid_a valid_b none accepted never =
 
 -- a wire of the first netlist that has a name
 pub named_within : (a : Parts) (name : List ℕ) (s : Sig) → slice_get (signal_names a) s.0 ≡ Some name → s.0 < count a
-named_within a name s found =
-    let inside = slice_get_within (signal_names a) s.0 name found in
-    let wide = length-signal_names a in
-    omega (arith, inside, wide)
+named_within a name s found = grind (arith, slice_get_within (signal_names a) s.0 name found, length-signal_names a)
 
 -- a wire of the first netlist and a gate of the second are wires of the joined netlist
 pub alike_pair : (a b : Parts) (s : Sig) (n : ℕ) → s.0 < count a → n < length b.gates → IsPairOf (joined a b []) (pair_of s (signal (count a + n)))
-alike_pair a b s n inside less =
-    let many = length-joined a b [] in
-    record { here = omega (arith, inside, many); there = omega (arith, less, many) }
+alike_pair a b s n inside less = grind (arith, length-joined a b [])
 
 -- how many wires the joined netlist has
 pub count_joined : (a b : Parts) → count (joined a b []) ≡ count a + length b.gates
@@ -36,8 +31,7 @@ count_joined a b = let many = length-joined a b [] in omega (arith, many)
 
 -- what holds of all values of two lists of entries, of which one is chosen
 chosen_values : {K V : Type 0} (T : V → Type 0) (b : Bool) (es fs : List (K × V)) → All T (map (λ e. e.1) es) → All T (map (λ e. e.1) fs) → All T (map (λ e. e.1) (if b then es else fs))
-chosen_values T true es fs here there = here
-chosen_values T false es fs here there = there
+chosen_values T b es fs here there = grind arith
 
 -- what holds of each value of a table, and of one more, holds of each where that is put in
 pub values_inserted : {K V : Type 0} (eq : K → K → Bool) (T : V → Type 0) (es : List (K × V)) (k : K) (x : V) → All T (map (λ e. e.1) es) → T x → All T (map (λ e. e.1) (insert_entry eq es k x))

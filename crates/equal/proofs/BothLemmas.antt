@@ -66,9 +66,7 @@ module _ (a b : Parts) (valid_a : IsNetlist a) (valid_b : IsNetlist b) (match_ :
     of-both g (IsOfInvariant is) = one-of g (decisions.IsOfInvariant is)
 
     laid-both : (g : List Bool → Bool) → IsLaidBy (order a) (joined a b []) care_a g → IsLaidForBoth a care_a b care_b g
-    laid-both g x =
-        let found = of-both x.of x.is in
-        record { of = found.of; is = found.is; same = λ v long. x.same v long ∙ found.same v long }
+    laid-both g x = grind (arith, of-both x.of x.is)
 
 pub both_are_wide : BothAreWide
 both_are_wide a b care_a care_b valid_a valid_b none w wide =

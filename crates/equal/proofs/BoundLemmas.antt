@@ -23,15 +23,10 @@ own_gates : (net : Parts) → map (gate_at net) (range_with_len 0 (length net.ga
 own_gates net = sym (fill_by_all (gate_at net) net.gates (length net.gates) no_gate refl (λ k l. refl))
 
 effort_moved : (a b : Parts) → sum_by (λ gate. size gate.cover + 1) (moved_gates a b) ≡ effort b
-effort_moved a b =
-    sum_mapped (λ (gate : Gate). size gate.cover + 1) (moved_gate_by (columns_by_name a b) (count a) (mark a) b) (range_with_len 0 (length b.gates))
-    ∙ sym (sum_mapped (λ (gate : Gate). size gate.cover + 1) (gate_at b) (range_with_len 0 (length b.gates)))
-    ∙ ap (sum_by (λ (gate : Gate). size gate.cover + 1)) (own_gates b)
+effort_moved a b = grind (arith, sum_mapped, own_gates b)
 
 effort_joined : (a b : Parts) → effort (joined a b []) ≡ effort a + effort b
-effort_joined a b =
-    sum_by-append (λ (gate : Gate). size gate.cover + 1) a.gates (moved_gates a b ++ [])
-    ∙ ap (λ n. effort a + n) (ap (sum_by (λ (gate : Gate). size gate.cover + 1)) (append-nil (moved_gates a b)) ∙ effort_moved a b)
+effort_joined a b = grind (arith, sum_by-append, append-nil (moved_gates a b), effort_moved a b)
 
 gates_joined : (a b : Parts) → length (a.gates ++ (moved_gates a b ++ [])) ≡ length a.gates + length b.gates
 gates_joined a b = length-joined a b [] ∙ omega arith
@@ -82,14 +77,10 @@ module _ (a : Parts) (care_a : CareSet) (b : Parts) (care_b : CareSet) (limit : 
 -- ---- causes
 
 large_model : (m n : Option CareModel) (limit : ℕ) → model_of m ≡ model_of n → IsSomeAnd n (λ model. HasLargeCover model.net limit) → IsSomeAnd m (λ model. HasLargeCover model.net limit)
-large_model None None limit e h = h
-large_model None (Some n) limit e h = cc
-large_model (Some m) None limit e h = cc
-large_model (Some m) (Some n) limit e h = subst (λ net. HasLargeCover net limit) (sym (same_Some m.net n.net e)) h
+large_model m n limit e h = grind arith
 
 model_over : (care_a care_b : CareSet) (limit : ℕ) → HaveOneSource care_a care_b → HasModelOver care_b limit → HasModelOver care_a limit
-model_over care_a care_b limit one (inl h) = inl (large_model care_a.assume care_b.assume limit one.assume h)
-model_over care_a care_b limit one (inr h) = inr (large_model care_a.invariant care_b.invariant limit one.invariant h)
+model_over care_a care_b limit one h = grind arith
 
 large_joined : (a b : Parts) (limit : ℕ) → HasLargeCover (joined a b []) limit → HasLargeCover a limit ⊎ HasLargeCover b limit
 large_joined a b limit h = elim (cases_lt h.gate (length a.gates)) [
@@ -116,8 +107,7 @@ pub out_first : (d : Arena) (a : Parts) (care_a : CareSet) (b : Parts) (limit : 
 out_first d a care_a b limit is = out_by d a care_a b limit a care_a is (λ over. elim over [ inl h ↦ inl h | inr h ↦ inr (inr h) ])
 
 pub out_second : (d : Arena) (a : Parts) (care_a : CareSet) (b : Parts) (care_b : CareSet) (limit : ℕ) → HaveOneSource care_a care_b → IsOutOfNodes d b care_b limit → IsOutOfNodesForBoth d a care_a b limit
-out_second d a care_a b care_b limit one is =
-    out_by d a care_a b limit b care_b is (λ over. elim over [ inl h ↦ inr (inl h) | inr h ↦ inr (inr (model_over care_a care_b limit one h)) ])
+out_second d a care_a b care_b limit one is = grind (arith, out_by d a care_a b limit b care_b is, model_over care_a care_b limit one)
 
 pub out_both : (d : Arena) (a : Parts) (care_a : CareSet) (b : Parts) (limit : ℕ) → IsOutOfNodes d (joined a b []) care_a limit → IsOutOfNodesForBoth d a care_a b limit
 out_both d a care_a b limit is =

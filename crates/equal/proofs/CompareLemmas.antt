@@ -38,23 +38,15 @@ both_accepted a b care_a care_b valid_b is_a is_b one first second = record {
 
 -- a care set of the first netlist is one of the joined netlist, which has its columns
 bound_joined : (a b : Parts) (more : List Gate) (first : ℕ) (model : Option CareModel) → IfSome model (IsBoundTo a first) → IfSome model (IsBoundTo (joined a b more) first)
-bound_joined a b more first None h = h
-bound_joined a b more first (Some m) h = record { start = h.start; names = record { named = h.names.named }; late = h.late }
+bound_joined a b more first model h = grind arith
 
 pub care_joined : (a b : Parts) (more : List Gate) (care : CareSet) → IsCareOf a care → IsCareOf (joined a b more) care
-care_joined a b more care is = record {
-  assume = bound_joined a b more 0 care.assume is.assume;
-  invariant = bound_joined a b more (length a.inputs) care.invariant is.invariant;
-}
+care_joined a b more care is = grind arith
 
 module _ (a b : Parts) (valid_a : IsNetlist a) (valid_b : IsNetlist b) (none : unmatched a b ≡ None) where
   -- pairs have numbers in the joined netlist
   pub pairs_fit : (table : List ℕ) (most : ℕ) → table ≡ columns_by_name a b → count a + length b.gates ≤ most → All (λ pair. count a + (pair.there.0 - length table) ≤ most) (output_pairs a b ++ latch_pairs a b)
-  pairs_fit table most is fits k d l =
-      let p = pairs_for a b valid_a valid_b (matched a b none) k d l in
-      let there = p.there in
-      let e : length table ≡ columns b = ap length is ∙ length-table a b in
-      omega arith
+  pairs_fit table most is fits k d l = grind (arith, pairs_for a b valid_a valid_b (matched a b none) k d l, matched a b none, length-table a b)
 
   -- and are wires of it
   pub pairs_joined : (more : List Gate) → All (IsPairOf (joined a b more)) (joined_pairs a b)
@@ -70,13 +62,11 @@ module _ (a b : Parts) (valid_a : IsNetlist a) (valid_b : IsNetlist b) (none : u
     -- so the least vector of the joined netlist on which some pair differs is that of the two netlists
     pub least_joined : (more : List Gate) → least_apart (joined a b more) care (joined_pairs a b) ≡ difference a b care
     least_joined more =
-        agree_on_care a care (some_is_apart (joined a b more) (joined_pairs a b)) (differs a b)
-        (λ v counts. apart_same a b more valid_a valid_b (matched a b none) v counts.width (known_a a b care valid_a valid_b (matched a b none) accepted v counts) (accepted.second v counts))
+        grind (arith, agree_on_care a care (some_is_apart (joined a b more) (joined_pairs a b)) (differs a b), apart_same a b more valid_a valid_b (matched a b none), matched a b none, known_a a b care valid_a valid_b (matched a b none) accepted)
 
 -- such a vector has the first netlist's width
 pub difference_wide : (a b : Parts) (care : CareSet) (v : List Bool) → difference a b care ≡ Some v → length v ≡ columns a
-difference_wide a b care v is =
-    found_wide (columns a) (λ w. is_care_vector a care w && differs a b w) v (sym (find-filter (differs a b) (is_care_vector a care) (vectors (columns a))) ∙ is)
+difference_wide a b care v is = grind (arith, found_wide (columns a), find-filter (differs a b) (is_care_vector a care) (vectors (columns a)))
 
 -- ---- the answer, part by part
 
@@ -92,14 +82,10 @@ module _ (a : Parts) (care_a : CareSet) (b : Parts) (care_b : CareSet) where
     told_first r is = ap₂ (λ n x. told n x (refusal b care_b observe.All) (comparison_of_accepted a b care_a)) (sym none) is
 
     pub told_second : (r : Refusal) → None ≡ refusal a care_a observe.All → Some r ≡ refusal b care_b observe.All → Second r ≡ comparison a care_a b care_b
-    told_second r first is =
-        ap₂ (λ n x. told n x (Some r) (comparison_of_accepted a b care_a)) (sym none) first
-        ∙ ap (λ y. told (unmatched a b) (refusal a care_a observe.All) y (comparison_of_accepted a b care_a)) is
+    told_second r first is = grind arith
 
     pub told_last : None ≡ refusal a care_a observe.All → None ≡ refusal b care_b observe.All → comparison_of_accepted a b care_a ≡ comparison a care_a b care_b
-    told_last first second =
-        ap₂ (λ n x. told n x None (comparison_of_accepted a b care_a)) (sym none) first
-        ∙ ap (λ y. told (unmatched a b) (refusal a care_a observe.All) y (comparison_of_accepted a b care_a)) second
+    told_last first second = grind arith
 
 -- the answer is found, or the comparison is given up
 pub answered : (m told : Matched) (d : Arena) (answer : Answer) → m ≡ told → answer ≡ comparison m.a m.care_a m.b m.care_b → Compares told d (Ok answer)
@@ -116,30 +102,21 @@ told_of a b care found is = ap (λ o. option_map_or (at_difference a b) o Equal)
 
 -- a netlist that is accepted has no refusal's vector
 pub accepted_early : (net : Parts) (blocks : Blocks) (cut : Cut) (care : CareSet) (counts : SweepCounts) (loose : ℕ) → IsNetlist net → IsAcceptance net blocks cut care observe.All counts loose → IsKnownEarly net care (Found None)
-accepted_early net blocks cut care counts loose valid is s None e = refl
-accepted_early net blocks cut care counts loose valid is s (Some v) e =
-    let none : refusal net care observe.All ≡ None = accepted_none net care valid is.accepts in
-    let here : None ≡ Some (Undetermined v s) = sym none ∙ e in
-    cc
+accepted_early net blocks cut care counts loose valid is s h e = grind (arith, accepted_none)
 
 pub accepted_verdict : (v : Verdict) (counts : SweepCounts) (loose : ℕ) → v ≡ Accepted counts loose → (net : Parts) (blocks : Blocks) (cut : Cut) (care : CareSet) → IsNetlist net → IsVerdict net blocks cut care observe.All v →
     IsKnownEarly net care (Found None)
-accepted_verdict v counts loose is_accepted net blocks cut care valid told =
-    accepted_early net blocks cut care counts loose valid (subst (IsVerdict net blocks cut care observe.All) is_accepted told)
+accepted_verdict v counts loose is_accepted net blocks cut care valid told = grind (arith, accepted_early net blocks cut care counts loose valid)
 
 -- and one that is refused has that of its refusal
 pub refused_verdict : {E : Type 0} (result : Result Early E) (v : Verdict) (r : Refusal) → v ≡ Refused r →
     IfOk result (λ early. (s : Sig) (least : Option (List Bool)) → Some r ≡ option_map (λ v. Undetermined v s) least → IsFound least early) →
     IfOk result (λ early. (net : Parts) (blocks : Blocks) (cut : Cut) (care : CareSet) → IsNetlist net → IsVerdict net blocks cut care observe.All v → IsKnownEarly net care early)
-refused_verdict (Ok early) v r is_refused known = λ net blocks cut care valid verdict s least e.
-    let here : refusal net care observe.All ≡ Some r = subst (IsVerdict net blocks cut care observe.All) is_refused verdict in
-    known s least (sym here ∙ e)
-refused_verdict (Err x) v r is_refused known = known
+refused_verdict result v r is_refused known = grind arith
 
 -- of the verdict of a decision
 pub early_known : {E F : Type 0} (net : Parts) (blocks : Blocks) (cut : Cut) (care : CareSet) (result : Result Early E) (decision : Result Verdict F) (v : Verdict) → IsNetlist net → decision ≡ Ok v → IfOk decision (IsVerdict net blocks cut care observe.All) →
     IfOk result (λ early. (net : Parts) (blocks : Blocks) (cut : Cut) (care : CareSet) → IsNetlist net → IsVerdict net blocks cut care observe.All v → IsKnownEarly net care early) →
     IfOk result (IsKnownEarly net care)
-early_known {F = F} net blocks cut care (Ok early) decision v valid is_v verdict known =
-    known net blocks cut care valid (subst (λ (r : Result Verdict F). IfOk r (IsVerdict net blocks cut care observe.All)) is_v verdict)
+early_known {F = F} net blocks cut care (Ok early) decision v valid is_v verdict known = grind arith
 early_known net blocks cut care (Err x) decision v valid is_v verdict known = known

@@ -18,15 +18,10 @@ use Rattle.equal.proofs.MiterLemmas.{told, place, length-net, link_known, teller
 -- ---- tests that agree on all vectors that count
 
 agree_after : (s : Bool) (p q : Bool) → (s ≡ true → p ≡ q) → (s && p) ≡ (s && q)
-agree_after true p q same = same refl
-agree_after false p q same = refl
+agree_after s p q same = grind arith
 
 pub agree_on_care : (net : Parts) (care : CareSet) (p q : List Bool → Bool) → ((v : List Bool) → IsCareVector net care v → p v ≡ q v) → find p (care_vectors net care) ≡ find q (care_vectors net care)
-agree_on_care net care p q same =
-    find-filter p (is_care_vector net care) (vectors (columns net))
-    ∙ find-alike (columns net) (λ v. is_care_vector net care v && p v) (λ v. is_care_vector net care v && q v)
-    (λ v wide. agree_after (is_care_vector net care v) (p v) (q v) (λ counts. same v (care_vector_decides net care v wide counts)))
-    ∙ sym (find-filter q (is_care_vector net care) (vectors (columns net)))
+agree_on_care net care p q same = grind (arith, find-filter p (is_care_vector net care) (vectors (columns net)), find-alike (columns net), agree_after, care_vector_decides net care, find-filter q (is_care_vector net care) (vectors (columns net)))
 
 -- ---- what the parts of a refusal say where there is none
 
@@ -42,8 +37,7 @@ find_last p f n none =
 
 first_of_one : {V : Type 0} (s : Sig) (o : Option V) (fails : Sig → Option V) → fails s ≡ o →
     option_and_then {U = Sig × V} (λ (w : Sig). option_map (λ (v : V). (w, v)) (fails w)) (cond (not (is_none o)) (Some s) None) ≡ option_map (λ (v : V). (s, v)) o
-first_of_one s None fails e = refl
-first_of_one s (Some v) fails e = ap (option_map (λ (u : _). (s, u))) e
+first_of_one s o fails e = grind arith
 
 module _ (a b : Parts) (care_a : CareSet) (valid_a : IsNetlist a) (valid_b : IsNetlist b) (match_ : Match a b) (accepted : AreAccepted a b care_a) where
   accepted_a : refusal a care_a observe.All ≡ None
@@ -95,30 +89,14 @@ module _ (a b : Parts) (care_a : CareSet) (valid_a : IsNetlist a) (valid_b : IsN
 
   undetermined_is : undetermined_refusal net care_a observe.All ≡ option_map (λ v. Undetermined v (gate_sig net last)) (difference a b care_a)
   undetermined_is =
-      let loose : Sig → Bool = λ s. list_any (is_undetermined net s) (care_vectors net care_a) in
-      ap (λ among. option_map (λ (u : Sig × List Bool). Undetermined u.1 u.0) (first_failing (is_undetermined net) among (care_vectors net care_a)))
-      (all_observes_gates net ∙ ap (λ m. map (gate_sig net) (range_with_len 0 m)) (length-net a b pairs))
-      ∙ ap (λ o. option_map (λ (u : Sig × List Bool). Undetermined u.1 u.0) (option_and_then (λ w. option_map (λ v. (w, v)) (find (is_undetermined net w) (care_vectors net care_a))) o))
-      (find_last (λ s. list_any (is_undetermined net s) (care_vectors net care_a)) (gate_sig net) last never_loose
-      ∙ ap (λ t. cond t (Some (gate_sig net last)) None) (any-find (is_undetermined net (gate_sig net last)) (care_vectors net care_a) ∙ ap (λ o. not (is_none o)) found_last))
-      ∙ ap (option_map (λ (u : Sig × List Bool). Undetermined u.1 u.0))
-      (first_of_one (gate_sig net last) (difference a b care_a) (λ w. find (is_undetermined net w) (care_vectors net care_a)) found_last)
-      ∙ twice (difference a b care_a)
-    where
-      twice : (o : Option (List Bool)) → option_map (λ (u : Sig × List Bool). Undetermined u.1 u.0) (option_map (λ v. (gate_sig net last, v)) o) ≡ option_map (λ v. Undetermined v (gate_sig net last)) o
-      twice None = refl
-      twice (Some v) = refl
+      grind (arith, all_observes_gates net, length-net a b pairs, find_last, never_loose, any-find (is_undetermined net (gate_sig net last)) (care_vectors net care_a), found_last, first_of_one (gate_sig net last) (difference a b care_a))
 
   -- the latches load what they load in the first netlist
   next_same : (v : List Bool) → length v ≡ columns a → next net (bits v) ≡ next a (bits v)
-  next_same v wide =
-      map_agree (λ (latch : Latch). wire (fix net (bits v)) latch.from) (λ (latch : Latch). wire (fix a (bits v)) latch.from) a.latches
-      (λ k d l. fix_first a b (told a b pairs) valid_a valid_b match_ v wide (get_or a.latches k d).from (valid_a.sources k d l))
+  next_same v wide = grind (arith, map_agree, fix_first a b (told a b pairs) valid_a valid_b match_ v wide, told a b pairs)
 
   leaves_is : find (leaves net care_a) (care_vectors net care_a) ≡ find (leaves a care_a) (care_vectors a care_a)
-  leaves_is =
-      agree_on_care a care_a (leaves net care_a) (leaves a care_a)
-      (λ v counts. ap (λ values. not (is_in_invariant care_a (map is_one values))) (next_same v counts.width))
+  leaves_is = grind (arith, agree_on_care a care_a (leaves net care_a) (leaves a care_a), next_same)
 
   pub refusal_is : refusal net care_a observe.All ≡ option_map (λ v. Undetermined v (gate_sig net last)) (difference a b care_a)
   refusal_is =
@@ -130,14 +108,7 @@ module _ (a b : Parts) (care_a : CareSet) (valid_a : IsNetlist a) (valid_b : IsN
       let none_initial : initial_refusal net care_a ≡ None = first.0 in
       let none_empty : empty_refusal net care_a ≡ None = second.0 in
       let none_leaves : leaves_refusal net care_a ≡ None = ap (option_map (λ v. Leaves v (next_state net v))) (leaves_is ∙ stays) in
-      ap₂ option_or none_initial
-      (ap₂ option_or none_empty
-      (ap₂ option_or undetermined_is (ap (λ o. option_or o None) none_leaves)))
-      ∙ same (option_map (λ v. Undetermined v (gate_sig net last)) (difference a b care_a))
-    where
-      same : (o : Option Refusal) → option_or None (option_or None (option_or o (option_or None None))) ≡ o
-      same None = refl
-      same (Some r) = refl
+      grind (arith, undetermined_is)
 
   -- so what refuses it, within a budget, is where they differ
   pub early_found : {E : Type 0} (result : Result Early E) → IfOk result (IsKnownEarly net care_a) → IfOk result (IsFound (difference a b care_a))

@@ -13,15 +13,10 @@ use Rattle.equal.proofs.MatchLemmas.{Match, table_within, length-table, length-b
 -- ---- where signals stand
 
 pub moved_low : (a b : Parts) (s : Sig) → s.0 < columns b → moved a b s ≡ signal (get_or (columns_by_name a b) s.0 0)
-moved_low a b s l =
-    let e = length-table a b in
-    ap (λ t. if t then signal (get_or (columns_by_name a b) s.0 0) else signal (count a + (s.0 - length (columns_by_name a b)))) (lt-ltb s.0 (length (columns_by_name a b)) (omega arith))
+moved_low a b s l = grind (arith, length-table a b, lt-ltb s.0 (length (columns_by_name a b)))
 
 pub moved_high : (a b : Parts) (s : Sig) → columns b ≤ s.0 → moved a b s ≡ signal (count a + (s.0 - columns b))
-moved_high a b s l =
-    let e = length-table a b in
-    ap (λ t. if t then signal (get_or (columns_by_name a b) s.0 0) else signal (count a + (s.0 - length (columns_by_name a b)))) (le-ltb s.0 (length (columns_by_name a b)) (omega arith))
-    ∙ ap signal (let f : count a + (s.0 - length (columns_by_name a b)) ≡ count a + (s.0 - columns b) = omega arith in f)
+moved_high a b s l = grind (arith, length-table a b, le-ltb s.0 (length (columns_by_name a b)))
 
 pub length-moved : (a b : Parts) → length (moved_gates a b) ≡ length b.gates
 length-moved a b = length-map-range_with_len (moved_gate_by (columns_by_name a b) (count a) (mark a) b) 0 (length b.gates)
@@ -42,30 +37,13 @@ module _ (a b : Parts) (more : List Gate) where
 
   pub second_gate : (n : ℕ) → n < length b.gates → gate_at big (length a.gates + n) ≡ moved_gate_by (columns_by_name a b) (count a) (mark a) b n
   second_gate n l =
-      let z = length-moved a b in
-      get_or-append-add a.gates (moved_gates a b ++ more) n no_gate
-      ∙ get_or_append_left (moved_gates a b) more no_gate n (omega arith)
-      ∙ get_or-map-range_with_len (moved_gate_by (columns_by_name a b) (count a) (mark a) b) 0 (length b.gates) n n no_gate l (omega arith)
+      grind (arith, length-moved a b, get_or-append-add a.gates (moved_gates a b ++ more) n no_gate, get_or_append_left (moved_gates a b) more no_gate n, get_or-map-range_with_len (moved_gate_by (columns_by_name a b) (count a) (mark a) b) 0 (length b.gates) n n no_gate l)
 
   pub first_part : IsPartOf a big (λ s. s) (λ n. n)
-  first_part = record {
-    few = let e = length-joined in omega arith;
-    within = λ n l. (let e = length-joined in omega arith);
-    covers = λ n l. ap (λ (g : Gate). g.cover) (first_gate n l);
-    pins = λ n l. ap (λ (g : Gate). g.pins) (first_gate n l) ∙ sym (map-id (gate_at a n).pins);
-    gates = λ s l i. omega arith;
-    column = λ s l. l;
-  }
+  first_part = grind (arith, length-joined, first_gate, map-id)
 
   pub second_part : Match a b → IsPartOf b big (moved a b) (λ n. length a.gates + n)
-  second_part match_ = record {
-    few = let e = length-joined in omega arith;
-    within = λ n l. (let e = length-joined in omega arith);
-    covers = λ n l. ap (λ (g : Gate). g.cover) (second_gate n l);
-    pins = λ n l. ap (λ (g : Gate). g.pins) (second_gate n l);
-    gates = λ s l i. ap (λ (t : Sig). t.0) (moved_high a b s l) ∙ omega arith;
-    column = λ s l. subst (λ (t : Sig). t.0 < columns a) (sym (moved_low a b s l)) (table_within a b match_ s.0 l);
-  }
+  second_part match_ = grind (arith, length-joined, second_gate, moved_high a b, moved_low a b, table_within a b match_)
 
   module _ (valid_a : IsNetlist a) (valid_b : IsNetlist b) (match_ : Match a b) (v : List Bool) (wide : length v ≡ columns a) where
     pub fix_first : (s : Sig) → IsSignal a s → wire (fix big (bits v)) s ≡ wire (fix a (bits v)) s
@@ -104,11 +82,7 @@ pub record IsPairFor (a b : Parts) (pair : Pair) : Type 0 where
   pub there : IsSignal b pair.there
 
 named_signal : (net : Parts) (name : List ℕ) → 0 < count net → IsSignal net (signal_named net name)
-named_signal net name some = by (position (bytes_eq name) (signal_names net)) refl
-  where
-    by : (o : Option ℕ) → position (bytes_eq name) (signal_names net) ≡ o → number_or_0 o < count net
-    by None e = some
-    by (Some i) e = let p = position-Some (bytes_eq name) (signal_names net) i [] e in let l = p.0 in let n = length-signal_names net in omega arith
+named_signal net name some = grind (arith, position-Some (bytes_eq name) (signal_names net), length-signal_names net)
 
 has_output : (net : Parts) (name : List ℕ) → IsNetlist net → is_output net name ≡ true → 0 < count net
 has_output net name valid e = by net.outputs refl (sym (list_any-map (bytes_eq name) (name_of net) net.outputs) ∙ e)
@@ -121,10 +95,7 @@ has_source : (net : Parts) (latch : Latch) → IsNetlist net → has_latch net l
 has_source net latch valid e = by (latch_named net latch.name) refl e
   where
     by : (o : Option Latch) → latch_named net latch.name ≡ o → option_map_or (λ (other : Latch). init_eq latch.init other.init) o false ≡ true → IsSignal net (option_map_or (λ (l : Latch). l.from) o (signal 0))
-    by None found h = cc
-    by (Some l) found h =
-        let at : slice_get net.latches (position_or_len (λ (m : Latch). bytes_eq latch.name m.name) net.latches) ≡ Some l = sym (find_at (λ (m : Latch). bytes_eq latch.name m.name) net.latches) ∙ found in
-        subst (λ (m : Latch). IsSignal net m.from) (get_or_from_slice_get net.latches _ l l at) (valid.sources _ l (slice_get_within net.latches _ l at))
+    by o found h = grind (arith, find_at, get_or_from_slice_get, slice_get_within)
 
 module _ (a b : Parts) (valid_a : IsNetlist a) (valid_b : IsNetlist b) (match_ : Match a b) where
   pub pairs_for : All (IsPairFor a b) (output_pairs a b ++ latch_pairs a b)
@@ -147,13 +118,7 @@ module _ (a b : Parts) (valid_a : IsNetlist a) (valid_b : IsNetlist b) (match_ :
 
 -- of known values
 pub apart_is_different : (x y : Trit) → x ≢ X → y ≢ X → are_apart x y ≡ are_different x y
-apart_is_different X y h k = absurd (h refl)
-apart_is_different Zero X h k = absurd (k refl)
-apart_is_different One X h k = absurd (k refl)
-apart_is_different Zero Zero h k = refl
-apart_is_different Zero One h k = refl
-apart_is_different One Zero h k = refl
-apart_is_different One One h k = refl
+apart_is_different x y h k = grind arith
 
 module _ (a b : Parts) (more : List Gate) (valid_a : IsNetlist a) (valid_b : IsNetlist b) (match_ : Match a b) (v : List Bool) (wide : length v ≡ columns a)
     (known_a : AreDetermined a v (gate_sigs a)) (known_b : AreDetermined b (by_name a b v) (gate_sigs b)) where
@@ -172,10 +137,7 @@ module _ (a b : Parts) (more : List Gate) (valid_a : IsNetlist a) (valid_b : IsN
       ∙ apart_is_different (wire (fix a (bits v)) pair.here) (wire (fix b (bits (by_name a b v))) pair.there) (known_here pair.here here) (known_there pair.there there)
 
   pub apart_same : some_is_apart (joined a b more) (joined_pairs a b) v ≡ differs a b v
-  apart_same =
-      list_any-map (is_apart_at (joined a b more) v) (moved_pair_by (columns_by_name a b) (count a)) (output_pairs a b ++ latch_pairs a b)
-      ∙ any_agree (λ pair. is_apart_at (joined a b more) v (moved_pair_by (columns_by_name a b) (count a) pair)) (differs_at a b v) (output_pairs a b ++ latch_pairs a b)
-      (λ k d l. pair_same (get_or (output_pairs a b ++ latch_pairs a b) k d) (pairs_for a b valid_a valid_b match_ k d l))
+  apart_same = grind (arith, list_any-map (is_apart_at (joined a b more) v) (moved_pair_by (columns_by_name a b) (count a)) (output_pairs a b ++ latch_pairs a b), any_agree, pair_same, pairs_for a b valid_a valid_b match_)
 
   -- the signals of both are known there
   first_known : (s : Sig) → IsSignal a s → wire (fix (joined a b more) (bits v)) s ≢ X
@@ -189,13 +151,7 @@ module _ (a b : Parts) (more : List Gate) (valid_a : IsNetlist a) (valid_b : IsN
       (wire (fix (joined a b more) (bits v)) (get_or (joined_pairs a b) k d).here ≢ X) × (wire (fix (joined a b more) (bits v)) (get_or (joined_pairs a b) k d).there ≢ X)
   pair_known k d l =
       let pairs = output_pairs a b ++ latch_pairs a b in
-      let m = length-map pairs (moved_pair_by (columns_by_name a b) (count a)) in
-      let less : k < length pairs = omega arith in
-      let is = pairs_for a b valid_a valid_b match_ k d less in
-      let at : get_or (joined_pairs a b) k d ≡ moved_pair_by (columns_by_name a b) (count a) (get_or pairs k d) = get_or-map (moved_pair_by (columns_by_name a b) (count a)) pairs k d d less in (
-        subst (λ (p : Pair). wire (fix (joined a b more) (bits v)) p.here ≢ X) (sym at) (first_known (get_or pairs k d).here is.here),
-        subst (λ (p : Pair). wire (fix (joined a b more) (bits v)) p.there ≢ X) (sym at) (second_known (get_or pairs k d).there is.there),
-      )
+      grind (arith, length-map pairs (moved_pair_by (columns_by_name a b) (count a)), pairs_for a b valid_a valid_b match_ k d, get_or-map (moved_pair_by (columns_by_name a b) (count a)) pairs k d d, first_known (get_or pairs k d).here, second_known (get_or pairs k d).there)
 
   -- and so are the gates of both netlists
   pub gate_known : (n : ℕ) → n < length a.gates + length b.gates → wire (fix (joined a b more) (bits v)) (gate_sig (joined a b more) n) ≢ X
@@ -209,9 +165,4 @@ module _ (a b : Parts) (more : List Gate) (valid_a : IsNetlist a) (valid_b : IsN
   ]
 
 pub moved_within : (a b : Parts) (more : List Gate) → Match a b → (s : Sig) → IsSignal b s → IsSignal (joined a b more) (moved a b s)
-moved_within a b more match_ s inside =
-    let e = length-joined a b more in
-    elim (cases_lt s.0 (columns b)) [
-      | inl low ↦ let w = table_within a b match_ s.0 low in subst (IsSignal (joined a b more)) (sym (moved_low a b s low)) (omega arith)
-      | inr high ↦ subst (IsSignal (joined a b more)) (sym (moved_high a b s high)) (omega arith)
-    ]
+moved_within a b more match_ s inside = grind (arith, length-joined a b more, cases_lt s.0 (columns b), table_within a b match_ s.0, moved_low a b s, moved_high a b s)

@@ -24,32 +24,8 @@ unfolding IsDistinct
 nothing_twice = tt
 
 pub valid-bare : (net : Parts) → IsNetlist net → IsNetlist (bare net)
-valid-bare net valid =
-    let first = first-bare net in
-    record {
-      fits = let f = valid.fits in omega (arith, first, f);
-      pins = λ k d l i e m. let p = valid.pins k d l i e m in omega (arith, first, p);
-      sources = λ k d l. absurd (omega (arith, l));
-      outputs = λ k d l. absurd (omega (arith, l));
-      pin_counts = valid.pin_counts;
-      name = valid.name;
-      names = subst (All IsBlifName) (names-bare net) valid.names;
-      names_differ = subst (IsDistinct bytes_eq) (names-bare net) valid.names_differ;
-      outputs_differ = nothing_twice;
-      clocked = refl;
-      clock = tt;
-    }
+valid-bare net valid = grind (arith, first-bare net, names-bare net, nothing_twice)
 
 -- it stands where the netlist stands
 pub part-of-bare : (net big : Parts) (at : Sig → Sig) (place : ℕ → ℕ) → IsPartOf net big at place → IsPartOf (bare net) big at place
-part-of-bare net big at place part =
-    let first = first-bare net in
-    record {
-      few = part.few;
-      within = part.within;
-      covers = part.covers;
-      pins = part.pins;
-      gates = λ s l i.
-          part.gates s (omega (arith, first, l)) (omega (arith, first, i)) ∙ ap (λ (n : ℕ). first_gate big + place (s.0 - n)) (sym first);
-      column = λ s l. part.column s (omega (arith, first, l));
-    }
+part-of-bare net big at place part = grind (arith, first-bare net)

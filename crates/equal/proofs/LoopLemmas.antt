@@ -34,15 +34,12 @@ outputs_more own i s d old new distinct inside is before after =
 -- the name of an output, by its place
 named_output : (net : Parts) (i : ℕ) (d : Sig) (name : List ℕ) → i < length net.outputs → slice_get (signal_names net) (get_or net.outputs i d).0 ≡ Some name → slice_get (output_names net) i ≡ Some name
 named_output net i d name inside is =
-    let m = length-map net.outputs (name_of net) in
-    slice_get-get_or (output_names net) i [] (omega arith)
-    ∙ ap (λ (n : List ℕ). Some n) (get_or-map (name_of net) net.outputs i d [] inside ∙ get_or_from_slice_get (signal_names net) (get_or net.outputs i d).0 name [] is)
+    grind (arith, length-map net.outputs (name_of net), slice_get-get_or (output_names net) i [], get_or-map (name_of net) net.outputs i d [] inside, get_or_from_slice_get (signal_names net) (get_or net.outputs i d).0 name [] is)
 
 module _ (net other : Parts) (own : List Sig) (is_own : own ≡ net.outputs) (i : ℕ) (s d : Sig) (name : List ℕ) (inside : i < length own) (is : s ≡ get_or own i d)
     (named : slice_get (signal_names net) s.0 ≡ Some name) (before : find (λ n. not (is_output other n)) (take i (output_names net)) ≡ None) where
   at : slice_get (output_names net) i ≡ Some name
-  at = named_output net i d name (subst (λ (xs : List Sig). i < length xs) is_own inside)
-      (ap (λ (t : Sig). slice_get (signal_names net) t.0) (sym (is ∙ ap (λ (xs : List Sig). get_or xs i d) is_own)) ∙ named)
+  at = grind (arith, named_output net i d name)
 
   pub output_next : is_output other name ≡ true → find (λ n. not (is_output other n)) (take (i + 1) (output_names net)) ≡ None
   output_next there = find_next (λ n. not (is_output other n)) (output_names net) i name before at (ap not there)

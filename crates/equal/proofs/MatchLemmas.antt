@@ -55,31 +55,20 @@ pub column_is : (net : Parts) (name : List ℕ) (c : ℕ) → column_of net name
 column_is net name c is = let p = position-Some (bytes_eq name) (column_names net) c [] is in sym (bytes_eq-true name (get_or (column_names net) c []) p.1)
 
 pub has_column : (net : Parts) (name : List ℕ) (c : ℕ) → column_of net name ≡ Some c → HasColumn net name
-has_column net name c is = record {
-  column = c;
-  is = is;
-  inside = column_within net name c is;
-  named = column_is net name c is;
-}
+has_column net name c is = grind (arith, column_within net name c is, column_is net name c is)
 
 pub column_there : (net : Parts) (name : List ℕ) → list_any (bytes_eq name) (column_names net) ≡ true → HasColumn net name
 column_there net name any = by (column_of net name) refl
   where
     by : (o : Option ℕ) → column_of net name ≡ o → HasColumn net name
-    by (Some c) e = has_column net name c e
-    by None e =
-        absurd (true≢false (sym any ∙ list_any_none (bytes_eq name) (column_names net) (none_found (bytes_eq name) (column_names net) e)))
+    by o e = grind (arith, has_column, true≢false, list_any_none, none_found)
 
 -- a latch that is there has a column
 is_there : (o : Option Latch) → option_map_or (λ (latch : Latch). true) o false ≡ true → not (is_none o) ≡ true
-is_there None e = e
-is_there (Some latch) e = refl
+is_there o e = grind arith
 
 pub latch_any : (name : List ℕ) (latches : List Latch) → option_map_or (λ (latch : Latch). true) (find (λ latch. bytes_eq name latch.name) latches) false ≡ true → list_any (bytes_eq name) (map latch_name latches) ≡ true
-latch_any name latches e =
-    list_any-map (bytes_eq name) latch_name latches
-    ∙ any-find (λ latch. bytes_eq name latch.name) latches
-    ∙ is_there (find (λ latch. bytes_eq name latch.name) latches) e
+latch_any name latches e = grind (arith, list_any-map (bytes_eq name) latch_name latches, any-find, is_there)
 
 input_column : (net : Parts) (name : List ℕ) → is_input net name ≡ true → HasColumn net name
 input_column net name e =
@@ -118,10 +107,7 @@ module _ (a b : Parts) (match_ : Match a b) where
   table_at c l = get_or-map (column_named a) (column_names b) c [] 0 (subst (λ n. c < n) (sym (length-column_names b)) l)
 
   pub table_within : (c : ℕ) → c < columns b → get_or (columns_by_name a b) c 0 < columns a
-  table_within c l =
-      let h = column_in_a c l in
-      let inside = h.inside in
-      subst (λ n. n < columns a) (sym (table_at c l ∙ ap number_or_0 h.is)) inside
+  table_within c l = grind (arith, column_in_a c l, table_at c l)
 
 pub length-table : (a b : Parts) → length (columns_by_name a b) ≡ columns b
 length-table a b = length-map (column_names b) (column_named a) ∙ length-column_names b
@@ -137,13 +123,7 @@ by_name_at a b v c l = get_or-map (λ column. get_or v column false) (columns_by
 
 -- a column that a model reads, in both netlists
 value_named : (a b : Parts) (v : List Bool) (name : List ℕ) (c e : ℕ) → column_of a name ≡ Some c → column_of b name ≡ Some e → get_or (by_name a b v) e false ≡ get_or v c false
-value_named a b v name c e in_a in_b =
-    let inside = column_within b name e in_b in
-    let named = column_is b name e in_b in
-    by_name_at a b v e inside
-    ∙ ap (λ k. get_or v k false)
-    (get_or-map (column_named a) (column_names b) e [] 0 (subst (λ n. e < n) (sym (length-column_names b)) inside)
-    ∙ ap (column_named a) named ∙ ap number_or_0 in_a)
+value_named a b v name c e in_a in_b = grind (arith, column_within b name e in_b, column_is b name e in_b, by_name_at a b v e, get_or-map (column_named a) (column_names b) e [] 0, length-column_names b)
 
 -- a column of a state, counted from the first latch
 state_at : (v : List Bool) (first c : ℕ) → first ≤ c → get_or (drop first v) (c - first) false ≡ get_or v c false
@@ -188,21 +168,14 @@ part_same a b v first_a first_b (Some m) (Some n) bound_m bound_n e = holds_same
 
 pub care_by_name : (a b : Parts) (care_a care_b : CareSet) (v : List Bool) → IsCareOf a care_a → IsCareOf b care_b → HaveOneSource care_a care_b → is_care_vector b care_b (by_name a b v) ≡ is_care_vector a care_a v
 care_by_name a b care_a care_b v is_a is_b one =
-    sym (ap₂ (λ x y. x && y)
-    (part_same a b v (length a.inputs) (length b.inputs) care_a.invariant care_b.invariant is_a.invariant is_b.invariant one.invariant)
-    (part_same a b v 0 0 care_a.assume care_b.assume is_a.assume is_b.assume one.assume))
+    grind (arith, part_same a b v (length a.inputs) (length b.inputs) care_a.invariant care_b.invariant is_a.invariant is_b.invariant one.invariant, part_same a b v 0 0 care_a.assume care_b.assume is_a.assume is_b.assume one.assume)
 
 pub length_by_name_is : (a b : Parts) (v named : List Bool) → named ≡ by_name a b v → length named ≡ columns b
 length_by_name_is a b v named is = ap length is ∙ length-by_name a b v
 
 -- the name of a column, by its number
 pub column_taken : {T : Type 0} (net : Parts) (f : List ℕ → T) (i : ℕ) (name : List ℕ) → i < columns net → slice_get (signal_names net) i ≡ Some name → map f (take (i + 1) (column_names net)) ≡ map f (take i (column_names net)) ++ f name ∷ []
-column_taken net f i name l is =
-    let e = length-column_names net in
-    let split : signal_names net ≡ column_names net ++ map (λ gate. gate.name) net.gates = sym (append_assoc net.inputs (map latch_name net.latches) (map (λ gate. gate.name) net.gates)) in
-    ap (map f)
-    (taken_first (column_names net) (map (λ gate. gate.name) net.gates) i name (omega arith) (ap (λ names. slice_get names i) (sym split) ∙ is))
-    ∙ map-append f (take i (column_names net)) (name ∷ [])
+column_taken net f i name l is = grind (arith, length-column_names net, append_assoc net.inputs (map latch_name net.latches), taken_first (column_names net), map-append f (take i (column_names net)) (name ∷ []))
 
 -- the name of a signal, and that of an input
 pub named : (net : Parts) (s : Sig) (name : List ℕ) → slice_get (signal_names net) s.0 ≡ Some name → name_of net s ≡ name

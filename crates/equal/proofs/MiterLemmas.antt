@@ -14,27 +14,13 @@ use Rattle.equal.proofs.JoinLemmas.{length-moved, length-joined}
 -- ---- the covers
 
 link_is : (p : Bool) (x y : Trit) → x ≢ X → y ≢ X → ext link_cover (bit p ∷ x ∷ y ∷ []) ≡ bit (p || are_apart x y)
-link_is p X y h k = absurd (h refl)
-link_is p Zero X h k = absurd (k refl)
-link_is p One X h k = absurd (k refl)
-link_is true Zero Zero h k = refl
-link_is true Zero One h k = refl
-link_is true One Zero h k = refl
-link_is true One One h k = refl
-link_is false Zero Zero h k = refl
-link_is false Zero One h k = refl
-link_is false One Zero h k = refl
-link_is false One One h k = refl
+link_is p x y h k = grind arith
 
 both_zero : (y : Trit) → ext both_cover (Zero ∷ y ∷ []) ≡ Zero
-both_zero Zero = refl
-both_zero One = refl
-both_zero X = refl
+both_zero y = grind arith
 
 both_unknown : (x : Trit) → Below x One → ext both_cover (x ∷ X ∷ []) ≡ X
-both_unknown X below = refl
-both_unknown One below = refl
-both_unknown Zero below = cc
+both_unknown x below = grind arith
 
 any_take : {A : Type 0} (p : A → Bool) (xs : List A) (i : ℕ) (d : A) → i < length xs → list_any p (take (suc i) xs) ≡ (list_any p (take i xs) || p (get_or xs i d))
 any_take p xs i d l = ap (λ n. list_any p (take n xs)) (let e : suc i ≡ i + 1 = omega arith in e) ∙ list_any_more p xs i d l
@@ -69,22 +55,15 @@ module _ (a b : Parts) (pairs : List Pair) where
   length-net = let x = length-joined a b told in let y = length-told in omega arith
 
   gate_is : (j : ℕ) → gate_at net (place j) ≡ get_or told j no_gate
-  gate_is j =
-      get_or-append-add a.gates (moved_gates a b ++ told) (first + j) no_gate
-      ∙ get_or-append_right (moved_gates a b) told first (first + j) no_gate (length-moved a b) (omega arith)
-      ∙ ap (λ k. get_or told k no_gate) (let e : (first + j) - first ≡ j = omega arith in e)
+  gate_is j = grind (arith, get_or-append-add a.gates (moved_gates a b ++ told) (first + j) no_gate, get_or-append_right (moved_gates a b) told first (first + j) no_gate (length-moved a b), length-moved a b)
 
   link_at : (i : ℕ) → i < length pairs → gate_at net (place (suc i)) ≡ link_gate a first pairs i
   link_at i l =
-      let y = length-map-range_with_len (link_gate a first pairs) 0 (length pairs) in
-      gate_is (suc i)
-      ∙ get_or_append_left links (last_gate a first (length pairs) ∷ []) no_gate i (omega arith)
-      ∙ get_or-map-range_with_len (link_gate a first pairs) 0 (length pairs) i i no_gate l (omega arith)
+      grind (arith, length-map-range_with_len (link_gate a first pairs) 0 (length pairs), gate_is (suc i), get_or_append_left links (last_gate a first (length pairs) ∷ []) no_gate i, get_or-map-range_with_len (link_gate a first pairs) 0 (length pairs) i i no_gate l)
 
   teller_at : gate_at net (place (suc (length pairs))) ≡ last_gate a first (length pairs)
   teller_at =
-      gate_is (suc (length pairs))
-      ∙ get_or_at links (last_gate a first (length pairs)) [] no_gate (length pairs) (length-map-range_with_len (link_gate a first pairs) 0 (length pairs))
+      grind (arith, gate_is (suc (length pairs)), get_or_at links (last_gate a first (length pairs)) [] no_gate (length pairs) (length-map-range_with_len (link_gate a first pairs) 0 (length pairs)), length-map-range_with_len (link_gate a first pairs) 0 (length pairs))
 
   module _ (v : List Bool) (wide : length v ≡ columns a) where
     abbrev w : List Trit
@@ -98,9 +77,7 @@ module _ (a b : Parts) (pairs : List Pair) where
 
     -- what the state of the gates says of a gate's signal
     gate_of_state : (s : List Trit) (n : ℕ) → wire (wires w s) (gate_sig net n) ≡ get_or s n X
-    gate_of_state s n =
-        wire_of_gate w s (columns net) (columns net + n) wide_w (omega arith)
-        ∙ ap (λ k. get_or s k X) (let e : (columns net + n) - columns net ≡ n = omega arith in e)
+    gate_of_state s n = grind (arith, wire_of_gate w s (columns net) (columns net + n) wide_w, wide_w)
 
     value_is : (n : ℕ) → n < length net.gates → now (gate_sig net n) ≡ gate_value (fix net w) (gate_at net n)
     value_is n l = gate_of_state (fix_gates net w) n ∙ get_or-fix net w n l
@@ -111,19 +88,11 @@ module _ (a b : Parts) (pairs : List Pair) where
     module _ (known : (k : ℕ) (d : Pair) → k < length pairs → (now (get_or pairs k d).here ≢ X) × (now (get_or pairs k d).there ≢ X)) where
       -- each link has an answer on the pairs up to its own
       chain : (i : ℕ) → i ≤ length pairs → now (gate_sig net (place i)) ≡ bit (list_any (is_apart_at net v) (take i pairs))
-      chain zero l =
-          let e = length-net in
-          value_is (place zero) (omega arith)
-          ∙ ap (gate_value (fix net w)) (gate_is zero)
+      chain zero l = grind (arith, length-net, value_is (place zero), gate_is zero)
       chain (suc i) l =
           let e = length-net in
           let k = known i no_pair (omega arith) in
-          value_is (place (suc i)) (omega arith)
-          ∙ ap (gate_value (fix net w)) (link_at i (omega arith))
-          ∙ ap (λ x. ext link_cover (x ∷ now (get_or pairs i no_pair).here ∷ now (get_or pairs i no_pair).there ∷ []))
-          (ap now (sig_is i) ∙ chain i (omega arith))
-          ∙ link_is (list_any (is_apart_at net v) (take i pairs)) (now (get_or pairs i no_pair).here) (now (get_or pairs i no_pair).there) k.0 k.1
-          ∙ ap bit (sym (any_take (is_apart_at net v) pairs i no_pair (omega arith)))
+          grind (arith, value_is (place (suc i)), link_at i, sig_is i, chain i, link_is (list_any (is_apart_at net v) (take i pairs)) (now (get_or pairs i no_pair).here) (now (get_or pairs i no_pair).there) k.0 k.1, any_take (is_apart_at net v) pairs i no_pair)
 
       pub link_known : (i : ℕ) → i ≤ length pairs → now (gate_sig net (place i)) ≢ X
       link_known i l e = bit-known (list_any (is_apart_at net v) (take i pairs)) (sym (chain i l) ∙ e)
@@ -136,12 +105,7 @@ module _ (a b : Parts) (pairs : List Pair) where
 
       -- where no pair differs, the last gate is 0
       known_teller : some_is_apart net pairs v ≡ false → now teller ≡ Zero
-      known_teller none =
-          let e = length-net in
-          value_is (place (suc (length pairs))) (omega arith)
-          ∙ ap (gate_value (fix net w)) teller_at
-          ∙ ap (λ x. ext both_cover (x ∷ now (signal (count a + suc (first + length pairs))) ∷ [])) (ap now (sig_is (length pairs)) ∙ last_link ∙ ap bit none)
-          ∙ both_zero (now (signal (count a + suc (first + length pairs))))
+      known_teller none = grind (arith, length-net, value_is (place (suc (length pairs))), teller_at, sig_is (length pairs), last_link, both_zero (now (signal (count a + suc (first + length pairs)))))
 
       -- where one does, it is unknown after each step
       unknown_step : some_is_apart net pairs v ≡ true → (k : ℕ) → get_or (steps net w k) (place (suc (length pairs))) X ≡ X
@@ -161,8 +125,4 @@ module _ (a b : Parts) (pairs : List Pair) where
           ∙ both_unknown (get_or (steps net w k) (place (length pairs)) X) below
 
       pub teller_is : is_x (now teller) ≡ some_is_apart net pairs v
-      teller_is = by (some_is_apart net pairs v) refl
-        where
-          by : (t : Bool) → some_is_apart net pairs v ≡ t → is_x (now teller) ≡ some_is_apart net pairs v
-          by true e = ap is_x (gate_of_state (fix_gates net w) (place (suc (length pairs))) ∙ unknown_step e (length net.gates)) ∙ sym e
-          by false e = ap is_x (known_teller e) ∙ sym e
+      teller_is = grind (arith, gate_of_state (fix_gates net w) (place (suc (length pairs))), unknown_step, known_teller)

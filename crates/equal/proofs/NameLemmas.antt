@@ -14,11 +14,7 @@ use Rattle.care_sets.proofs.NameLemmas.{others_differ, place_of}
 
 -- where an item passes and none before it does
 pub find_is : {A : Type 0} (p : A → Bool) (xs : List A) (i : ℕ) (x : A) → slice_get xs i ≡ Some x → ((k : ℕ) (d : A) → k < i → p (get_or xs k d) ≡ false) → p x ≡ true → find p xs ≡ Some x
-find_is p xs i x is before passes =
-    let inside = slice_get_within xs i x is in
-    find_at p xs
-    ∙ ap (slice_get xs) (position_or_len_is p xs i x (omega arith) (λ k l. before k x l) (λ l. ap p (get_or_from_slice_get xs i x x is) ∙ passes))
-    ∙ is
+find_is p xs i x is before passes = grind (arith, slice_get_within xs i x is, find_at p xs, position_or_len_is p xs i x, get_or_from_slice_get xs i x x is)
 
 pub find_nowhere : {A : Type 0} (p : A → Bool) (xs : List A) → ((k : ℕ) (d : A) → k < length xs → p (get_or xs k d) ≡ false) → find p xs ≡ None
 find_nowhere p [] none = refl
@@ -36,17 +32,10 @@ any_agree p q [] h = refl
 any_agree p q (x ∷ xs) h = ap₂ (λ s t. s || t) (h zero x (omega arith)) (any_agree p q xs (λ k d l. h (suc k) d (omega arith)))
 
 pub find_next : {A : Type 0} (p : A → Bool) (xs : List A) (i : ℕ) (x : A) → find p (take i xs) ≡ None → slice_get xs i ≡ Some x → p x ≡ false → find p (take (i + 1) xs) ≡ None
-find_next p xs i x none is fails =
-    ap (find p) (take_more xs i x (slice_get_within xs i x is) ∙ ap (λ y. take i xs ++ y ∷ []) (get_or_from_slice_get xs i x x is))
-    ∙ find-append p (take i xs) (x ∷ [])
-    ∙ ap (λ o. option_or o (find p (x ∷ []))) none
-    ∙ ap (λ t. cond t (Some x) None) fails
+find_next p xs i x none is fails = grind (arith, take_more xs i x (slice_get_within xs i x is), slice_get_within xs i x is, get_or_from_slice_get xs i x x is, find-append p (take i xs) (x ∷ []))
 
 pub find_here : {A : Type 0} (p : A → Bool) (xs : List A) (i : ℕ) (x : A) → find p (take i xs) ≡ None → slice_get xs i ≡ Some x → p x ≡ true → find p xs ≡ Some x
-find_here p xs i x none is =
-    let inside = slice_get_within xs i x is in
-    let len = length-take-le i xs (omega arith) in
-    find_is p xs i x is (λ k d l. ap p (sym (get_or-take i xs k d l)) ∙ nowhere_find p (take i xs) none k d (omega arith))
+find_here p xs i x none is = grind (arith, slice_get_within xs i x is, length-take-le i xs, find_is p xs i x is, get_or-take i xs, nowhere_find p (take i xs) none)
 
 -- ---- names
 
@@ -57,16 +46,13 @@ input_at net k l = get_or_append_left net.inputs (driven_names net) [] k l
 pub latch_at : (net : Parts) (k : ℕ) (d : Latch) → k < length net.latches → get_or (signal_names net) (length net.inputs + k) [] ≡ (get_or net.latches k d).name
 latch_at net k d l =
     let m = length-map net.latches (λ (latch : Latch). latch.name) in
-    get_or-append-add net.inputs (driven_names net) k []
-    ∙ get_or_append_left (map (λ (latch : Latch). latch.name) net.latches) (map (λ (gate : Gate). gate.name) net.gates) [] k (omega arith)
-    ∙ get_or-map (λ (latch : Latch). latch.name) net.latches k d [] l
+    grind (arith, get_or-append-add net.inputs (driven_names net) k [], get_or_append_left, get_or-map)
 
 found_is : (net : Parts) (name : List ℕ) (s : ℕ) → slice_get (signal_names net) s ≡ Some name → get_or (signal_names net) s [] ≡ name
 found_is net name s found = get_or_from_slice_get (signal_names net) s name [] found
 
 pub input_found : (net : Parts) (name : List ℕ) (s : ℕ) → IsNetlist net → slice_get (signal_names net) s ≡ Some name → s < length net.inputs → is_input net name ≡ true
-input_found net name s valid found inside =
-    list_any_at (bytes_eq name) net.inputs s [] inside (bytes_eq-same name (get_or net.inputs s []) (sym (found_is net name s found) ∙ input_at net s inside))
+input_found net name s valid found inside = grind (arith, list_any_at (bytes_eq name) net.inputs s [] inside, bytes_eq-same name (get_or net.inputs s []), found_is net name s found, input_at net s inside)
 
 pub input_behind : (net : Parts) (name : List ℕ) (s : ℕ) → IsNetlist net → slice_get (signal_names net) s ≡ Some name → length net.inputs ≤ s → is_input net name ≡ false
 input_behind net name s valid found behind =
@@ -82,23 +68,10 @@ pub latch_found : (net : Parts) (name : List ℕ) (s : ℕ) (latch : Latch) → 
     slice_get net.latches (s - length net.inputs) ≡ Some latch → latch_named net name ≡ Some latch
 latch_found net name s latch valid found behind is =
     let i : ℕ = s - length net.inputs in
-    let e : length net.inputs + i ≡ s = omega arith in
-    let within : i < length net.latches = slice_get_within net.latches i latch is in
-    find_is (λ (l : Latch). bytes_eq name l.name) net.latches i latch is
-    (λ k d l.
-    let n = length-signal_names net in
-    ap (bytes_eq name) (sym (latch_at net k d (omega arith))) ∙ others_differ (signal_names net) name s (length net.inputs + k) valid.names_differ found (omega arith) (omega arith))
-    (bytes_eq-same name latch.name (sym (found_is net name s found) ∙ ap (λ k. get_or (signal_names net) k []) (sym e) ∙ latch_at net i latch within ∙ ap (λ (l : Latch). l.name) (get_or_from_slice_get net.latches i latch latch is)))
+    grind (arith, slice_get_within net.latches i latch is, find_is, length-signal_names net, latch_at net, others_differ (signal_names net) name s, bytes_eq-same name latch.name, found_is net name s found, latch_at net i latch, get_or_from_slice_get net.latches i latch latch is)
 
 latch_elsewhere : (net : Parts) (name : List ℕ) (s : ℕ) → IsNetlist net → slice_get (signal_names net) s ≡ Some name → (s < length net.inputs) ⊎ (length net.inputs + length net.latches ≤ s) → latch_named net name ≡ None
-latch_elsewhere net name s valid found outside =
-    find_nowhere (λ (l : Latch). bytes_eq name l.name) net.latches (λ k d l.
-    let n = length-signal_names net in
-    ap (bytes_eq name) (sym (latch_at net k d l)) ∙ others_differ (signal_names net) name s (length net.inputs + k) valid.names_differ found (omega arith) (by outside k l))
-  where
-    by : (s < length net.inputs) ⊎ (length net.inputs + length net.latches ≤ s) → (k : ℕ) → k < length net.latches → length net.inputs + k ≢ s
-    by (inl l) k m e = absurd (omega arith)
-    by (inr l) k m e = absurd (omega arith)
+latch_elsewhere net name s valid found outside = grind (arith, find_nowhere, length-signal_names net, latch_at net, others_differ (signal_names net) name s)
 
 pub latch_before : (net : Parts) (name : List ℕ) (s : ℕ) → IsNetlist net → slice_get (signal_names net) s ≡ Some name → s < length net.inputs → latch_named net name ≡ None
 latch_before net name s valid found l = latch_elsewhere net name s valid found (inl l)
@@ -115,17 +88,7 @@ latch_absent net name absent =
 -- an output by its name
 pub output_found : (net : Parts) (name : List ℕ) (s : ℕ) → IsNetlist net → slice_get (signal_names net) s ≡ Some name → list_any (sig_eq (signal s)) net.outputs ≡ is_output net name
 output_found net name s valid found =
-    any_agree (sig_eq (signal s)) (λ t. bytes_eq name (name_of net t)) net.outputs (λ k d l.
-    same (get_or net.outputs k d) (valid.outputs k d l))
-    ∙ sym (list_any-map (bytes_eq name) (name_of net) net.outputs)
-  where
-    same : (t : Sig) → IsSignal net t → sig_eq (signal s) t ≡ bytes_eq name (name_of net t)
-    same t inside =
-        let n = length-signal_names net in
-        elim (cases_eq s t.0) [
-          | inl e ↦ eq-eqb s t.0 e ∙ sym (bytes_eq-same name (name_of net t) (sym (found_is net name s found) ∙ ap (λ k. get_or (signal_names net) k []) e))
-          | inr ne ↦ ne_eqb s t.0 ne ∙ sym (others_differ (signal_names net) name s t.0 valid.names_differ found (omega arith) (λ e. ne (sym e)))
-        ]
+    grind (arith, any_agree (sig_eq (signal s)), list_any-map (bytes_eq name) (name_of net) net.outputs, length-signal_names net, cases_eq s, eq-eqb s, bytes_eq-same name, found_is net name s found, ne_eqb s, others_differ (signal_names net) name s)
 
 pub output_absent : (net : Parts) (name : List ℕ) → IsNetlist net → list_any (bytes_eq name) (signal_names net) ≡ false → is_output net name ≡ false
 output_absent net name valid absent =
@@ -148,15 +111,10 @@ column_absent net name absent = ap number_or_0 (binding.column_absent net name a
 -- a signal by its name
 pub signal_place : (net : Parts) (name : List ℕ) (s : ℕ) → IsNetlist net → slice_get (signal_names net) s ≡ Some name → Some s ≡ position (bytes_eq name) (signal_names net)
 signal_place net name s valid found =
-    let within : s < length (signal_names net) = slice_get_within (signal_names net) s name found in
-    place_of (bytes_eq name) (signal_names net) s
-    (position_or_len_is (bytes_eq name) (signal_names net) s [] (omega arith)
-    (λ k lt. others_differ (signal_names net) name s k valid.names_differ found (omega arith) (omega arith))
-    (λ _. bytes_eq-same name (get_or (signal_names net) s []) (sym (found_is net name s found)))) within
+    grind (arith, slice_get_within (signal_names net) s name found, place_of (bytes_eq name) (signal_names net) s, position_or_len_is (bytes_eq name) (signal_names net) s [], others_differ (signal_names net) name s, bytes_eq-same name (get_or (signal_names net) s []), found_is net name s found)
 
 pub signal_found : (net : Parts) (name : List ℕ) (s : ℕ) → IsNetlist net → slice_get (signal_names net) s ≡ Some name → signal s ≡ signal_named net name
 signal_found net name s valid found = ap (λ o. signal (number_or_0 o)) (signal_place net name s valid found)
 
 pub signal_absent : (net : Parts) (name : List ℕ) → list_any (bytes_eq name) (signal_names net) ≡ false → signal 0 ≡ signal_named net name
-signal_absent net name absent =
-    ap (λ o. signal (number_or_0 o)) (sym (found_none (bytes_eq name) (signal_names net) [] (λ k d l. nowhere_any (bytes_eq name) (signal_names net) absent k d l)))
+signal_absent net name absent = grind (arith, found_none (bytes_eq name) (signal_names net) [], nowhere_any (bytes_eq name) (signal_names net) absent)

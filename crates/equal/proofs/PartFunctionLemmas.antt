@@ -36,8 +36,7 @@ filter_split p s m n =
 
 filter_none : (p : ℕ → Bool) (s n : ℕ) → ((k : ℕ) → s ≤ k → k < s + n → p k ≡ false) → length (filter p (range_with_len s n)) ≡ 0
 filter_none p s zero none = refl
-filter_none p s (suc n) none =
-    rw (none s (omega arith) (omega arith)) (filter_none p (s + 1) n (λ k low high. none k (omega (arith, low)) (omega (arith, high))))
+filter_none p s (suc n) none = grind (arith, filter_none p (s + 1) n)
 
 filter_shift : (p q : ℕ → Bool) (s t n : ℕ) → ((k : ℕ) → k < n → p (s + k) ≡ q (t + k)) → length (filter p (range_with_len s n)) ≡ length (filter q (range_with_len t n))
 filter_shift p q s t zero same = refl
@@ -79,21 +78,10 @@ module _ (big small : Parts) (at : Sig → Sig) (place : ℕ → ℕ) (base : �
   outside_long = length-map (column_signals small) at ∙ length-map-range_with_len signal 0 (first_gate small)
 
   outside_at : (k : ℕ) (d : Sig) → k < first_gate small → get_or outside k d ≡ at (signal k)
-  outside_at k d less =
-      let wide = length-map-range_with_len signal 0 (first_gate small) in
-      get_or-map at (column_signals small) k (signal 0) d (omega (arith, wide, less))
-      ∙ ap at (get_or-map-range_with_len signal 0 (first_gate small) k k (signal 0) less (omega arith))
+  outside_at k d less = grind (arith, length-map-range_with_len signal 0 (first_gate small), get_or-map, get_or-map-range_with_len signal 0 (first_gate small) k k (signal 0) less)
 
   columns_apart : (s : Sig) → Contains outside s → ¬ Contains (map (gate_sig big) gates) s
-  columns_apart s one two =
-      let wide = outside_long in
-      let less : one.0 < first_gate small = let l = one.1 in omega (arith, l, wide) in
-      let low = part.column (signal one.0) less in
-      let here = ap (λ (t : Sig). t.0) (sym (outside_at one.0 s less) ∙ one.2) in
-      let m = length-map gates (gate_sig big) in
-      let inside : two.0 < length gates = let l = two.1 in omega (arith, l, m) in
-      let there = ap (λ (t : Sig). t.0) (sym (get_or-map (gate_sig big) gates two.0 0 s inside) ∙ two.2) in
-      omega (arith, low, here, there)
+  columns_apart s one two = grind (arith, outside_long, outside_at one.0 s, length-map gates (gate_sig big), get_or-map (gate_sig big) gates two.0 0 s)
 
   origin_is : (s : Sig) → IsSignal small s → origin (origins big outside gates) s ≡ at s
   origin_is s inside =
@@ -182,10 +170,7 @@ module _ (big small : Parts) (at : Sig → Sig) (place : ℕ → ℕ) (base : �
 
   -- no gate outside is in a loop of one of them
   loops_apart : (i m : ℕ) → i < size → (IsInside m → ⊥) → (loops_of big).same (place i) m ≡ false
-  loops_apart i m less out =
-      let row = in_row i in
-      false_from_ne_true ((loops_of big).same (place i) m)
-      (λ e. out (loop_closed (place i) m (omega (arith, row), omega (arith, row, less)) (((loops_exist big).same (place i) m).0 e)))
+  loops_apart i m less out = grind (arith, false_from_ne_true ((loops_of big).same (place i) m), loop_closed (place i) m, loops_exist big)
 
   module _ (v : List Trit) (width : length v ≡ first_gate big) where
     abbrev inputs : List Trit
@@ -198,17 +183,13 @@ module _ (big small : Parts) (at : Sig → Sig) (place : ℕ → ℕ) (base : �
     inside_gates i less = let n = length-range_with_len base size in omega (arith, n, less)
 
     same_at : (i j : ℕ) → i < size → j < size → (loops_of small).same i j ≡ (loops_of big).same (place i) (place j)
-    same_at i j il jl =
-        let k = keeps in
-        k.same i j (inside_gates i il) (inside_gates j jl) ∙ ap₂ (loops_of big).same (in_gates i il) (in_gates j jl)
+    same_at i j il jl = grind (arith, keeps, inside_gates i il, inside_gates j jl, in_gates i il, in_gates j jl)
 
     cut_at : (i : ℕ) → i < size → (loops_of small).cut i ≡ (loops_of big).cut (place i)
     cut_at i il = let k = keeps in k.cut i (inside_gates i il) ∙ ap (loops_of big).cut (in_gates i il)
 
     sweeps_at : (k i : ℕ) → i < size → value_in (sweeps small (loops_of small) inputs k) i ≡ value_in (sweeps big (loops_of big) v k) (place i)
-    sweeps_at k i il =
-        let h = keeps in
-        h.sweeps k i (inside_gates i il) ∙ ap (value_in (sweeps big (loops_of big) v k)) (in_gates i il)
+    sweeps_at k i il = grind (arith, keeps, inside_gates i il, in_gates i il)
 
     -- ---- what a gate reads
 
@@ -269,8 +250,7 @@ module _ (big small : Parts) (at : Sig → Sig) (place : ℕ → ℕ) (base : �
         ap q (let e : 0 + k ≡ k = omega arith in e) ∙ ap₂ (λ x y. x && y) (same_at i k less l) (cut_at k l) ∙ ap p (let e : place k ≡ 0 + base + k = omega (arith, row_k) in e)) in
         let one_split = filter_split p 0 base (size + rest) in
         let two_split = filter_split p (0 + base) size rest in
-        ap (λ (n : ℕ). length (filter p (range_with_len 0 n))) (let e : length big.gates ≡ base + (size + rest) = omega (arith, last, row, less) in e)
-        ∙ one_split ∙ omega (arith, two_split, first_none, last_none, middle)
+        grind arith
 
   -- ---- so they read alike
 
@@ -310,14 +290,7 @@ module _ (big small : Parts) (at : Sig → Sig) (place : ℕ → ℕ) (base : �
 
 -- a netlist stands in itself
 itself : (net : Parts) → IsPartOf net net (λ s. s) (λ n. n)
-itself net = record {
-  few = omega arith;
-  within = λ n l. l;
-  covers = λ n l. refl;
-  pins = λ n l. sym (map-id (gate_at net n).pins);
-  gates = λ s l i. omega arith;
-  column = λ s l. l;
-}
+itself net = grind (arith, map-id)
 
 -- with its latches taken as inputs it is an excerpt of both
 pub reads_alike : (big small : Parts) (at : Sig → Sig) (place : ℕ → ℕ) (base : ℕ) → ((n : ℕ) → place n ≡ base + n) → IsPartOf small big at place → IsNetlist small → ReadsAlike big small at place
@@ -358,10 +331,7 @@ module _ (big small : Parts) (at : Sig → Sig) (place : ℕ → ℕ) (part : Is
 
   g_says : (v : List Bool) (read : List Trit) → whole_part.read v ≡ read → g v ≡ says read
   unfolding says
-  g_says v read e =
-      whole_part.same v
-      ∙ ap₂ (λ (cover : Cover) (ts : List Trit). is_bit whole_part.bit (exact (λ rest. value cover (whole_part.first ++ rest)) (drop (length whole_part.first) ts)))
-      (ap (λ (m : ℕ). (gate_at big m).cover) is_at ∙ part.covers i less) e
+  g_says v read e = grind arith
 
   looped : (loops_of small).same i i ≡ (loops_of big).same whole_part.gate whole_part.gate
   looped = alike.same i i less less ∙ ap₂ (loops_of big).same (sym is_at) (sym is_at)

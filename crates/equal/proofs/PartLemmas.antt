@@ -17,23 +17,10 @@ module _ (small big : Parts) (at : Sig → Sig) (place : ℕ → ℕ) (part : Is
     (v w : List Trit) (wide_v : length v ≡ columns small) (wide_w : length w ≡ columns big)
     (same : (s : Sig) → s.0 < columns small → get_or w (at s).0 X ≡ get_or v s.0 X) where
   wire_at : (s t : List Trit) → ((n : ℕ) → n < length small.gates → get_or t (place n) X ≡ get_or s n X) → (x : Sig) → IsSignal small x → wire (wires w t) (at x) ≡ wire (wires v s) x
-  wire_at s t gates x inside = elim (cases_lt x.0 (columns small)) [
-    | inl low ↦
-        get_or_append_left w t X (at x).0 (subst (λ n. (at x).0 < n) (sym wide_w) (part.column x low))
-        ∙ same x low
-        ∙ sym (get_or_append_left v s X x.0 (subst (λ n. x.0 < n) (sym wide_v) low))
-    | inr high ↦
-        let e : (at x).0 ≡ columns big + place (x.0 - columns small) = part.gates x high inside in
-        wire_of_gate w t (columns big) (at x).0 wide_w (omega (arith, e))
-        ∙ ap (λ n. get_or t n X) (let f : (at x).0 - columns big ≡ place (x.0 - columns small) = omega (arith, e) in f)
-        ∙ gates (x.0 - columns small) (omega (arith, inside, high))
-        ∙ sym (wire_of_gate v s (columns small) x.0 wide_v high)
-  ]
+  wire_at s t gates x inside = grind (arith, cases_lt x.0 (columns small), get_or_append_left w t X (at x).0, get_or_append_left v s X x.0, wire_of_gate w t (columns big) (at x).0 wide_w, wire_of_gate v s (columns small) x.0 wide_v)
 
   steps_at : (k n : ℕ) → n < length small.gates → get_or (steps big w k) (place n) X ≡ get_or (steps small v k) n X
-  steps_at zero n l =
-      get_or-replicate (length big.gates) (place n) X X (part.within n l)
-      ∙ sym (get_or-replicate (length small.gates) n X X l)
+  steps_at zero n l = grind (arith, get_or-replicate (length big.gates) (place n) X X (part.within n l), get_or-replicate (length small.gates) n X X l)
   steps_at (suc k) n l =
       get_or-step big w (steps big w k) (place n) (part.within n l)
       ∙ ap₂ (λ (c : Cover) (xs : List Trit). ext c xs) (part.covers n l)
@@ -44,5 +31,4 @@ module _ (small big : Parts) (at : Sig → Sig) (place : ℕ → ℕ) (part : Is
       ∙ sym (get_or-step small v (steps small v k) n l)
 
   pub fix_at : (x : Sig) → IsSignal small x → wire (fix big w) (at x) ≡ wire (fix small v) x
-  fix_at = wire_at (fix_gates small v) (fix_gates big w)
-      (λ n l. steps_at (length big.gates) n l ∙ ap (λ s. get_or s n X) (fix_is_reached small v (length big.gates) part.few))
+  fix_at = grind (arith, wire_at (fix_gates small v) (fix_gates big w), steps_at (length big.gates), fix_is_reached small v (length big.gates) part.few)

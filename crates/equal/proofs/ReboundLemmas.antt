@@ -12,18 +12,12 @@ use Rattle.equal.proofs.MatchLemmas.{Match, matched, HasColumn, column_among, co
 
 -- a latch that has a latch's name and init has its name
 has_is : (net : Parts) (latch : Latch) → has_latch net latch ≡ true → is_latch net latch.name ≡ true
-has_is net latch e = by (latch_named net latch.name) e
-  where
-    by : (o : Option Latch) → option_map_or (λ (other : Latch). init_eq latch.init other.init) o false ≡ true → option_map_or (λ (other : Latch). true) o false ≡ true
-    by None h = h
-    by (Some other) h = refl
+has_is net latch e = grind arith
 
 module _ (a b : Parts) (match_ : Match a b) where
   -- the column of a name that is one of a
   again : (name : List ℕ) (c : ℕ) → column_of a name ≡ Some c → HasColumn b name
-  again name c is =
-      subst (HasColumn b) (column_is a name c is)
-      (column_among b a match_.inputs_ab (λ k d l. has_is b (get_or a.latches k d) (match_.latches_ab k d l)) c (column_within a name c is))
+  again name c is = grind (arith, column_is a name c is, column_among b a match_.inputs_ab, has_is b, column_within a name c is)
 
   -- that of a latch is one of a latch
   latch_again : (name : List ℕ) (c e : ℕ) → column_of a name ≡ Some c → length a.inputs ≤ c → column_of b name ≡ Some e → length b.inputs ≤ e
@@ -33,10 +27,7 @@ module _ (a b : Parts) (match_ : Match a b) where
   ]
     where
       input : e < length b.inputs → is_input a name ≡ true
-      input early =
-          subst (λ n. is_input a n ≡ true)
-          (sym (get_or_append_left b.inputs (map latch_name b.latches) [] e early) ∙ column_is b name e in_b)
-          (match_.inputs_ba e [] early)
+      input early = grind (arith, get_or_append_left b.inputs (map latch_name b.latches) [] e early, column_is b name e in_b)
 
       no_input : is_input a name ≡ false
       no_input =
@@ -67,20 +58,7 @@ names_again a b match_ first_a first_b keeps (name ∷ names) (x ∷ xs) e late 
     let column = again a b match_ name x here in
     let behind : first_b ≤ column.column = keeps name x column.column here (late zero x (omega arith)) column.is in
     let not_before : nat_lt column.column first_b ≡ false = grind (arith, behind) in
-    record {
-      known = ap₂ (λ (o : Option ℕ) rest. cond (is_none o) (Some name) rest) column.is rest.known;
-      late =
-          ap₂ (λ (o : Option ℕ) rest. cond (option_map_or (λ c. nat_lt c first_b) o false) (Some name) rest) column.is rest.late
-          ∙ ap (λ t. cond t (Some name) None) not_before;
-      named = ap₂ (λ (o : Option ℕ) rest. o ∷ rest) (ap (λ o. Some (number_or_0 o)) column.is ∙ sym column.is) rest.named;
-      behind = λ k d l. by k d l (ap number_or_0 column.is) behind rest.behind;
-    }
-  where
-    by : {n : ℕ} (k d : ℕ) → k < length (map (column_named b) (name ∷ names)) → column_named b name ≡ n → first_b ≤ n
-        → ((i d : ℕ) → i < length (map (column_named b) names) → first_b ≤ get_or (map (column_named b) names) i d)
-        → first_b ≤ get_or (map (column_named b) (name ∷ names)) k d
-    by zero d l is le more = subst (λ m. first_b ≤ m) (sym is) le
-    by (suc k) d l is le more = more k d (omega arith)
+    grind arith
 
 -- a model that is bound to a is bound to b so
 binds_again : (a b : Parts) → Match a b → (first_a first_b : ℕ) → Keeps a b first_a first_b → (model : CareModel) → IsBoundTo a first_a model → IsCareModel model
@@ -94,53 +72,38 @@ binds_again a b match_ first_a first_b keeps model bound valid =
 any_again : (a b : Parts) → Match a b → (first_a first_b : ℕ) → Keeps a b first_a first_b → (model : Option CareModel) → IfSome model (IsBoundTo a first_a) → IfSome model IsCareModel
     → IfSome (model_of model) (HasNoFault b first_b) × IfSome (option_map (bound_to b first_b) model) (IsBoundTo b first_b)
 any_again a b match_ first_a first_b keeps None bound valid = (tt, tt)
-any_again a b match_ first_a first_b keeps (Some model) bound valid =
-    let binds = binds_again a b match_ first_a first_b keeps model bound valid in
-    (binds.passes, binds.to)
+any_again a b match_ first_a first_b keeps (Some model) bound valid = grind (arith, binds_again a b match_ first_a first_b keeps model bound valid)
 
 all_kept : (a b : Parts) → Keeps a b 0 0
 all_kept a b name c e in_a late in_b = omega arith
 
 pub assume_again : (a b : Parts) (care : CareSet) (model : Option Parts) → unmatched a b ≡ None → IsCareOf a care → IsCare care → model ≡ model_of care.assume
     → IfSome model (HasNoFault b 0)
-assume_again a b care model none is valid same =
-    subst (λ (m : Option Parts). IfSome m (HasNoFault b 0)) (sym same) (any_again a b (matched a b none) 0 0 (all_kept a b) care.assume is.assume valid.assume).0
+assume_again a b care model none is valid same = grind (arith, any_again a b (matched a b none) 0 0 (all_kept a b) care.assume is.assume valid.assume, matched a b none, all_kept a b)
 
 pub invariant_again : (a b : Parts) (care : CareSet) (model : Option Parts) → unmatched a b ≡ None → IsCareOf a care → IsCare care → model ≡ model_of care.invariant
     → IfSome model (HasNoFault b (length b.inputs))
 invariant_again a b care model none is valid same =
-    subst (λ (m : Option Parts). IfSome m (HasNoFault b (length b.inputs))) (sym same)
-    (any_again a b (matched a b none) (length a.inputs) (length b.inputs) (latch_again a b (matched a b none)) care.invariant is.invariant valid.invariant).0
+    grind (arith, any_again a b (matched a b none) (length a.inputs) (length b.inputs) (latch_again a b (matched a b none)) care.invariant is.invariant valid.invariant, matched a b none, latch_again a b (matched a b none))
 
 -- so it is the care set of b
 pub rebound_is_care : (a b : Parts) (care : CareSet) → unmatched a b ≡ None → IsCareOf a care → IsCare care → IsCareOf b (rebound b care)
-rebound_is_care a b care none is valid = record {
-  assume = (any_again a b (matched a b none) 0 0 (all_kept a b) care.assume is.assume valid.assume).1;
-  invariant =
-      (any_again a b (matched a b none) (length a.inputs) (length b.inputs) (latch_again a b (matched a b none)) care.invariant is.invariant valid.invariant).1;
-}
+rebound_is_care a b care none is valid =
+    grind (arith, any_again a b (matched a b none) 0 0 (all_kept a b) care.assume is.assume valid.assume, matched a b none, all_kept a b, any_again a b (matched a b none) (length a.inputs) (length b.inputs) (latch_again a b (matched a b none)) care.invariant is.invariant valid.invariant, latch_again a b (matched a b none))
 
 -- ---- models without a fault have no first fault
 
 pub without_fault : (net : Parts) (a i : Option Parts) (fault : CareFault) → IfSome a (HasNoFault net 0) → IfSome i (HasNoFault net (length net.inputs))
     → (is_some a || is_some i) ≡ true → (fault ≡ Memory) ⊎ IsFirstFault net a i fault → fault ≡ Memory
-without_fault net a i fault sound_a sound_i some (inl is) = is
-without_fault net a i fault sound_a sound_i some (inr (inl lacks)) = absurd (none_there a i lacks.no_assume lacks.no_invariant some)
-without_fault net a i fault sound_a sound_i some (inr (inr (inl fails))) = absurd (passing net 0 a fault sound_a fails)
-without_fault net a i fault sound_a sound_i some (inr (inr (inr fails))) = absurd (passing net (length net.inputs) i fault sound_i fails.invariant_fails)
+without_fault net a i fault sound_a sound_i some h = grind arith
 
 -- ---- what binding makes
 
 none_bound : (net : Parts) (first : ℕ) (model : Option Parts) (bound : Option CareModel) → model ≡ None → bound ≡ None → BindsAny net first model bound
-none_bound net first None None e f = tt
-none_bound net first None (Some bound) e f = cc
-none_bound net first (Some model) bound e f = cc
+none_bound net first model bound e f = grind arith
 
 pub binds_none : (net : Parts) (a i : Option Parts) (care : CareSet) → a ≡ None → i ≡ None → care.assume ≡ None → care.invariant ≡ None → BindsEach net a i care
-binds_none net a i care no_a no_i no_assume no_invariant = record {
-  assume = none_bound net 0 a care.assume no_a no_assume;
-  invariant = none_bound net (length net.inputs) i care.invariant no_i no_invariant;
-}
+binds_none net a i care no_a no_i no_assume no_invariant = grind arith
 
 pub binds_both : (net : Parts) (a i : Option Parts) (care : CareSet) → BindsBoth net a i care → BindsEach net a i care
 binds_both net a i care both = record { assume = both.assume; invariant = both.invariant }
@@ -149,40 +112,21 @@ columns_told : (net : Parts) (names : List (List ℕ)) (xs : List ℕ) → map S
 columns_told net [] [] is = refl
 columns_told net [] (x ∷ xs) is = cc
 columns_told net (name ∷ names) [] is = cc
-columns_told net (name ∷ names) (x ∷ xs) is =
-    let here : Some x ≡ column_of net name = cc in
-    let there : map Some xs ≡ map (column_of net) names = cc in
-    ap₂ (λ y ys. y ∷ ys) (ap number_or_0 here) (columns_told net names xs there)
+columns_told net (name ∷ names) (x ∷ xs) is = grind (arith, columns_told net names xs)
 
 one_told : (net : Parts) (first : ℕ) (model : CareModel) (bound : CareModel) → Binds net first model.net bound → bound ≡ bound_to net first model
-one_told net first model bound binds =
-    let names : map Some bound.columns ≡ map (column_of net) model.net.inputs =
-    binds.to.names.named ∙ ap (λ (m : Parts). map (column_of net) m.inputs) binds.kept in
-    same bound.net bound.first bound.columns binds.kept binds.to.start (columns_told net model.net.inputs bound.columns names)
-  where
-    same : (n : Parts) (f : ℕ) (xs : List ℕ) → n ≡ model.net → f ≡ first → xs ≡ map (column_named net) model.net.inputs
-        → record { net = n; first = f; columns = xs } ≡ bound_to net first model
-    same n f xs e g h = rw (e, g, h) refl
+one_told net first model bound binds = grind (arith, columns_told)
 
 any_told : (net : Parts) (first : ℕ) (model bound : Option CareModel) → BindsAny net first (model_of model) bound → bound ≡ option_map (bound_to net first) model
-any_told net first None None binds = refl
-any_told net first None (Some bound) binds = absurd binds
-any_told net first (Some model) None binds = absurd binds
-any_told net first (Some model) (Some bound) binds = ap (λ m. Some m) (one_told net first model bound binds)
+any_told net first model bound binds = grind (arith, one_told)
 
 pub rebound_told : (net : Parts) (care other : CareSet) (a i : Option Parts) → a ≡ model_of care.assume → i ≡ model_of care.invariant
     → BindsEach net a i other → other ≡ rebound net care
-rebound_told net care other a i is_a is_i binds =
-    ap₂ (λ (x y : Option CareModel). record { assume = x; invariant = y })
-    (any_told net 0 care.assume other.assume (subst (λ (m : Option Parts). BindsAny net 0 m other.assume) is_a binds.assume))
-    (any_told net (length net.inputs) care.invariant other.invariant (subst (λ (m : Option Parts). BindsAny net (length net.inputs) m other.invariant) is_i binds.invariant))
+rebound_told net care other a i is_a is_i binds = grind (arith, any_told net 0 care.assume other.assume, any_told net (length net.inputs) care.invariant other.invariant)
 
 -- both care sets are of the same models
 one_source : (net : Parts) (first : ℕ) (model : Option CareModel) → model_of model ≡ model_of (option_map (bound_to net first) model)
-one_source net first None = refl
-one_source net first (Some model) = refl
+one_source net first model = grind arith
 
 pub rebound_source : (net : Parts) (care other : CareSet) → other ≡ rebound net care → HaveOneSource care other
-rebound_source net care other is =
-    subst (λ (c : CareSet). HaveOneSource care c) (sym is)
-    (record { assume = one_source net 0 care.assume; invariant = one_source net (length net.inputs) care.invariant })
+rebound_source net care other is = grind arith

@@ -92,11 +92,7 @@ moved_numbered a b valid_b i l =
         let wide = length-column_names b in
         let all = length-names b in
         let many = length-map b.gates (λ (gate : Gate). gate.name) in
-        subst IsBlifName
-        (ap₂ (λ names n. get_or names (n + i) []) (names_split b) (sym wide)
-        ∙ get_or-append-add (column_names b) (names_of b.gates) i []
-        ∙ get_or-map (λ (gate : Gate). gate.name) b.gates i no_gate [] l)
-        (valid_b.names (columns b + i) [] (omega arith))
+        grind (arith, names_split b, get_or-append-add (column_names b) (names_of b.gates) i [], get_or-map)
 
 -- those of the gates that tell
 numbered_one : (a : Parts) → IsNetlist a → (n k : ℕ) → n ≡ k → AreNumbered a k (more_name a n ∷ [])
@@ -157,15 +153,10 @@ module _ (a b : Parts) (valid_a : IsNetlist a) (valid_b : IsNetlist b) (none : u
   added_numbered =
       let y = length-map (moved_gates a b) (λ (gate : Gate). gate.name) in
       let z = length-moved a b in
-      subst (AreNumbered a 0) (sym (map-append (λ (gate : Gate). gate.name) (moved_gates a b) more))
-      (numbered_append a 0 (names_of (moved_gates a b)) (names_of more) (moved_numbered a b valid_b)
-      (subst (λ n. AreNumbered a n (names_of more)) (let e : length b.gates ≡ 0 + length (names_of (moved_gates a b)) = omega arith in e) numbered))
+      grind (arith, map-append, numbered_append a 0 (names_of (moved_gates a b)) (names_of more) (moved_numbered a b valid_b), moved_numbered a b valid_b)
 
   names_are : signal_names net ≡ signal_names a ++ added
-  names_are =
-      ap (λ xs. a.inputs ++ (map (λ (latch : Latch). latch.name) a.latches ++ xs)) (map-append (λ (gate : Gate). gate.name) a.gates (moved_gates a b ++ more))
-      ∙ ap (λ xs. a.inputs ++ xs) (sym (append_assoc (map (λ (latch : Latch). latch.name) a.latches) (names_of a.gates) added))
-      ∙ sym (append_assoc a.inputs (driven_names a) added)
+  names_are = grind (arith, map-append, append_assoc, append_assoc a.inputs (driven_names a) added)
 
   added_long : AllByRecursion (λ name. longest_run_in a < longest_run name) added
   added_long = numbered_long a 0 added added_numbered
@@ -187,14 +178,7 @@ module _ (a b : Parts) (valid_a : IsNetlist a) (valid_b : IsNetlist b) (none : u
 
   moved_sound : All (IsSound net) (moved_gates a b)
   moved_sound k d l =
-      let z = length-moved a b in
-      let less : k < length b.gates = omega arith in
-      subst (IsSound net)
-      (sym (get_or-map-range_with_len (moved_gate_by (columns_by_name a b) (count a) (mark a) b) 0 (length b.gates) k k d less (omega arith)))
-      (record {
-        pins = All-map (IsSignal net) (moved a b) (gate_at b k).pins (λ i e m. moved_within a b more (matched a b none) (get_or (gate_at b k).pins i e) (valid_b.pins k no_gate less i e m));
-        counted = length-map (gate_at b k).pins (moved a b) ∙ valid_b.pin_counts k no_gate less;
-      })
+      grind (arith, length-moved a b, get_or-map-range_with_len (moved_gate_by (columns_by_name a b) (count a) (mark a) b) 0 (length b.gates) k k d, All-map (IsSignal net) (moved a b) (gate_at b k).pins, moved_within a b more (matched a b none), matched a b none, length-map (gate_at b k).pins (moved a b))
 
   own_sound : All (IsSound net) a.gates
   own_sound k d l = record {
@@ -215,23 +199,10 @@ module _ (a b : Parts) (valid_a : IsNetlist a) (valid_b : IsNetlist b) (none : u
       (sym (list_any-map (bytes_eq name) (λ (gate : Gate). gate.name) (moved_gates a b ++ more)) ∙ short_is_none (longest_run_in a) name added short added_long))
 
   clock_kept : (o : Option Clock) → longest_run_of (option_map_or (λ (clock : Clock). clock.name ∷ []) o []) ≤ longest_run_in a → IfSome o (λ clock. IsClockName a clock.name) → IfSome o (λ clock. IsClockName net clock.name)
-  clock_kept None short h = h
-  clock_kept (Some clock) short h = record { blif = h.blif; named = h.named; undriven = still_undriven clock.name (omega arith) h.undriven }
+  clock_kept o short h = grind (arith, still_undriven)
 
   pub joined_is_netlist : IsNetlist net
-  joined_is_netlist = record {
-    fits = let e = length-net in omega arith;
-    pins = λ k d l. (all_sound k d l).pins;
-    sources = λ k d l. signal_kept (get_or a.latches k d).from (valid_a.sources k d l);
-    outputs = λ k d l. absurd (omega arith);
-    pin_counts = λ k d l. (all_sound k d l).counted;
-    name = valid_a.name;
-    names = names_fit;
-    names_differ = names_differ;
-    outputs_differ = nothing_twice;
-    clocked = valid_a.clocked;
-    clock = clock_kept a.clock (let whole = longest-append (signal_names a) (clock_names a) in omega arith) valid_a.clock;
-  }
+  joined_is_netlist = grind (arith, length-net, all_sound, signal_kept, names_fit, names_differ, nothing_twice, clock_kept a.clock, longest-append (signal_names a) (clock_names a))
 
 -- ---- the gates of the miter
 
@@ -250,24 +221,19 @@ module _ (a b : Parts) (pairs : List Pair) where
 
   link_sound : All (IsPairOf (joined a b own_gates)) pairs → (i : ℕ) → i < length pairs → IsSound (joined a b own_gates) (link_gate a first pairs i)
   link_sound are i l =
-      let e = count_miter in
       let pair = are i no_pair l in
       let here : IsHere (get_or pairs i no_pair).here = pair.here in
       let there : IsHere (get_or pairs i no_pair).there = pair.there in
       let before = signal (count a + (first + i)) in
       let one = (get_or pairs i no_pair).here in
       let other = (get_or pairs i no_pair).there in
-      record {
-        pins = All-cons IsHere before (one ∷ other ∷ []) (omega arith) (All-cons IsHere one (other ∷ []) here (All-cons IsHere other [] there (All-nil IsHere)));
-        counted = refl;
-      }
+      grind (arith, count_miter, All-cons IsHere before (one ∷ other ∷ []), All-cons IsHere one (other ∷ []) here (All-cons IsHere other [] there (All-nil IsHere)), All-cons IsHere other [] there (All-nil IsHere), All-nil IsHere)
 
   last_sound : IsSound (joined a b own_gates) (last_gate a first (length pairs))
   last_sound =
-      let e = count_miter in
       let link = signal (count a + (first + length pairs)) in
       let last = signal (count a + suc (first + length pairs)) in
-      record { pins = All-cons IsHere link (last ∷ []) (omega arith) (All-cons IsHere last [] (omega arith) (All-nil IsHere)); counted = refl }
+      grind (arith, count_miter, All-cons IsHere link (last ∷ []), All-cons IsHere last [], All-nil IsHere)
 
   miter_sound : All (IsPairOf (joined a b own_gates)) pairs → All (IsSound (joined a b own_gates)) own_gates
   miter_sound are =
@@ -285,8 +251,7 @@ module _ (a b : Parts) (pairs : List Pair) where
 
 -- the joined netlist alone, and the miter
 pub joined_valid : (a b : Parts) → IsNetlist a → IsNetlist b → unmatched a b ≡ None → count a + length b.gates ≤ 4294967295 → IsNetlist (joined a b [])
-joined_valid a b valid_a valid_b none fits =
-    joined_is_netlist a b valid_a valid_b none [] (omega arith) (λ i l. absurd (omega arith)) (λ k d l. absurd (omega arith))
+joined_valid a b valid_a valid_b none fits = grind (arith, joined_is_netlist a b valid_a valid_b none [])
 
 pub miter_valid : (a b : Parts) → IsNetlist a → IsNetlist b → unmatched a b ≡ None → count a + suc (length b.gates + length (joined_pairs a b)) ≤ 4294967294 → IsNetlist (miter a b)
 miter_valid a b valid_a valid_b none fits =

@@ -1,4 +1,4 @@
-use Rattle.std.proofs.Common.{◌≡◌, None, Some, sym, subst, ◌∙◌}
+use Rattle.std.proofs.Common.{◌≡◌, None, Some, sym, subst, ◌∙◌, arith}
 use Rattle.equal.proofs.Common.{IfOk, Answer}
 use Rattle.equal.proofs.CompareLemmas.{difference_wide, told_of}
 use Rattle.equal.proofs.comparing.compare_accepted.Goals as goal
@@ -7,9 +7,7 @@ pub at_difference-requires : goal.at_difference-requires
 at_difference-requires c = difference_wide c.args.a.now c.args.b.now c.args.care.now c.in-Some.vector (sym c.in_ok-vector.ensures.found ∙ c.in-Some.is)
 
 pub returns-in-Some-clause-answer : goal.returns-in-Some-clause-answer
-returns-in-Some-clause-answer c =
-    subst (λ (told : Answer). IfOk c.at_difference.result (λ answer. answer ≡ told))
-    (told_of c.args.a.now c.args.b.now c.args.care.now (Some c.in-Some.vector) (sym c.in-Some.is ∙ c.in_ok-vector.ensures.found)) c.at_difference.ensures.answer
+returns-in-Some-clause-answer c = grind arith
 
 pub returns-in-None-clause-answer : goal.returns-in-None-clause-answer
 returns-in-None-clause-answer c = told_of c.args.a.now c.args.b.now c.args.care.now None (sym c.in-None.is ∙ c.in_ok-vector.ensures.found)

@@ -1,4 +1,4 @@
-use Rattle.std.proofs.Common.{rules, subst, sym, ◌∙◌}
+use Rattle.std.proofs.Common.{rules, subst, sym, ◌∙◌, arith}
 use Rattle.equal.proofs.Common.{CareSet, Matched, Compares, rebound}
 use Rattle.equal.specs.Compared.{matched_netlists}
 use Rattle.equal.proofs.CompareLemmas.{told_unmatched}
@@ -6,8 +6,7 @@ use Rattle.equal.proofs.ReboundLemmas.{rebound_source}
 use Rattle.equal.proofs.comparing.compare_by_name.Goals as goal
 
 pub returns-in-Some-clause-answer : goal.returns-in-Some-clause-answer
-returns-in-Some-clause-answer c =
-    told_unmatched c.args.a.now c.args.care.now c.args.b.now (rebound c.args.b.now c.args.care.now) c.in-Some.name (sym c.in-Some.is ∙ c.in_ok-name.ensures)
+returns-in-Some-clause-answer c = grind arith
 
 pub new-matched-requires-clause-source : goal.new-matched-requires-clause-source
 new-matched-requires-clause-source c = rebound_source c.args.b.now c.args.care.now c.in_ok-other-in-None.other c.in_ok-other-in-None.ensures.same

@@ -7,7 +7,4 @@ loop-number-preserved c =
     let n = c.loop-number.number in
     let f = moved_gate_by c.args.columns.now c.args.first c.args.mark.now c.args.b.now in
     let old = c.args.gates.now.items in
-    c.in_ok-push.ensures.items
-    ∙ ap₂ (λ xs x. xs ++ x ∷ []) c.loop-number.invariant c.in_ok-moved_gate.ensures
-    ∙ append_assoc old (map f (range_with_len 0 n)) (f n ∷ [])
-    ∙ ap (λ xs. old ++ xs) (sym (map-range_with_len_more f 0 n n (omega arith)))
+    grind (arith, append_assoc old (map f (range_with_len 0 n)) (f n ∷ []), map-range_with_len_more f 0 n n)

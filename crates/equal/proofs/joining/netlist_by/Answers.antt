@@ -1,10 +1,6 @@
-use Rattle.std.proofs.Common.{◌≡◌, inl, inr, None, Some, sym, ◌∙◌}
+use Rattle.std.proofs.Common.{◌≡◌, inl, inr, None, Some, sym, ◌∙◌, arith}
 use Rattle.netlist.proofs.Validity.{no_fault_of_netlist}
 use Rattle.equal.proofs.joining.netlist_by.Goals as goal
 
 pub want_of_memory-requires : goal.want_of_memory-requires
-want_of_memory-requires c =
-    elim c.in-Err.ensures.fault [
-      | inl e ↦ e
-      | inr e ↦ (let h : None ≡ Some c.in-Err.fault = sym (no_fault_of_netlist _ c.requires) ∙ e in cc)
-    ]
+want_of_memory-requires c = grind (arith, no_fault_of_netlist _ c.requires)

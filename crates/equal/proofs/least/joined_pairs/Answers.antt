@@ -1,4 +1,4 @@
-use Rattle.std.proofs.Common.{◌+◌, ◌-◌, ◌≤◌, ◌++◌, List, length, All, subst, sym, ◌∙◌}
+use Rattle.std.proofs.Common.{◌+◌, ◌-◌, ◌≤◌, ◌++◌, List, length, All, subst, sym, ◌∙◌, arith}
 use Rattle.equal.proofs.Common.{Pair, output_pairs, latch_pairs}
 use Rattle.equal.proofs.CompareLemmas.{pairs_fit}
 use Rattle.equal.proofs.least.joined_pairs.Goals as goal
@@ -8,6 +8,4 @@ moved_pairs-requires c =
     let a = c.args.a.now in
     let b = c.args.b.now in
     let table = c.args.columns.now in
-    subst (λ (pairs : List Pair). All (λ pair. c.count.result + (pair.there.0 - length c.args.columns.now) ≤ 4294967295) pairs) (sym (c.deref.ensures.value ∙ c.in_ok-own.ensures))
-    (subst (λ n. All (λ pair. n + (pair.there.0 - length c.args.columns.now) ≤ 4294967295) (output_pairs c.args.a.now c.args.b.now ++ latch_pairs c.args.a.now c.args.b.now)) (sym c.count.ensures.count)
-    (pairs_fit a b c.laws.ensures.valid c.laws-2.ensures.valid c.requires.matched table 4294967295 c.requires.columns c.requires.fits))
+    grind (arith, pairs_fit a b c.laws.ensures.valid c.laws-2.ensures.valid c.requires.matched table 4294967295 c.requires.columns c.requires.fits)

@@ -1,4 +1,4 @@
-use Rattle.std.proofs.Common.{not, ap, sym, ◌∙◌}
+use Rattle.std.proofs.Common.{not, ap, sym, ◌∙◌, arith}
 use Rattle.equal.proofs.Common.{Latch, has_latch}
 use Rattle.equal.proofs.NameLemmas.{find_next, find_here}
 use Rattle.equal.proofs.matching.first_other_latch.Goals as goal
@@ -9,6 +9,4 @@ loop-number-preserved c =
     (ap not (sym c.has_latch.ensures ∙ c.if-not-has_latch.false))
 
 pub returns-then-not-has_latch : goal.returns-then-not-has_latch
-returns-then-not-has_latch c =
-    sym (find_here (λ (item : Latch). not (has_latch c.args.other.now item)) c.args.net.now.latches c.loop-number.number c.latch-latch.result.now c.loop-number.invariant c.latch-latch.ensures.latch
-    (ap not (sym c.has_latch.ensures ∙ c.if-not-has_latch.true)))
+returns-then-not-has_latch c = grind (arith, find_here)

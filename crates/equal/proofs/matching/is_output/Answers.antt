@@ -1,10 +1,7 @@
-use Rattle.std.proofs.Common.{ap, ◌∙◌}
+use Rattle.std.proofs.Common.{ap, ◌∙◌, arith}
 use Rattle.equal.proofs.Common.{list_any, sig_eq}
 use Rattle.equal.proofs.NameLemmas.{output_found}
 use Rattle.equal.proofs.matching.is_output.Goals as goal
 
 pub returns-in-Some : goal.returns-in-Some
-returns-in-Some c =
-    c.contains.ensures
-    ∙ ap (list_any (sig_eq c.in-Some.signal)) c.requires
-    ∙ output_found c.args.net.now c.args.name.now c.in-Some.signal.0 c.find.ensures.valid c.in-Some.ensures.found
+returns-in-Some c = grind (arith, output_found c.args.net.now c.args.name.now c.in-Some.signal.0 c.find.ensures.valid c.in-Some.ensures.found)

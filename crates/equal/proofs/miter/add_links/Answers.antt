@@ -7,7 +7,4 @@ loop-place-preserved c =
     let n = c.loop-place.place in
     let f = link_gate c.args.a.now c.args.number c.args.pairs.now in
     let old = c.args.gates.now.items in
-    c.in_ok-push.ensures.items
-    ∙ ap₂ (λ xs x. xs ++ x ∷ []) c.loop-place.invariant c.in_ok-link_gate.ensures
-    ∙ append_assoc old (map f (range_with_len 0 n)) (f n ∷ [])
-    ∙ ap (λ xs. old ++ xs) (sym (map-range_with_len_more f 0 n n (omega arith)))
+    grind (arith, append_assoc old (map f (range_with_len 0 n)) (f n ∷ []), map-range_with_len_more f 0 n n)

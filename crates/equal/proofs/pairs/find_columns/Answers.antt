@@ -6,6 +6,4 @@ use Rattle.equal.proofs.pairs.find_columns.Goals as goal
 pub loop-number-preserved : goal.loop-number-preserved
 loop-number-preserved c =
     let l : c.loop-number.number < columns c.args.b.now = omega arith in
-    c.in_ok-push.ensures.items
-    ∙ ap₂ (λ xs x. xs ++ x ∷ []) c.loop-number.invariant c.column_in.ensures
-    ∙ sym (column_taken c.args.b.now (column_named c.args.a.now) c.loop-number.number c.name_of.result.now l c.name_of.ensures.name)
+    grind (arith, column_taken c.args.b.now (column_named c.args.a.now) c.loop-number.number c.name_of.result.now l c.name_of.ensures.name)

@@ -1,17 +1,13 @@
-use Rattle.std.proofs.Common.{sym, subst, ◌∙◌}
+use Rattle.std.proofs.Common.{sym, subst, ◌∙◌, arith}
 use Rattle.equal.proofs.Common.{IfOk-weaker, IsCareOf, CareSet}
 use Rattle.equal.proofs.ReboundLemmas.{assume_again, invariant_again, rebound_is_care, rebound_told}
 use Rattle.equal.proofs.rebinding.rebind.Goals as goal
 
 pub bind_models-requires-clause-assume : goal.bind_models-requires-clause-assume
-bind_models-requires-clause-assume c =
-    assume_again c.args.a.now c.args.b.now c.args.care.now c.in_ok-assume.assume c.requires.matched c.requires.care c.assume.ensures.valid
-    (c.in_ok-assume.ensures ∙ c.assume.ensures.net)
+bind_models-requires-clause-assume c = grind (arith, assume_again c.args.a.now c.args.b.now c.args.care.now c.in_ok-assume.assume c.requires.matched c.requires.care c.assume.ensures.valid)
 
 pub bind_models-requires-clause-invariant : goal.bind_models-requires-clause-invariant
-bind_models-requires-clause-invariant c =
-    invariant_again c.args.a.now c.args.b.now c.args.care.now c.in_ok-invariant.invariant c.requires.matched c.requires.care c.assume.ensures.valid
-    (c.in_ok-invariant.ensures ∙ c.invariant.ensures.net)
+bind_models-requires-clause-invariant c = grind (arith, invariant_again c.args.a.now c.args.b.now c.args.care.now c.in_ok-invariant.invariant c.requires.matched c.requires.care c.assume.ensures.valid)
 
 pub returns-clause-same : goal.returns-clause-same
 returns-clause-same c =

@@ -9,13 +9,7 @@ never_apart_joined-requires c =
     let m = c.self.inside in
     let is = c.self.invariant in
     let same : c.in_ok-net.net ≡ joined m.a.now m.b.now [] = c.in_ok-net.ensures ∙ ap (λ (x : Accepted). joined x.a x.b []) (sym c.self.view_is) in
-    record {
-      joined = same;
-      fits = omega (arith, is.fits);
-      care = subst (λ (net : Parts). IsCareOf net c.self.inside.care.now) (sym same) (care_joined m.a.now m.b.now [] m.care.now is.care_is);
-      pairs = subst (λ (net : Parts). All (IsPairOf net) c.self.inside.pairs.now) (sym same)
-          (subst (λ (pairs : List Pair). All (IsPairOf (joined c.self.inside.a.now c.self.inside.b.now [])) pairs) (sym is.pairs_are) (pairs_joined m.a.now m.b.now is.valid_a is.valid_b is.names []));
-    }
+    grind (arith, care_joined m.a.now m.b.now [] m.care.now is.care_is, pairs_joined m.a.now m.b.now is.valid_a is.valid_b is.names [])
 
 pub returns : goal.returns
 returns c =

@@ -1,4 +1,4 @@
-use Rattle.std.proofs.Common.{◌≡◌, length, ap, subst, sym, ◌∙◌}
+use Rattle.std.proofs.Common.{◌≡◌, length, ap, subst, sym, ◌∙◌, arith}
 use Rattle.equal.proofs.Common.{IfOk, Parts, IsCareOf, IsKnownEarly, IsFound, difference, joined_pairs, miter_gates, miter, Accepted}
 use Rattle.equal.proofs.CompareLemmas.{care_joined}
 use Rattle.equal.proofs.DifferenceLemmas.{early_found}
@@ -20,6 +20,4 @@ returns c =
     let a = m.a.now in
     let b = m.b.now in
     let same : c.in_ok-net.net ≡ miter a b = c.in_ok-net.ensures ∙ ap (λ (x : Accepted). miter x.a x.b) (sym c.self.view_is) in
-    subst (λ (x : Accepted). IfOk c.refusal_within.result (IsFound (difference x.a x.b x.care))) c.self.view_is
-    (early_found a b m.care.now is.valid_a is.valid_b (matched a b is.names) is.are_accepted c.refusal_within.result
-    (subst (λ (net : Parts). IfOk c.refusal_within.result (IsKnownEarly net c.self.inside.care.now)) same c.refusal_within.ensures))
+    grind (arith, early_found a b m.care.now is.valid_a is.valid_b (matched a b is.names) is.are_accepted c.refusal_within.result, matched a b is.names)

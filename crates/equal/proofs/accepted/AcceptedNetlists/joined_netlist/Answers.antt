@@ -8,9 +8,7 @@ netlist_of-requires c =
     let a = c.self.inside.a.now in
     let b = c.self.inside.b.now in
     let is = c.self.invariant in
-    let same : a.gates ++ (moved_gates a b ++ []) ≡ c.in_ok-gates.gates.items = ap (λ gates. a.gates ++ gates) (append-nil (moved_gates a b)) ∙ sym c.in_ok-gates.ensures in
-    let fits : count a + length b.gates ≤ 4294967295 = omega (arith, is.fits) in
-    subst (λ (gates : List Gate). IsNetlist (with_gates c.self.inside.a.now gates)) same (joined_valid a b is.valid_a is.valid_b is.names fits)
+    grind (arith, append-nil (moved_gates a b), joined_valid a b is.valid_a is.valid_b is.names)
 
 pub returns : goal.returns
 returns c =

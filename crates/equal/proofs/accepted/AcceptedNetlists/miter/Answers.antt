@@ -1,4 +1,4 @@
-use Rattle.std.proofs.Common.{◌≡◌, ◌++◌, ◌+◌, ◌≤◌, List, length, ap, subst, sym, ◌∙◌}
+use Rattle.std.proofs.Common.{◌≡◌, ◌++◌, ◌+◌, ◌≤◌, List, length, ap, subst, sym, ◌∙◌, arith}
 use Rattle.equal.proofs.Common.{IfOk, Gate, count, IsNetlist, Pair, joined_pairs, moved_gates, miter_gates, miter, with_gates, Accepted}
 use Rattle.std.specs.Prelude.{suc}
 use Rattle.equal.proofs.ValidLemmas.{miter_valid}
@@ -9,11 +9,7 @@ netlist_of-requires c =
     let a = c.self.inside.a.now in
     let b = c.self.inside.b.now in
     let is = c.self.invariant in
-    let same : c.in_ok-gates.gates.items ≡ a.gates ++ (moved_gates a b ++ miter_gates a (length b.gates) (joined_pairs a b)) =
-    c.in_ok-gates.ensures ∙ ap (λ (pairs : List Pair). a.gates ++ (moved_gates a b ++ miter_gates a (length b.gates) pairs)) is.pairs_are in
-    subst (λ (gates : List Gate). IsNetlist (with_gates c.self.inside.a.now gates)) (sym same)
-    (miter_valid a b is.valid_a is.valid_b is.names
-    (subst (λ (pairs : List Pair). count c.self.inside.a.now + suc (length c.self.inside.b.now.gates + length pairs) ≤ 4294967294) is.pairs_are is.fits))
+    grind (arith, miter_valid a b is.valid_a is.valid_b is.names)
 
 pub returns : goal.returns
 returns c =

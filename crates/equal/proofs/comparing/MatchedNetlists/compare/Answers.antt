@@ -1,4 +1,4 @@
-use Rattle.std.proofs.Common.{◌≡◌, None, sym, subst, ◌∙◌}
+use Rattle.std.proofs.Common.{◌≡◌, None, sym, subst, ◌∙◌, arith}
 use Rattle.refusals.specs.declared.observe.Observe.TheVariants as observe
 use Rattle.equal.proofs.Common.{refusal, Matched}
 use Rattle.equal.proofs.BoundLemmas.{below_first, out_first, same_fault}
@@ -9,10 +9,7 @@ pub compare_second-requires : goal.compare_second-requires
 compare_second-requires c = subst (λ (m : Matched). None ≡ refusal m.a m.care_a observe.All) c.self.view_is (sym c.in-Ok-None.field-0-is ∙ c.in-Ok-None.ensures.refusal)
 
 pub returns-in-Ok-Some : goal.returns-in-Ok-Some
-returns-in-Ok-Some c =
-    let m = c.self.inside in
-    answered _ _ _ _ c.self.view_is
-    (told_first m.a.now m.care_a.now m.b.now m.care_b.now c.self.invariant.names c.in-Ok-Some.refusal (sym c.in-Ok-Some.field-0-is ∙ c.in-Ok-Some.ensures.refusal))
+returns-in-Ok-Some c = grind arith
 
 pub returns-in-Err : goal.returns-in-Err
 returns-in-Err c =

@@ -1,4 +1,4 @@
-use Rattle.std.proofs.Common.{◌≡◌, None, sym, subst, ◌∙◌}
+use Rattle.std.proofs.Common.{◌≡◌, None, sym, subst, ◌∙◌, arith}
 use Rattle.refusals.specs.declared.observe.Observe.TheVariants as observe
 use Rattle.equal.proofs.Common.{refusal, IfOk, Answer, Matched, Compares}
 use Rattle.equal.proofs.BoundLemmas.{below_second, below_both, out_second, out_both, same_fault}
@@ -9,15 +9,10 @@ pub compare_accepted-requires-clause-accepted : goal.compare_accepted-requires-c
 compare_accepted-requires-clause-accepted c =
     let m = c.self.inside in
     let is = c.self.invariant in
-    let first : None ≡ refusal m.a.now m.care_a.now observe.All = subst (λ (m : Matched). None ≡ refusal m.a m.care_a observe.All) (sym c.self.view_is) c.requires in
-    both_accepted m.a.now m.b.now m.care_a.now m.care_b.now is.valid_b is.first is.second is.source (sym first) (sym c.in-Ok-None.ensures.refusal ∙ c.in-Ok-None.field-0-is)
+    grind (arith, both_accepted m.a.now m.b.now m.care_a.now m.care_b.now is.valid_b is.first is.second is.source)
 
 pub returns-in-Ok-Some : goal.returns-in-Ok-Some
-returns-in-Ok-Some c =
-    let m = c.self.inside in
-    let first : None ≡ refusal m.a.now m.care_a.now observe.All = subst (λ (m : Matched). None ≡ refusal m.a m.care_a observe.All) (sym c.self.view_is) c.requires in
-    answered _ _ _ _ c.self.view_is
-    (told_second m.a.now m.care_a.now m.b.now m.care_b.now c.self.invariant.names c.in-Ok-Some.refusal first (sym c.in-Ok-Some.field-0-is ∙ c.in-Ok-Some.ensures.refusal))
+returns-in-Ok-Some c = grind arith
 
 pub returns-in-Ok-None : goal.returns-in-Ok-None
 returns-in-Ok-None c =
