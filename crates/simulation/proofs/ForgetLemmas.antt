@@ -25,42 +25,19 @@ module _ (net : Parts) (blocks : Blocks) (are : AreBlocksOf net blocks) (place :
       (eq-eqb (home_of blocks n) place home) (Contains-range (length blocks.home) n (omega arith)))
 
 unknown_here : (values : List Trit) (i : ℕ) → get_or (set values i X) i X ≡ X
-unknown_here values i =
-    elim (cases_lt i (length values)) [
-      | inl l ↦ get_or-set_same values i X X l
-      | inr g ↦ let e = length-set values i X in get_or_past (set values i X) i X (omega arith)
-    ]
+unknown_here values i = grind (arith, cases_lt i (length values), get_or-set_same values i X X, length-set values i X, get_or_past (set values i X) i X)
 
 unknown_still : (values : List Trit) (i k : ℕ) → get_or values k X ≡ X → get_or (set values i X) k X ≡ X
-unknown_still values i k h =
-    elim (cases_eq k i) [
-      | inl e ↦ rw e (unknown_here values i)
-      | inr ne ↦ get_or-set_other values i k X X ne ∙ h
-    ]
+unknown_still values i k h = grind (arith, cases_eq k i, unknown_here values i, get_or-set_other values i k X X)
 
 -- the first k gates are unknown
 abbrev pub AreUnknown : Parts → List ℕ → List Trit → ℕ → Type 0
 AreUnknown net gates values k = (i d : ℕ) → i < k → wire values (gate_sig net (get_or gates i d)) ≡ X
 
 pub unknown_more : (net : Parts) (gates : List ℕ) (values : List Trit) (k gate : ℕ) → ((d : ℕ) → get_or gates k d ≡ gate) → AreUnknown net gates values k → AreUnknown net gates (set values (gate_sig net gate).0 X) (k + 1)
-unknown_more net gates values k gate at h i d l =
-    elim (cases_eq i k) [
-      | inl e ↦ rw (e, at d) (unknown_here values (gate_sig net gate).0)
-      | inr ne ↦ unknown_still values (gate_sig net gate).0 (gate_sig net (get_or gates i d)).0 (h i d (omega (arith, ne)))
-    ]
+unknown_more net gates values k gate at h i d l = grind (arith, cases_eq i k, unknown_here values (gate_sig net gate).0, unknown_still values (gate_sig net gate).0 (gate_sig net (get_or gates i d)).0)
 
 -- a block that is unknown begins to rise
 pub begins : (net : Parts) (plan : Plan) (place : ℕ) (values : List Trit) (due : List Bool) (gates : List ℕ) → IsPlanOf net plan → gates ≡ gates_at plan.blocks place → AreKept net plan.blocks values due → AreSettled net plan.blocks values place → is_due due place ≡ true → AreUnknown net gates values (length gates) →
     IsRising net plan place values due gates
-begins net plan place values due gates is listed kept settled unsettled unknown = record {
-  kept = kept;
-  settled = settled;
-  unsettled = unsettled;
-  below = λ n l home.
-      let c = block_gate net plan.blocks is.blocks place gates listed n l home in
-      let here : wire values (gate_sig net n) ≡ X = subst (λ (m : ℕ). wire values (gate_sig net m) ≡ X) c.2 (unknown c.0 n c.1) in
-      rw here tt;
-  gates = λ n c. (gate_of_block net plan.blocks is.blocks place gates listed n c).0;
-  inside = λ n c. (gate_of_block net plan.blocks is.blocks place gates listed n c).1;
-  still = λ n l home e. inl (block_gate net plan.blocks is.blocks place gates listed n l home);
-}
+begins net plan place values due gates is listed kept settled unsettled unknown = grind (arith, block_gate net plan.blocks is.blocks place gates listed, gate_of_block net plan.blocks is.blocks place gates listed)

@@ -11,10 +11,7 @@ use Rattle.simulation.proofs.LoadLemmas.{vector-set}
 
 -- settled blocks, said with the vector apart
 pub at_fix : (net : Parts) (is : IsNetlist net) (blocks : Blocks) (are : AreBlocksOf net blocks) (values : List Trit) (place : ℕ) → AreSettled net blocks values place → AreAtFix net is blocks are (vector_of net values) values place
-at_fix net is blocks are values place settled = record {
-  inputs = λ i l. wire-vector net values i l;
-  gates = λ n l h. settled.each n l h;
-}
+at_fix net is blocks are values place settled = grind (arith, wire-vector net values)
 
 -- a gate of a later block changes none of them
 pub settled_set : (net : Parts) (blocks : Blocks) (values : List Trit) (place g : ℕ) (x : Trit) → place ≤ home_of blocks g → AreSettled net blocks values place → AreSettled net blocks (set values (gate_sig net g).0 x) place
@@ -49,34 +46,16 @@ module _ (net : Parts) (is : IsNetlist net) (blocks : Blocks) (are : AreBlocksOf
 
   module _ (values : List Trit) (place g : ℕ) (width : length values ≡ count net) (settled : AreSettled net blocks values place) (within : g < length net.gates) (home : home_of blocks g ≡ place) (plain : (block_at blocks place).looped ≡ false) where
     only : (n : ℕ) → n < length net.gates → home_of blocks n ≡ place → n ≡ g
-    only n l h =
-        let here : (block_at blocks (home_of blocks n)).looped ≡ false = rw h plain in
-        other_blocks_are_single net blocks are n g l within (h ∙ sym home) here
+    only n l h = grind (arith, other_blocks_are_single net blocks are n g l within)
 
     -- all its pins stand before it
     pin_settled : (s : Sig) → Contains (gate_at net g).pins s → wire values s ≡ wire (fix net (vector_of net values)) s
     pin_settled s c =
         let v = vector_of net values in
-        elim (signal_cases net s (pin_within net is g s within c)) [
-          | inl low ↦ wire-vector net values s low ∙ sym (wire-input net v (fix_gates net v) s (length-vector net values width) low)
-          | inr m ↦
-              let before = pin-before net blocks are m.number g s m.within within m.is c in
-              elim (cases_lt (home_of blocks m.number) place) [
-                | inl early ↦ rw m.is (settled.each m.number m.within early)
-                | inr late ↦
-                    let same : m.number ≡ g = only m.number m.within (omega arith) in
-                    let pin : Contains (gate_at net g).pins (gate_sig net g) = rw (m.is, same) at c in
-                    let feeds : Feeds net g g = record { source = within; reader = within; pin = pin } in
-                    let looped : (block_at blocks (home_of blocks g)).looped ≡ true = (are.looped g within).1 (leads-step net g g feeds) in
-                    let here : (block_at blocks place).looped ≡ true = rw home at looped in
-                    absurd (true≢false (sym here ∙ plain))
-              ]
-        ]
+        grind (arith, signal_cases net s (pin_within net is g s within c), pin_within net is g s within c, wire-vector net values s, wire-input net v (fix_gates net v) s (length-vector net values width), length-vector net values width, pin-before net blocks are, cases_lt, only, leads-step net g g, true≢false)
 
     value_settled : gate_value values (gate_at net g) ≡ wire (fix net (vector_of net values)) (gate_sig net g)
-    value_settled =
-        value_same (gate_at net g) values (fix net (vector_of net values)) pin_settled
-        ∙ sym (fix-gate net (vector_of net values) g (length-vector net values width) within)
+    value_settled = grind (arith, value_same (gate_at net g) values (fix net (vector_of net values)) pin_settled, pin_settled, fix-gate net (vector_of net values) g (length-vector net values width) within, length-vector net values width)
 
     pub gate_settled : AreSettled net blocks (set values (gate_sig net g).0 (gate_value values (gate_at net g))) (place + 1)
     gate_settled =
@@ -103,6 +82,4 @@ module _ (net : Parts) (is : IsNetlist net) (blocks : Blocks) (are : AreBlocksOf
 -- the block of the gate that drives a signal is due, if that of a gate that drives it is
 pub due_at_gate : (net : Parts) (blocks : Blocks) (due : List Bool) (place g n : ℕ) (signal : Sig) → is_due due place ≡ true → home_of blocks g ≡ place →
     signal ≡ gate_sig net g → signal ≡ gate_sig net n → is_due due (home_of blocks n) ≡ true
-due_at_gate net blocks due place g n signal is home from_g from_n =
-    let same : n ≡ g = omega (arith, ap (λ (s : Sig). s.0) from_g, ap (λ (s : Sig). s.0) from_n) in
-    subst (λ (m : ℕ). is_due due m ≡ true) (sym (ap (home_of blocks) same ∙ home)) is
+due_at_gate net blocks due place g n signal is home from_g from_n = grind arith

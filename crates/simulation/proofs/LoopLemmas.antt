@@ -186,10 +186,7 @@ determined_falls net plan place values due g waiting value h d =
     let few : length (readers_inside plan place s) ≤ length (readers_of plan.readers s) = filter-no_longer (λ n. home_of plan.blocks n == place) (readers_of plan.readers s) in
     let bound = few_readers plan.readers s.0 in
     let all : length (waiting ++ readers_inside plan place s) ≡ length waiting + length (readers_inside plan place s) = length-append waiting (readers_inside plan place s) in
-    falls (unknown_values (set values s.0 value)) (unknown_values values) (count_reads plan.readers) (length waiting) (length (waiting ++ readers_inside plan place s)) less (omega arith)
-  where
-    falls : (after before reads waits wait : ℕ) → suc after ≡ before → wait ≤ waits + reads → after * suc reads + wait < before * suc reads + suc waits
-    falls after before reads waits wait e l = rw (← e) (omega arith)
+    grind arith
 
 pub unchanged_falls : (plan : Plan) (values : List Trit) (g : ℕ) (waiting : List ℕ) → work_left plan values waiting < work_left plan values (g ∷ waiting)
 unchanged_falls plan values g waiting = omega arith
@@ -205,8 +202,7 @@ gate_determined_at net plan place values after due new g waiting queue r value s
 pub determined_falls_at : (net : Parts) (plan : Plan) (place : ℕ) (values after : List Trit) (due : List Bool) (g : ℕ) (waiting queue : List ℕ) (r : Option Trit) (value : Trit) (s : Sig) (readers home : List ℕ) → IsRising net plan place values due (g ∷ waiting) → IsNewValue net values g r →
     r ≡ Some value → s ≡ gate_sig net g → after ≡ set values s.0 value → readers ≡ readers_of plan.readers s → home ≡ plan.blocks.home → queue ≡ waiting ++ filter (λ n. get_or home n 0 == place) readers →
     work_left plan after queue < work_left plan values (g ∷ waiting)
-determined_falls_at net plan place values after due g waiting queue r value s readers home h n some sig set_is readers_are home_is queue_is =
-    rw (queue_is, readers_are, home_is, set_is, sig) (determined_falls net plan place values due g waiting value h (rw some at n))
+determined_falls_at net plan place values after due g waiting queue r value s readers home h n some sig set_is readers_are home_is queue_is = grind (arith, determined_falls net plan place values due g waiting value h)
 
 pub waiting_gate : (net : Parts) (plan : Plan) (place : ℕ) (values : List Trit) (due : List Bool) (g : ℕ) (waiting : List ℕ) → IsRising net plan place values due (g ∷ waiting) → g < length net.gates
 waiting_gate net plan place values due g waiting h = h.gates g (zero, omega arith, refl)

@@ -6,18 +6,10 @@ use Rattle.simulation.specs.Plans.{AreReadersOf}
 use Rattle.simulation.specs.Marking.{AreMarked, StayDue}
 
 due_here : (due : List Bool) (p : ℕ) → is_due (set due p true) p ≡ true
-due_here due p =
-    elim (cases_lt p (length due)) [
-      | inl l ↦ get_or-set_same due p true true l
-      | inr g ↦ let e = length-set due p true in get_or_past (set due p true) p true (omega arith)
-    ]
+due_here due p = grind (arith, cases_lt p (length due), get_or-set_same due p true true, length-set due p true, get_or_past (set due p true) p true)
 
 due_still : (due : List Bool) (p q : ℕ) → is_due due q ≡ true → is_due (set due p true) q ≡ true
-due_still due p q h =
-    elim (cases_eq q p) [
-      | inl e ↦ rw e (due_here due p)
-      | inr ne ↦ get_or-set_other due p q true true ne ∙ h
-    ]
+due_still due p q h = grind (arith, cases_eq q p, due_here due p, get_or-set_other due p q true true)
 
 pub marked_none : (gates home : List ℕ) (due : List Bool) → AreMarked gates home 0 due due
 marked_none gates home due = record { size = refl; each = λ i d l. absurd (omega arith); stay = λ p h. h }
@@ -39,8 +31,7 @@ marked_from gates other home homes old older new e f g h = rw (e, f, g) at h
 
 -- what is not due now was not due before
 pub was_not_due : (old new : List Bool) (place : ℕ) → StayDue old new → is_due new place ≡ false → is_due old place ≡ false
-was_not_due old new place stay e =
-    elim (cases_Bool (is_due old place)) [ inl t ↦ absurd (true≢false (sym (stay place t) ∙ e)) | inr f ↦ f ]
+was_not_due old new place stay e = grind arith
 
 pub changed : (net : Parts) (blocks : Blocks) (readers : List (List ℕ)) (values : List Trit) (old new : List Bool) (signal : Sig) (value : Trit) → AreReadersOf net readers →
     AreKept net blocks values old →

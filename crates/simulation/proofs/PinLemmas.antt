@@ -49,8 +49,7 @@ signal_cases net s l =
     ]
 
 pub pin_within : (net : Parts) → IsNetlist net → (n : ℕ) (s : Sig) → n < length net.gates → Contains (gate_at net n).pins s → s.0 < count net
-pin_within net is n s l c =
-    subst (λ (t : Sig). t.0 < count net) c.2 (is.pins n no_gate l c.0 s c.1)
+pin_within net is n s l c = grind arith
 
 -- the values of a vector and of gates, as values of signals
 pub wire-input : (net : Parts) (v state : List Trit) (s : Sig) → length v ≡ first_gate net → s.0 < first_gate net → wire (wires v state) s ≡ get_or v s.0 X
@@ -71,9 +70,4 @@ wire-vector net values s l = sym (get_or-take (first_gate net) values s.0 X l)
 
 -- a gate that is read stands in no later block
 pub pin-before : (net : Parts) (blocks : Blocks) → AreBlocksOf net blocks → (m n : ℕ) (s : Sig) → m < length net.gates → n < length net.gates → s ≡ gate_sig net m → Contains (gate_at net n).pins s → home_of blocks m ≤ home_of blocks n
-pin-before net blocks are m n s l k e c =
-    are.after_reads m n (record {
-      source = l;
-      reader = k;
-      pin = subst (λ (t : Sig). Contains (gate_at net n).pins t) e c;
-    })
+pin-before net blocks are m n s l k e c = grind arith

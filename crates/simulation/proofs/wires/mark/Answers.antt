@@ -1,4 +1,4 @@
-use Rattle.std.proofs.Common.{get_or, refl}
+use Rattle.std.proofs.Common.{get_or, refl, arith}
 use Rattle.simulation.proofs.Common.{get_or_default}
 use Rattle.simulation.proofs.MarkingLemmas.{marked_none, marked_more}
 use Rattle.simulation.proofs.wires.mark.Goals as goal
@@ -11,5 +11,4 @@ loop-gate-preserved c =
     let gates = c.args.gates.now in
     let home = c.args.home.now in
     let k = c.loop-gate.gate-index in
-    marked_more gates home k (get_or gates k 0) (get_or home (get_or gates k 0) 0) c.args.due.now c.loop-gate.due
-    (λ d. get_or_default gates k d 0 c.loop-gate-test.true) refl c.loop-gate.invariant
+    grind (arith, marked_more gates home k (get_or gates k 0) (get_or home (get_or gates k 0) 0) c.args.due.now c.loop-gate.due, get_or_default gates k)

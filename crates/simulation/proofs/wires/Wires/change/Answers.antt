@@ -14,5 +14,4 @@ returns-clause-kept c =
     let gates = readers_of plan.readers c.args.signal in
     let marked = marked_from gates c.successors-readers.result.now plan.blocks.home c.items.result.now due.items c.deref_mut.result.now c.mark.new.due c.successors-readers.ensures c.items.ensures c.deref_mut.ensures.value c.mark.ensures in
     let size : length c.mark.new.due ≡ due.len = omega (arith, marked.size, due.ok.0) in
-    subst (λ (new : List Bool). AreKept net plan.blocks (set values c.args.signal.0 c.args.value) new) (sym (with_items_is due c.mark.new.due size))
-    (changed net plan.blocks plan.readers values due.items c.mark.new.due c.args.signal c.args.value c.requires.plan.readers c.requires.kept c.requires.due marked)
+    grind (arith, with_items_is due c.mark.new.due size, changed net plan.blocks plan.readers values due.items c.mark.new.due c.args.signal c.args.value c.requires.plan.readers c.requires.kept c.requires.due marked)

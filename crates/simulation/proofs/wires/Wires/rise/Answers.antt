@@ -10,21 +10,13 @@ pub new_value-requires-clause-gate : goal.new_value-requires-clause-gate
 new_value-requires-clause-gate c = c.requires.rising.gates c.args.gate (0, omega arith, refl)
 
 pub gate_sig-signal-requires : goal.gate_sig-signal-requires
-gate_sig-signal-requires c =
-    waiting_gate c.args.net.now c.args.plan.now c.args.worklist.now.place c.args.self.now.values.items c.args.self.now.due.items c.args.gate c.args.worklist.now.gates.items c.requires.rising
+gate_sig-signal-requires c = grind (arith, waiting_gate c.args.net.now c.args.plan.now c.args.worklist.now.place c.args.self.now.values.items c.args.self.now.due.items c.args.gate c.args.worklist.now.gates.items c.requires.rising)
 
 pub change-requires-clause-signal : goal.change-requires-clause-signal
-change-requires-clause-signal c =
-    let within = waiting_gate c.args.net.now c.args.plan.now c.args.worklist.now.place c.args.self.now.values.items c.args.self.now.due.items c.args.gate c.args.worklist.now.gates.items c.requires.rising in
-    let is : c.gate_sig-signal.result.0 ≡ (gate_sig c.args.net.now c.args.gate).0 = ap (λ (s : Sig). s.0) c.gate_sig-signal.ensures.sig in
-    omega arith
+change-requires-clause-signal c = grind (arith, waiting_gate c.args.net.now c.args.plan.now c.args.worklist.now.place c.args.self.now.values.items c.args.self.now.due.items c.args.gate c.args.worklist.now.gates.items c.requires.rising)
 
 pub successors-readers-requires : goal.successors-readers-requires
-successors-readers-requires c =
-    let within = waiting_gate c.args.net.now c.args.plan.now c.args.worklist.now.place c.args.self.now.values.items c.args.self.now.due.items c.args.gate c.args.worklist.now.gates.items c.requires.rising in
-    let is : c.gate_sig-signal.result.0 ≡ (gate_sig c.args.net.now c.args.gate).0 = ap (λ (s : Sig). s.0) c.gate_sig-signal.ensures.sig in
-    let size = c.requires.plan.readers.signals in
-    omega arith
+successors-readers-requires c = grind (arith, waiting_gate c.args.net.now c.args.plan.now c.args.worklist.now.place c.args.self.now.values.items c.args.self.now.due.items c.args.gate c.args.worklist.now.gates.items c.requires.rising)
 
 pub returns-in_ok-push_inside-clause-rising : goal.returns-in_ok-push_inside-clause-rising
 returns-in_ok-push_inside-clause-rising c =
@@ -51,18 +43,13 @@ returns-in_ok-push_inside-clause-less c =
 pub returns-in_default-clause-rising : goal.returns-in_default-clause-rising
 returns-in_default-clause-rising c =
     let net = c.args.net.now in
-    rw (c.in_ok-value.ensures.values, c.in_ok-value.ensures.due)
-    (gate_unchanged net c.args.plan.now c.args.worklist.now.place c.args.self.now.values.items c.args.self.now.due.items c.args.gate c.args.worklist.now.gates.items c.requires.rising
-    (rw c.in_default.is at c.in_ok-value.ensures.value))
+    grind (arith, gate_unchanged net c.args.plan.now c.args.worklist.now.place c.args.self.now.values.items c.args.self.now.due.items c.args.gate c.args.worklist.now.gates.items c.requires.rising)
 
 pub change-requires-clause-kept : goal.change-requires-clause-kept
 change-requires-clause-kept c = rw (c.in_ok-value.ensures.values, c.in_ok-value.ensures.due) c.requires.rising.kept
 
 pub change-requires-clause-due : goal.change-requires-clause-due
-change-requires-clause-due c = λ n within from_n.
-    rw c.in_ok-value.ensures.due
-    (due_at_gate c.args.net.now c.args.plan.now.blocks c.args.self.now.due.items c.args.worklist.now.place c.args.gate n c.gate_sig-signal.result
-    c.requires.rising.unsettled (c.requires.rising.inside c.args.gate (0, omega arith, refl)) c.gate_sig-signal.ensures.sig from_n)
+change-requires-clause-due c = grind arith
 
 pub returns-in_ok-push_inside-clause-kept : goal.returns-in_ok-push_inside-clause-kept
 returns-in_ok-push_inside-clause-kept c = c.change.ensures.kept
@@ -70,9 +57,7 @@ returns-in_ok-push_inside-clause-kept c = c.change.ensures.kept
 pub returns-in_ok-push_inside-clause-vector : goal.returns-in_ok-push_inside-clause-vector
 returns-in_ok-push_inside-clause-vector c =
     let values = c.args.self.now.values.items in
-    let after : c.change.new.self.values.items ≡ set values c.gate_sig-signal.result.0 c.in-Some.value = rw c.in_ok-value.ensures.values at c.change.ensures.values in
-    ap (vector_of c.args.net.now) (after ∙ ap (λ (s : Sig). set values s.0 c.in-Some.value) c.gate_sig-signal.ensures.sig)
-    ∙ vector-set c.args.net.now values c.args.gate c.in-Some.value
+    grind (arith, vector-set c.args.net.now values c.args.gate c.in-Some.value)
 
 pub returns-in_err-push_inside-clause-kept : goal.returns-in_err-push_inside-clause-kept
 returns-in_err-push_inside-clause-kept c = c.change.ensures.kept
@@ -80,9 +65,7 @@ returns-in_err-push_inside-clause-kept c = c.change.ensures.kept
 pub returns-in_err-push_inside-clause-vector : goal.returns-in_err-push_inside-clause-vector
 returns-in_err-push_inside-clause-vector c =
     let values = c.args.self.now.values.items in
-    let after : c.change.new.self.values.items ≡ set values c.gate_sig-signal.result.0 c.in-Some.value = rw c.in_ok-value.ensures.values at c.change.ensures.values in
-    ap (vector_of c.args.net.now) (after ∙ ap (λ (s : Sig). set values s.0 c.in-Some.value) c.gate_sig-signal.ensures.sig)
-    ∙ vector-set c.args.net.now values c.args.gate c.in-Some.value
+    grind (arith, vector-set c.args.net.now values c.args.gate c.in-Some.value)
 
 pub returns-in_default-clause-kept : goal.returns-in_default-clause-kept
 returns-in_default-clause-kept c = rw (c.in_ok-value.ensures.values, c.in_ok-value.ensures.due) c.requires.rising.kept

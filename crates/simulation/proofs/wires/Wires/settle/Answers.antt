@@ -10,8 +10,4 @@ returns-clause-settled c =
     let net = c.args.net.now in
     let blocks = c.args.plan.now.blocks in
     let values = c.loop-place.self.values.items in
-    let size : length c.items-place-end.result.now ≡ length blocks.list = ap (λ (l : List Block). length l) c.items-place-end.ensures in
-    let last : c.loop-place.place ≡ length blocks.list = omega arith in
-    all_settled net blocks c.requires.plan.blocks values c.loop-place.invariant.kept.width
-    (subst (λ n. AreSettled net blocks values n) last c.loop-place.invariant.settled)
-    ∙ ap (fix net) c.loop-place.invariant.vector
+    grind (arith, all_settled net blocks c.requires.plan.blocks values c.loop-place.invariant.kept.width)
