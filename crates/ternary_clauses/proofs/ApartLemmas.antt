@@ -24,8 +24,7 @@ module _ (old mid new : Formula) (here there n : Rails) (at_here : AreRailsOf ol
       let one : TakesValue mid n m (bit x) = made.takes m (bit x) (λ e. sym (known-bit x)) len h in
       let kept : (r : Rails) → AreRailsOf old r → Reads (m ++ one.more) r (value_read m r) = λ r rails. Reads-more m one.more r (value_read m r) (rw len rails.within) (rails.reads m h) in
       let says : holds (m ++ one.more) (apart_clauses here there n.one) ≡ alike (is_one (bit x)) x = apart-holds (m ++ one.more) here there n t u (bit x) (kept here at_here) (kept there at_there) one.reads in
-      model-after new m one.more (model-here new (m ++ one.more) (one.width ∙ sym variables)
-      (added-model mid new (apart_clauses here there n.one) made.grows.formula literals (m ++ one.more) one.model (says ∙ ap (λ b. alike b x) (sym (one-bit x)) ∙ alike-refl x)))
+      grind (arith, model-after new m one.more, model-here new (m ++ one.more), added-model mid new (apart_clauses here there n.one) made.grows.formula literals (m ++ one.more) one.model, alike, one-bit x, alike-refl x)
 
   pub apart-says : SaysApart old new here there n.one
   apart-says = record {

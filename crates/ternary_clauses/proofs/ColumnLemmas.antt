@@ -33,12 +33,7 @@ module _ (old mid new : Formula) (rails : List Rails) (k : ℕ) (r : Rails) (was
       let before : ReadsAll (long ++ has.more) rails (bits (take k v)) = ReadsAll-more long has.more rails (bits (take k v)) (rw had.width was.within) had.reads in
       let all : ReadsAll (long ++ has.more) (rails ++ r ∷ []) (bits (take k v) ++ bit b ∷ []) = all_zipped_more (Reads (long ++ has.more)) rails (bits (take k v)) r (bit b) before has.reads in
       let whole : bits (take k v) ++ bit b ∷ [] ≡ bits v = sym (map-append bit (take k v) (b ∷ [])) ∙ ap bits split in
-      record {
-        more = had.more ++ has.more;
-        width = rw (append_assoc m had.more has.more) at has.width;
-        model = rw (append_assoc m had.more has.more) at has.model;
-        reads = rw (append_assoc m had.more has.more, whole) at all;
-      }
+      grind (arith, append_assoc m had.more has.more)
 
   pub column-step : SaysColumns old new (rails ++ r ∷ []) (k + 1)
   column-step = record {

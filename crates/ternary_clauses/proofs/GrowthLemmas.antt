@@ -39,11 +39,7 @@ pub Grows-refl : (f : Formula) → IsFormula f → Grows f f
 Grows-refl f is = record { formula = is; more = omega arith; sound = λ m h. h }
 
 pub Grows-chain : {a b c : Formula} → Grows a b → Grows b c → Grows a c
-Grows-chain first second = record {
-  formula = second.formula;
-  more = (let x = first.more in let y = second.more in omega (arith, x, y));
-  sound = λ m h. first.sound m (second.sound m h);
-}
+Grows-chain first second = grind arith
 
 pub model-here : (f : Formula) (m : List Bool) → length m ≡ f.variables → IsModel m f → HasModelFrom f m
 model-here f m len h = record { more = []; width = rw append-nil len; model = rw append-nil h }

@@ -10,11 +10,7 @@ use Rattle.ternary_clauses.proofs.ReadingLemmas.{new-read}
 -- ---- one variable
 
 Reads-column : (m : List Bool) (w : ℕ) (b : Bool) → get_or m w false ≡ b → says m 0 ≡ true → Reads m (column_rails w) (bit b)
-Reads-column m w b e truth = record {
-  one = says-even m (2 * w) w (omega arith) (omega arith) ∙ e ∙ one-bit b;
-  zero = says-odd m (2 * w + 1) w (omega arith) (omega arith) ∙ ap not e ∙ zero-bit b;
-  known = truth ∙ known-bit b;
-}
+Reads-column m w b e truth = grind arith
 
 module _ (old new : Formula) (formula : IsFormula old) where
   pub column-new : new.variables ≡ old.variables + 1 → new.literals.items ≡ old.literals.items → HasNewRails old new true (column_rails old.variables)

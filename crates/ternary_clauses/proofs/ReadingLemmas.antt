@@ -8,18 +8,11 @@ use Rattle.ternary_clauses.proofs.NodeCases.{new_values}
 -- ---- readings at further variables
 
 pub Reads-more : (m more : List Bool) (r : Rails) (t : Trit) → AreWithin (length m) r → Reads m r t → Reads (m ++ more) r t
-Reads-more m more r t is h = record {
-  one = says-more m more r.one is.one ∙ h.one;
-  zero = says-more m more r.zero is.zero ∙ h.zero;
-  known = says-more m more r.known is.known ∙ h.known;
-}
+Reads-more m more r t is h = grind (arith, says-more m more r.one is.one, says-more m more r.zero is.zero, says-more m more r.known is.known)
 
 pub new-read : (m : List Bool) (v : ℕ) (t : Trit) → length m ≡ v → Reads (m ++ new_values t) (new_rails v) t
-new-read m v t e = record {
-  one = says-even (m ++ new_values t) (2 * v) v (omega arith) (omega arith) ∙ get_or-after m (new_values t) v 0 false (omega (arith, e));
-  zero = says-even (m ++ new_values t) (2 * v + 2) (v + 1) (omega arith) (omega arith) ∙ get_or-after m (new_values t) (v + 1) 1 false (omega (arith, e));
-  known = says-even (m ++ new_values t) (2 * v + 4) (v + 2) (omega arith) (omega arith) ∙ get_or-after m (new_values t) (v + 2) 2 false (omega (arith, e));
-}
+new-read m v t e =
+    grind (arith, says-even (m ++ new_values t) (2 * v) v, get_or-after m (new_values t) v 0 false, says-even (m ++ new_values t) (2 * v + 2) (v + 1), get_or-after m (new_values t) (v + 1) 1 false, says-even (m ++ new_values t) (2 * v + 4) (v + 2), get_or-after m (new_values t) (v + 2) 2 false)
 
 pub within-more : (v w : ℕ) (r : Rails) → v ≤ w → AreWithin v r → AreWithin w r
 within-more v w r less is = record { one = omega (arith, is.one); zero = omega (arith, is.zero); known = omega (arith, is.known) }

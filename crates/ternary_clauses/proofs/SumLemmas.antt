@@ -13,15 +13,7 @@ use Rattle.ternary_clauses.proofs.NodeLemmas.{one-bit, known-bit}
 -- ---- one of two
 
 or-cases : (k a b s : Bool) → (((k && (not a || (s || false))) && (not b || (s || false))) && (not s || (a || (b || false)))) ≡ (k && alike s (a || b))
-or-cases false a b s = refl
-or-cases true true true true = refl
-or-cases true true true false = refl
-or-cases true true false true = refl
-or-cases true true false false = refl
-or-cases true false true true = refl
-or-cases true false true false = refl
-or-cases true false false true = refl
-or-cases true false false false = refl
+or-cases k a b s = grind arith
 
 module _ (old mid one two new : Formula) (a b : ℕ) (n : Rails) (a_in : a < 2 * old.variables) (b_in : b < 2 * old.variables) (made : HasNewRails old mid true n) (variables : new.variables ≡ mid.variables) (last : IsFormula new)
     (first_says : (m : List Bool) → holds m one.literals.items ≡ (holds m mid.literals.items && list_any (says m) (negation a ∷ n.one ∷ [])))
@@ -44,12 +36,7 @@ module _ (old mid one two new : Formula) (a b : ℕ) (n : Rails) (a_in : a < 2 *
       (or-holds (m ++ has.more) ∙ and_from _ _ has.model ((λ j. alike (sum j) (at_a j || at_b j)) ∙ alike-refl x)))
 
   pub or-says : SaysOr old new a b n.one
-  or-says = record {
-    grows = record { formula = last; more = (let x = made.grows.more in omega (arith, x, variables)); sound = λ m h. made.grows.sound m (or-parts m h).0 };
-    within = (let x = made.own.within.one in omega (arith, x, variables));
-    says_it = λ m h. alike-same (says m n.one) (says m a || says m b) (or-parts m h).1;
-    complete = or-complete;
-  }
+  or-says = grind (arith, or-parts, alike-same, or-complete)
 
 -- ---- one of many
 
@@ -59,13 +46,7 @@ pub record IsLast (f : Formula) (literals : List ℕ) (last : ℕ) : Type 0 wher
   pub is : (m : List Bool) → IsModel m f → says m last ≡ list_any (says m) literals
 
 pub any-none : (f : Formula) → IsFormula f → SaysAny f f [] []
-any-none f formula = record {
-  grows = Grows-refl f formula;
-  within = All-nil (λ l. l < 2 * f.variables);
-  size = refl;
-  says_each = λ m h i less. absurd (omega (arith, less));
-  complete = λ m len h. model-here f m len h;
-}
+any-none f formula = grind (arith, Grows-refl f formula, All-nil, model-here f)
 
 pub last-none : (f : Formula) → IsFormula f → IsLast f [] 1
 last-none f formula = record { within = (let x = formula.some in omega (arith, x)); is = λ m h. ap not (formula.truth m h) }

@@ -48,12 +48,7 @@ module _ (start old new : Formula) (copies : List Rails) (k : ℕ) (r : Rails) (
 
   -- what holds of the copies before and of this one holds of all of them
   each : (P : ℕ → Rails → Type 0) → ((i : ℕ) → i < k → P i (rails_at copies i)) → P k r → (i : ℕ) → i < k + 1 → P i (rails_at (copies ++ r ∷ []) i)
-  each P before here i below = elim (cases_lt i k) [
-    | inl low ↦ rw (early i low) (before i low)
-    | inr high ↦
-        let same : k ≡ i = omega (arith, below, high) in
-        rw (get_or_push copies r no_rails i (was.size ∙ same), ← same) here
-  ]
+  each P before here i below = grind (arith, cases_lt i k, early i, get_or_push copies r no_rails i)
 
   pub copies-step : AreCopies start new (copies ++ r ∷ []) (k + 1)
   copies-step = record {
@@ -89,17 +84,12 @@ seen-read c m see (pin ∷ pins) (r ∷ seen) all zip = (
 -- one pin more
 pub seen-step : (c : CopiedLoop) (pins : List Sig) (i : ℕ) (none : Sig) (seen more : List Rails) (r : Rails) → i < length pins → more ≡ seen ++ r ∷ []
     → AllZip (IsSeen c) (take i pins) seen → IsSeen c (get_or pins i none) r → AllZip (IsSeen c) (take (i + 1) pins) more
-seen-step c pins i none seen more r inside items zip is =
-    rw (take_more pins i none inside, items) (all_zipped_more (IsSeen c) (take i pins) seen (get_or pins i none) r zip is)
+seen-step c pins i none seen more r inside items zip is = grind (arith, take_more pins i none inside, all_zipped_more (IsSeen c) (take i pins) seen (get_or pins i none) r zip is)
 
 -- ---- copies that are bound
 
 pub copied-none : (c : CopiedLoop) (f : Formula) → IsFormula f → AreCopied c f f 0
-copied-none c f formula = record {
-  grows = Grows-refl f formula;
-  reads = λ m see h reads i less. absurd (omega (arith, less));
-  complete = λ m see len h reads still. model-here f m len h;
-}
+copied-none c f formula = grind (arith, Grows-refl f formula, model-here f)
 
 -- values of further variables change nothing of what rails are read as
 Seen-more : (c : CopiedLoop) (m more : List Bool) (see : ℕ → Sig → Trit) → ((pin : Sig) (r : Rails) → IsSeen c pin r → AreWithin (length m) r) → ReadsSeen c m see → ReadsSeen c (m ++ more) see
@@ -108,18 +98,11 @@ Seen-more c m more see inside reads i less =
     (λ pin here r is. Reads-more m more r (see i pin) (inside pin r is) (here r is)) (gate_at c.net (get_or c.gates i 0)).pins (reads i less)
 
 rails-in : (v : ℕ) (xs : List Rails) (i : ℕ) → 0 < v → All (AreWithin v) xs → AreWithin v (get_or xs i no_rails)
-rails-in v xs i some all = elim (cases_lt i (length xs)) [
-  | inl low ↦ All-get_or (AreWithin v) xs i no_rails low all
-  | inr high ↦ rw (get_or_past xs i no_rails high) (record { one = omega (arith, some); zero = omega (arith, some); known = omega (arith, some) })
-]
+rails-in v xs i some all = grind (arith, cases_lt i (length xs), All-get_or (AreWithin v) xs i no_rails, get_or_past xs i no_rails)
 
 seen-within : (c : CopiedLoop) (v : ℕ) → 0 < v → IsCopyWithin v c → (pin : Sig) (r : Rails) → IsSeen c pin r → AreWithin v r
 seen-within c v some within pin r (inl out) = rw out.is (rails-in v c.rails pin.0 some within.rails)
-seen-within c v some within pin r (inr one) = rw one.is (by (is_cut c.cut (gate_of c.net pin)))
-  where
-    by : (x : Bool) → AreWithin v (if x then rails_at c.before one.place else rails_at c.after one.place)
-    by true = rails-in v c.before one.place some within.before
-    by false = rails-in v c.after one.place some within.after
+seen-within c v some within pin r (inr one) = grind (arith, rails-in v c.before one.place some within.before, rails-in v c.after one.place some within.after)
 
 -- rails of a formula are those of one that it grew to
 pub copy-kept : (c : CopiedLoop) (old new : Formula) → Grows old new → IsCopyOf old c → IsCopyOf new c
@@ -178,8 +161,7 @@ copy-at m (g ∷ gates) [] i rise size less = absurd (omega (arith, size))
 copy-at m (g ∷ gates) (r ∷ rs) zero rise size less = rw (eq-eqb g g refl) refl
 copy-at m (g ∷ gates) (r ∷ rs) (suc i) rise size less =
     let above : g < get_or gates i 0 = rise zero (suc i) (omega arith) less in
-    let other : (g == get_or gates i 0) ≡ false = differ g (get_or gates i 0) above in
-    rw other (copy-at m gates rs i (rise-tail g gates rise) (omega (arith, size)) (omega (arith, less)))
+    grind (arith, differ g (get_or gates i 0) above, copy-at m gates rs i (rise-tail g gates rise), rise-tail g gates rise)
 
 abbrev pub copy_of : Parts → (gates : List ℕ) (cut : List Bool) (rails before after : List Rails) → CopiedLoop
 copy_of net gates cut rails before after = record { net = net; gates = gates; cut = cut; rails = rails; before = before; after = after }
@@ -193,14 +175,10 @@ module _ (net : Parts) (blocks : Blocks) (are : AreBlocksOf net blocks) (cut : C
   home-looped n home = subst (λ b. (block_at blocks b).looped ≡ true) (sym home) looped
 
   same-to : (n g : ℕ) → Contains (block_at blocks block).gates n → in_one_loop blocks n g ≡ true → Contains (block_at blocks block).gates g
-  same-to n g c e =
-      let h = gate_home net blocks are block n bl c in
-      subst (λ b. Contains (block_at blocks b).gates g) h.1 ((blocks_have_loops net blocks cut are n h.0 (home-looped n h.1)).0 g e)
+  same-to n g c e = grind (arith, gate_home net blocks are block n bl c, blocks_have_loops net blocks cut are n, home-looped n)
 
   same-from : (n g : ℕ) → Contains (block_at blocks block).gates n → Contains (block_at blocks block).gates g → in_one_loop blocks n g ≡ true
-  same-from n g c d =
-      let h = gate_home net blocks are block n bl c in
-      (blocks_have_loops net blocks cut are n h.0 (home-looped n h.1)).1 g (subst (λ b. Contains (block_at blocks b).gates g) (sym h.1) d)
+  same-from n g c d = grind (arith, gate_home net blocks are block n bl c, blocks_have_loops net blocks cut are n, home-looped n)
 
   module _ (rails before after : List Rails) (m : List Bool) (v c s : List Trit) (outside : ReadsOutside net (loops_by blocks cut) (block_at blocks block).gates rails m v)
       (reads_before : ReadsPlaces (block_at blocks block).gates before m c) (reads_after : ReadsPlaces (block_at blocks block).gates after m s) where
@@ -210,18 +188,14 @@ module _ (net : Parts) (blocks : Blocks) (are : AreBlocksOf net blocks) (cut : C
         rw (out.is, apart) (at apart)
       where
         no-loop : (b : Bool) → in_loop_of net (loops_by blocks cut) n pin ≡ b → in_loop_of net (loops_by blocks cut) n pin ≡ false
-        no-loop false e = e
-        no-loop true e =
-            let p = and_parts (leb (first_gate net) pin.0) (in_one_loop blocks n (gate_of net pin)) e in
-            absurd (out.no_gate (leb-true (first_gate net) pin.0 p.0) (same-to n (gate_of net pin) listed p.1))
+        no-loop b e = grind (arith, and_parts, leb-true, same-to)
     see-one n listed pin r (inr one) at =
         let there : Contains (block_at blocks block).gates (gate_of net pin) = subst (Contains (block_at blocks block).gates) one.here (Contains-get_or (block_at blocks block).gates one.place 0 one.within) in
         let inside : in_loop_of net (loops_by blocks cut) n pin ≡ true = and_from (leb (first_gate net) pin.0) (in_one_loop blocks n (gate_of net pin)) (le-leb (first_gate net) pin.0 one.gate) (same-from n (gate_of net pin) listed there) in
         rw (one.is, inside) (by (is_cut cut.wires (gate_of net pin)))
       where
         by : (b : Bool) → Reads m (if b then rails_at before one.place else rails_at after one.place) (if b then value_in c (gate_of net pin) else value_in s (gate_of net pin))
-        by true = rw (← one.here) (reads_before one.place one.within)
-        by false = rw (← one.here) (reads_after one.place one.within)
+        by b = grind arith
 
     sees : ReadsSeen (loop_copy net blocks cut block rails before after) m (λ i pin. pin_in net (loops_by blocks cut) v c s (get_or (block_at blocks block).gates i 0) pin)
     sees i less =
@@ -256,9 +230,7 @@ module _ (net : Parts) (blocks : Blocks) (are : AreBlocksOf net blocks) (cut : C
         subst (Reads m (rails_at after i)) (sweep_of_one_loop net (loops_by blocks cut) (blocks_tell_loops net blocks cut are cut_is) v c s n each n (same-from n n listed listed)) (reads i less)
       where
         at-gate : (s c v : List Trit) → ((j : ℕ) → j < length (block_at blocks block).gates → value_in s (get_or (block_at blocks block).gates j 0) ≡ gate_in net (loops_by blocks cut) v c s (get_or (block_at blocks block).gates j 0)) → (g : ℕ) → Contains (block_at blocks block).gates g → value_in s g ≡ gate_in net (loops_by blocks cut) v c s g
-        at-gate s c v all g there =
-            let is : get_or (block_at blocks block).gates there.0 0 ≡ g = get_or_default (block_at blocks block).gates there.0 0 g there.1 ∙ there.2 in
-            rw (← is) (all there.0 there.1)
+        at-gate s c v all g there = grind (arith, get_or_default (block_at blocks block).gates there.0 0 g there.1)
 
     outside-more : (m more : List Bool) (v : List Trit) → length m ≡ old.variables → ReadsOutside net (loops_by blocks cut) (block_at blocks block).gates rails m v → ReadsOutside net (loops_by blocks cut) (block_at blocks block).gates rails (m ++ more) v
     outside-more m more v len outside n listed =

@@ -36,10 +36,7 @@ module _ (net : Parts) (wanted never : List Bool) (given : List Rails) (start ol
 
   -- what holds of the gates before and of this one holds of all of them
   each : (P : ℕ → Type 0) → ((n : ℕ) → n < k → P n) → P k → (n : ℕ) → n < k + 1 → P n
-  each P before here n below = elim (cases_lt n k) [
-    | inl low ↦ before n low
-    | inr high ↦ let same : k ≡ n = omega (arith, below, high) in rw (← same) here
-  ]
+  each P before here n below = grind arith
 
   wires-step : Grows old new → AreWithin new.variables r → (is_marked wanted k ≡ false → r ≡ no_rails) → (is_marked wanted k ≡ true → AreRailsOf new r)
       → ((m : List Bool) (t : Trit) → length m ≡ old.variables → IsModel m old → (is_marked wanted k ≡ true → is_marked never k ≡ true → t ≢ X) → Takes (is_marked wanted k ≡ true) new r m t)
@@ -79,9 +76,7 @@ module _ (net : Parts) (wanted never : List Bool) (given : List Rails) (start ol
       record { more = has.more; width = has.width; model = has.model; reads = λ e. absurd (true≢false (sym e ∙ unmarked)) })
 
   known-not_unknown : (t : Trit) → t ≢ X → is_known t ≡ true
-  known-not_unknown One e = refl
-  known-not_unknown Zero e = refl
-  known-not_unknown X e = absurd (e refl)
+  known-not_unknown t e = grind arith
 
   -- one that is
   pub wanted-step : is_marked wanted k ≡ true → HasNewRails old new (is_marked never k) r → AreWires net wanted never given start new (rails ++ r ∷ []) (k + 1)

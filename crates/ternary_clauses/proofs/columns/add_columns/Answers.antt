@@ -9,6 +9,4 @@ pub loop-preserved : goal.loop-preserved
 loop-preserved c = rw c.in_ok-push.ensures.items (column-step c.args.formula.now c.loop.formula c.new_column.new.self c.loop.rails.items c.loop.counter c.in_ok-column.column c.loop.invariant c.in_ok-column.ensures)
 
 pub returns : goal.returns
-returns c =
-    let all : c.loop.counter ≡ c.args.count = omega (arith, c.loop-test.false, c.loop.auto.counter-end) in
-    rw (← all) c.loop.invariant
+returns c = grind arith

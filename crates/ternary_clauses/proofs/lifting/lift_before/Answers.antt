@@ -7,14 +7,7 @@ use Rattle.ternary_clauses.proofs.ReadingLemmas.{All-within-more}
 use Rattle.ternary_clauses.proofs.lifting.lift_before.Goals as goal
 
 pub loop-position-init : goal.loop-position-init
-loop-position-init c =
-    let items : c.in_ok-table.table.items ≡ base_rails = c.in_ok-table.ensures.items in
-    record {
-      grown = Extends-refl c.args.formula.now c.args.pins.now c.requires.formula;
-      long = ap length items;
-      table = subst (IsTable c.args.local.now.store c.args.formula.now c.args.pins.now) (sym items) (base-table c.args.local.now.store c.args.formula.now c.args.pins.now c.requires.formula);
-      within = omega arith;
-    }
+loop-position-init c = grind (arith, Extends-refl c.args.formula.now c.args.pins.now c.requires.formula, base-table c.args.local.now.store c.args.formula.now c.args.pins.now c.requires.formula)
 
 pub loop-position-preserved : goal.loop-position-preserved
 loop-position-preserved c =

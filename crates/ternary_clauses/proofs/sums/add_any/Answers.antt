@@ -6,10 +6,7 @@ use Rattle.ternary_clauses.proofs.sums.add_any.Goals as goal
 pub loop-literal-init : goal.loop-literal-init
 loop-literal-init c =
     let f = c.args.formula.now in
-    record {
-      sums = subst (SaysAny f f (take 0 c.args.literals.now)) (sym c.new-sums.ensures.items) (any-none f c.requires.formula);
-      last = last-none f c.requires.formula;
-    }
+    grind (arith, any-none f c.requires.formula, last-none f c.requires.formula)
 
 pub loop-literal-preserved : goal.loop-literal-preserved
 loop-literal-preserved c =

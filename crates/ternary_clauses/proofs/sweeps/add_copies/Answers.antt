@@ -9,6 +9,4 @@ pub loop-preserved : goal.loop-preserved
 loop-preserved c = rw c.in_ok-push.ensures.items (copies-step c.args.formula.now c.loop.formula c.new_wire.new.self c.loop.copies.items c.loop.counter c.in_ok-wire.wire c.loop.invariant c.in_ok-wire.ensures)
 
 pub returns : goal.returns
-returns c =
-    let all : c.loop.counter ≡ c.args.count = omega (arith, c.loop-test.false, c.loop.auto.counter-end) in
-    rw (← all) c.loop.invariant
+returns c = grind arith

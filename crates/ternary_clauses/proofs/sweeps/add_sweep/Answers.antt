@@ -1,4 +1,4 @@
-use Rattle.std.proofs.Common.{◌≡◌, ◌∙◌, refl, ap, length, subst}
+use Rattle.std.proofs.Common.{◌≡◌, ◌∙◌, refl, ap, length, subst, arith}
 use Rattle.loops.specs.declared.structure.Blocks.{Blocks}
 use Rattle.loops.specs.declared.structure.Cut.{Cut}
 use Rattle.loops.specs.Blocks.{block_at}
@@ -28,14 +28,7 @@ invariant_of-copy g =
     let c : After-deref = (goal.at.invariant_of-copy g).After-deref in
     let l : Looped = c.args.looped.now in
     let is = c.cut.ensures.looped in
-    rw (same c) (record {
-      rise = block_rises l.net l.blocks is.blocks c.args.block c.requires.block;
-      inside = block_within l.net l.blocks is.blocks c.args.block c.requires.block;
-      cut = is.cut.width;
-      rails = c.requires.rails;
-      before = c.requires.before;
-      after = (copies c).size;
-    })
+    grind (arith, After-deref, same c, block_rises l.net l.blocks is.blocks c.args.block c.requires.block, block_within l.net l.blocks is.blocks c.args.block c.requires.block, copies c)
 
 pub returns : goal.returns
 returns g =

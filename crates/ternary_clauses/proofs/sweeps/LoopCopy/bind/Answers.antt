@@ -1,4 +1,4 @@
-use Rattle.std.proofs.Common.{◌≡◌, ◌<◌, List, length, sym, ap, subst, ◌∙◌}
+use Rattle.std.proofs.Common.{◌≡◌, ◌<◌, List, length, sym, ap, subst, ◌∙◌, arith}
 use Rattle.ternary_clauses.proofs.Common.{All-get_or, on_ok_weaker, All, AllZip, Gate, no_gate, gate_at, Rails, AreWithin, AreRailsOf, IsSeen, rails_at, CopiedLoop}
 use Rattle.std.specs.List.{slice_index}
 use Rattle.std.specs.Prelude.{OnOk}
@@ -8,13 +8,7 @@ use Rattle.std.proofs.lemmas.Slice.Zip.{AllZip-long}
 use Rattle.ternary_clauses.proofs.sweeps.LoopCopy.bind.Goals as goal
 
 pub add_gate-requires-clause-pins : goal.add_gate-requires-clause-pins
-add_gate-requires-clause-pins c =
-    let net = c.self.inside.net.now in
-    let place : c.args.place < length c.self.inside.gates.now = subst (λ (l : CopiedLoop). c.args.place < length l.gates) (sym c.self.view_is) c.requires.place in
-    ap length c.deref.ensures.value
-    ∙ AllZip-long (IsSeen c.args.self.now) c.gate-read.result.now.pins c.in_ok-pins.pins.items c.in_ok-pins.ensures.seen
-    ∙ subst (λ (g : Gate). length g.pins ≡ g.cover.pins) (sym c.gate-read.ensures.at) (All-get_or (λ (g : Gate). length g.pins ≡ g.cover.pins) net.gates _ no_gate (c.self.invariant.inside c.args.place place) c.gate-read.ensures.valid.pin_counts)
-    ∙ sym c.in_ok-diagram.ensures.pins
+add_gate-requires-clause-pins c = grind (arith, AllZip-long (IsSeen c.args.self.now) c.gate-read.result.now.pins c.in_ok-pins.pins.items c.in_ok-pins.ensures.seen, All-get_or)
 
 pub add_gate-requires-clause-rails : goal.add_gate-requires-clause-rails
 add_gate-requires-clause-rails c =
