@@ -1,5 +1,5 @@
 -- Where the wires of no pair of the joined netlist are ever apart, the two netlists don't differ.
-use Rattle.std.proofs.Common.{◌≡◌, ℕ, ◌+◌, ◌<◌, refl, None, Some, List, [], ◌∷◌, All, Bool, true, false, if◌then◌else◌, length, map, slice_get, sym, ◌∙◌, arith}
+use Rattle.std.proofs.Common.{◌≡◌, ℕ, ◌+◌, ◌<◌, refl, None, Some, List, [], ◌∷◌, All, Bool, false, if◌then◌else◌, length, map, slice_get, sym, ◌∙◌, arith}
 use Rattle.equal.proofs.Common.{All-nil, All-cons, length-signal_names, slice_get_within, Sig, Parts, count, signal, signal_names, IsNetlist, CareSet, IsPairOf, AreNeverApart, difference, differs, pair_of, AreAccepted, joined, joined_pairs, unmatched, care_vectors}
 use Rattle.std.proofs.lemmas.List.Elements.{All-head, All-tail}
 use Rattle.indexmap.specs.IndexMap.{insert_entry}

@@ -1,7 +1,6 @@
 -- The bounds of a comparison, from those of its parts.
-use Rattle.std.proofs.Common.{◌≡◌, ◌⊎◌, inl, inr, ℕ, ◌+◌, ◌-◌, ◌*◌, ◌<◌, ◌≤◌, List, [], ◌++◌, length, map, Option, Some, None, refl, sym, ap, ap₂, subst, ◌∙◌, arith}
-use Rattle.equal.proofs.Common.{Result, Err, range_with_len, cases_lt, length-append, length-map, append-nil, map-map, Gate, Latch, Parts, count, gate_at, no_gate, IsNetlist, order, CareSet, columns, CareModel, mark, name_of, unmatched, columns_by_name, pair_of, signal_named, source_named, output_pairs, latch_pairs, model_of, HaveOneSource, moved_gate_by, moved_gates, moved_pair_by, joined, joined_pairs, same_Some, Arena, IsOutOfNodes, IsBelowEnoughFor, IsBelowEnoughForBoth, IsOutOfNodesForBoth}
-use Rattle.std.specs.Prelude.{IsSomeAnd}
+use Rattle.std.proofs.Common.{◌≡◌, ◌⊎◌, inl, inr, ℕ, ◌+◌, ◌-◌, ◌*◌, ◌<◌, ◌≤◌, List, [], ◌++◌, length, map, None, refl, sym, ap, ap₂, subst, ◌∙◌, arith}
+use Rattle.equal.proofs.Common.{Result, Err, range_with_len, cases_lt, length-append, length-map, append-nil, map-map, Gate, Latch, Parts, count, gate_at, no_gate, IsNetlist, order, CareSet, columns, name_of, unmatched, columns_by_name, pair_of, signal_named, source_named, output_pairs, latch_pairs, HaveOneSource, moved_gates, moved_pair_by, joined, joined_pairs, Arena, IsOutOfNodes, IsBelowEnoughFor, IsBelowEnoughForBoth, IsOutOfNodesForBoth}
 use Rattle.std.specs.List.{sum, sum_by}
 use Rattle.std.proofs.lemmas.List.FromFn.{fill_by_all}
 use Rattle.std.proofs.lemmas.List.Sums.{sum_by-append, sum-map}
@@ -75,9 +74,6 @@ module _ (a : Parts) (care_a : CareSet) (b : Parts) (care_b : CareSet) (limit : 
   }
 
 -- ---- causes
-
-large_model : (m n : Option CareModel) (limit : ℕ) → model_of m ≡ model_of n → IsSomeAnd n (λ model. HasLargeCover model.net limit) → IsSomeAnd m (λ model. HasLargeCover model.net limit)
-large_model m n limit e h = grind arith
 
 model_over : (care_a care_b : CareSet) (limit : ℕ) → HaveOneSource care_a care_b → HasModelOver care_b limit → HasModelOver care_a limit
 model_over care_a care_b limit one h = grind arith

@@ -1,6 +1,6 @@
 -- The steps of a comparison.
-use Rattle.std.proofs.Common.{◌≡◌, ◌⊎◌, ℕ, ◌+◌, ◌-◌, ◌≤◌, Bool, ◌&&◌, List, [], ◌∷◌, ◌++◌, length, All, Option, Some, None, IfSome, refl, sym, ap, ap₂, subst, ◌∙◌, arith}
-use Rattle.equal.proofs.Common.{option_map, Result, IfOk, Err, Ok, All-map, Sig, option_map_or, Gate, Parts, count, IsNetlist, IsBoundTo, IsCareOf, CareModel, CareSet, columns, is_care_vector, some_is_apart, IsPairOf, IsKnownEarly, IsFound, unmatched, Answer, columns_by_name, by_name, output_pairs, latch_pairs, differs, difference, HaveOneSource, AreAccepted, moved_pair_by, joined, joined_pairs, vectors, Refusal, refusal, find-filter, accepted_without_refusal, care_vector_decides, least_apart, Undetermined, Early, Arena, IsBelowEnoughForBoth, IsOutOfNodesForBoth, Matched, Compares}
+use Rattle.std.proofs.Common.{◌≡◌, ◌⊎◌, ℕ, ◌+◌, ◌-◌, ◌≤◌, Bool, ◌&&◌, List, [], ◌∷◌, ◌++◌, length, All, Option, Some, None, sym, ap, ap₂, subst, ◌∙◌, arith}
+use Rattle.equal.proofs.Common.{option_map, Result, IfOk, Err, Ok, All-map, Sig, option_map_or, Gate, Parts, count, IsNetlist, IsCareOf, CareSet, columns, is_care_vector, some_is_apart, IsPairOf, IsKnownEarly, IsFound, unmatched, Answer, columns_by_name, by_name, output_pairs, latch_pairs, differs, difference, HaveOneSource, AreAccepted, moved_pair_by, joined, joined_pairs, vectors, Refusal, refusal, find-filter, accepted_without_refusal, care_vector_decides, least_apart, Undetermined, Early, Arena, IsBelowEnoughForBoth, IsOutOfNodesForBoth, Matched, Compares}
 use Rattle.equal.specs.Differences.{at_difference, comparison_of_accepted, comparison}
 use Rattle.netlist.specs.Faults.{first_there}
 use Rattle.refusals.specs.declared.observe.Observe.TheVariants as observe
@@ -35,10 +35,6 @@ both_accepted a b care_a care_b valid_b is_a is_b one first second = record {
       (care_vector_decides b care_b (by_name a b v) (length-by_name a b v)
       (care_by_name a b care_a care_b v is_a is_b one ∙ ap₂ (λ s t. s && t) counts.state counts.allowed));
 }
-
--- a care set of the first netlist is one of the joined netlist, which has its columns
-bound_joined : (a b : Parts) (more : List Gate) (first : ℕ) (model : Option CareModel) → IfSome model (IsBoundTo a first) → IfSome model (IsBoundTo (joined a b more) first)
-bound_joined a b more first model h = grind arith
 
 pub care_joined : (a b : Parts) (more : List Gate) (care : CareSet) → IsCareOf a care → IsCareOf (joined a b more) care
 care_joined a b more care is = grind arith

@@ -1,13 +1,13 @@
 -- The miter of two netlists is refused just where they differ, with the least vector of that.
-use Rattle.std.proofs.Common.{◌≡◌, ◌≢◌, inl, inr, ℕ, suc, ◌+◌, ◌-◌, ◌<◌, Bool, true, false, not, ◌&&◌, cond, List, [], ◌∷◌, length, map, get_or, Option, Some, None, refl, sym, ap, ap₂, subst, ◌∙◌, arith}
-use Rattle.equal.proofs.Common.{find, Result, IfOk, Err, is_none, Ok, list_any, range_with_len, option_or, cases_lt, length-map-range_with_len, get_or-map-range_with_len, map-range_with_len_more, Sig, X, bits, Latch, Parts, gate_sig, IsNetlist, wire, fix, map_agree, CareSet, columns, is_care_vector, is_one, Pair, by_name, differs, difference, AreAccepted, IsKnownEarly, IsFound, joined_pairs, miter, find-append, vectors, option_or-neither, option_map-nothing, Refusal, Undetermined, gate_sigs, AreDetermined, care_vectors, refusal, find-filter, any-find, accepted_without_refusal, care_vector_decides, Early}
+use Rattle.std.proofs.Common.{◌≡◌, ◌≢◌, inl, inr, ℕ, suc, ◌+◌, ◌-◌, ◌<◌, Bool, true, false, not, ◌&&◌, cond, List, [], ◌∷◌, length, map, Option, Some, None, refl, ap, subst, ◌∙◌, arith}
+use Rattle.equal.proofs.Common.{find, Result, IfOk, Err, is_none, Ok, list_any, range_with_len, option_or, cases_lt, length-map-range_with_len, get_or-map-range_with_len, map-range_with_len_more, Sig, X, bits, Parts, gate_sig, IsNetlist, wire, fix, map_agree, CareSet, columns, is_care_vector, Pair, by_name, differs, difference, AreAccepted, IsKnownEarly, IsFound, joined_pairs, miter, find-append, vectors, option_or-neither, option_map-nothing, Undetermined, gate_sigs, AreDetermined, care_vectors, refusal, find-filter, any-find, accepted_without_refusal, care_vector_decides, Early}
 use Rattle.std.specs.Option.{option_map, option_and_then}
 use Rattle.netlist.specs.Fixpoint.{next}
-use Rattle.care_sets.specs.Care.{is_in_invariant, IsCareVector}
+use Rattle.care_sets.specs.Care.{IsCareVector}
 use Rattle.cyc_base.proofs.VectorLemmas.{find-alike}
 use Rattle.refusals.specs.declared.observe.Observe.TheVariants as observe
 use Rattle.refusals.specs.declared.refusal.Refusal.TheVariants.{Leaves}
-use Rattle.refusals.specs.Refusals.{is_undetermined, first_failing, next_state, leaves, initial_refusal, empty_refusal, undetermined_refusal, leaves_refusal}
+use Rattle.refusals.specs.Refusals.{is_undetermined, next_state, leaves, initial_refusal, empty_refusal, undetermined_refusal, leaves_refusal}
 use Rattle.refusals.proofs.ObservedLemmas.{all_observes_gates}
 use Rattle.refusals.proofs.RefusalLemmas.{known-is_x}
 use Rattle.equal.proofs.NameLemmas.{find_nowhere}

@@ -1,7 +1,6 @@
 -- Both netlists stand in the joined one, each with the fixpoint that it has alone.
-use Rattle.std.proofs.Common.{◌≡◌, ◌≢◌, inl, inr, ℕ, ◌+◌, ◌-◌, ◌<◌, ◌≤◌, Bool, true, false, if◌then◌else◌, List, [], ◌∷◌, ◌++◌, length, get_or, slice_get, position, All, Option, Some, None, refl, sym, ap, ap₂, subst, ◌∙◌, arith}
-use Rattle.equal.proofs.Common.{list_any, option_map_or, bytes_eq, cases_lt, length-append, length-map, get_or-map, get_or_append_left, get_or-append-add, map-id, All-map, All-append, length-map-range_with_len, get_or-map-range_with_len, position-Some, slice_get_within, get_or_from_slice_get, Sig, Trit, X, Zero, One, bit, bits, Gate, Latch, Parts, count, signal, gate_at, no_gate, gate_sig, signal_names, IsSignal, IsNetlist, wire, fix, columns, mark, Pair, some_is_apart, are_apart, is_apart_at, name_of, latch_named, has_latch, is_output, init_eq, number_or_0, columns_by_name, by_name, signal_named, source_named, pair_of, output_pairs, latch_pairs, differs, moved, moved_gate_by, moved_gates, moved_pair_by, joined, joined_pairs, find_at, length-signal_names, list_any-map, gate_sigs, AreDetermined}
-use Rattle.std.specs.List.{position_or_len}
+use Rattle.std.proofs.Common.{◌≡◌, ◌≢◌, inl, inr, ℕ, ◌+◌, ◌-◌, ◌<◌, ◌≤◌, Bool, true, false, List, [], ◌∷◌, ◌++◌, length, get_or, All, Option, refl, sym, ap, ap₂, subst, ◌∙◌, arith}
+use Rattle.equal.proofs.Common.{list_any, option_map_or, bytes_eq, cases_lt, length-append, length-map, get_or-map, get_or_append_left, get_or-append-add, map-id, All-map, All-append, length-map-range_with_len, get_or-map-range_with_len, position-Some, slice_get_within, get_or_from_slice_get, Sig, Trit, X, bit, bits, Gate, Latch, Parts, count, signal, gate_at, no_gate, gate_sig, signal_names, IsSignal, IsNetlist, wire, fix, columns, mark, Pair, some_is_apart, are_apart, is_apart_at, name_of, latch_named, has_latch, is_output, init_eq, columns_by_name, by_name, signal_named, source_named, pair_of, output_pairs, latch_pairs, differs, moved, moved_gate_by, moved_gates, moved_pair_by, joined, joined_pairs, find_at, length-signal_names, list_any-map, gate_sigs, AreDetermined}
 use Rattle.std.proofs.lemmas.Bool.{lt-ltb, le-ltb}
 use Rattle.equal.specs.Differences.{are_different, differs_at}
 use Rattle.cyc_base.proofs.OrderLemmas.{bits-at}

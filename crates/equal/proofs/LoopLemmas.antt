@@ -1,5 +1,5 @@
 -- Steps of loops over outputs.
-use Rattle.std.proofs.Common.{◌≡◌, ◌≢◌, ℕ, ◌+◌, ◌<◌, true, false, not, if◌then◌else◌, List, [], ◌∷◌, ◌++◌, length, take, get_or, slice_get, Some, None, sym, ap, ap₂, subst, ◌∙◌, arith}
+use Rattle.std.proofs.Common.{◌≡◌, ◌≢◌, ℕ, ◌+◌, ◌<◌, true, false, not, if◌then◌else◌, List, [], ◌∷◌, ◌++◌, length, take, get_or, slice_get, Some, None, sym, ap, ap₂, ◌∙◌, arith}
 use Rattle.equal.proofs.Common.{find, list_any, IsDistinct, get_or_default, get_or-map, length-map, take_more, length-take-le, get_or-take, get_or_from_slice_get, Sig, Parts, signal, sig_eq, signal_names, name_of, is_output, output_names, eq-eqb, false_from_ne_true, list_any_none}
 use Rattle.std.specs.List.{AllPairs}
 use Rattle.std.proofs.lemmas.Option.{slice_get-get_or}

@@ -7,7 +7,6 @@ use Rattle.std.proofs.lemmas.List.{length-replicate}
 use Rattle.loops.specs.Sweeps.{gate_of, value_in, pin_in, sweeps, cuts_of}
 use Rattle.fixpoint.specs.Working.{read_in_sweep, read_at_fix, IsReadInSweep, IsReadAtFix}
 use Rattle.std.proofs.lemmas.List.Elements.{filter-append}
-use Rattle.cover_logic.specs.declared.cover.Cover.{Cover}
 use Rattle.cover_logic.specs.Covers.{value}
 use Rattle.cover_logic.specs.Extensions.{exact}
 use Rattle.dual_rail.specs.WorkingLists.{is_bit}

@@ -1,5 +1,5 @@
 -- A netlist that stands in another one, gate by gate, has there the fixpoint that it has alone.
-use Rattle.std.proofs.Common.{◌≡◌, inl, inr, ℕ, zero, suc, ◌+◌, ◌-◌, ◌<◌, ◌≤◌, List, length, map, get_or, sym, ap, ap₂, subst, ◌∙◌, arith}
+use Rattle.std.proofs.Common.{◌≡◌, ℕ, zero, suc, ◌+◌, ◌-◌, ◌<◌, ◌≤◌, List, length, map, get_or, sym, ap, ap₂, ◌∙◌, arith}
 use Rattle.equal.proofs.Common.{cases_lt, get_or_append_left, get_or-replicate, map-map, Sig, Trit, X, ext, Parts, gate_at, no_gate, IsSignal, IsNetlist, wires, wire, steps, fix, fix_gates, map_agree, wire_of_gate, columns, get_or-step}
 use Rattle.cover_logic.specs.Covers.{Cover}
 use Rattle.netlist.proofs.FixpointLemmas.{fix_is_reached}

@@ -1,12 +1,11 @@
 -- Care models that are bound to one netlist have no fault for another whose names match, and are bound to it by name.
-use Rattle.std.proofs.Common.{◌≡◌, ◌⊎◌, inl, inr, ℕ, zero, suc, ◌<◌, ◌≤◌, true, false, cond, List, [], ◌∷◌, length, map, get_or, Option, Some, None, IfSome, refl, sym, ap, ap₂, subst, ◌∙◌, arith, true≢false}
-use Rattle.equal.proofs.Common.{find, option_map, is_none, option_map_or, bytes_eq, cases_lt, get_or_append_left, get_or_default, position-Some, Latch, Parts, IsBoundTo, IsCareOf, column_of, CareSet, column_names, CareModel, has_latch, is_input, is_latch, latch_named, unmatched, init_eq, latch_name, column_named, number_or_0, model_of, HaveOneSource, column_within, rebound, list_any_none}
+use Rattle.std.proofs.Common.{◌≡◌, ◌⊎◌, inl, inr, ℕ, zero, suc, ◌<◌, ◌≤◌, true, false, List, [], ◌∷◌, length, map, get_or, Option, Some, None, IfSome, refl, sym, ap, ◌∙◌, arith, true≢false}
+use Rattle.equal.proofs.Common.{find, option_map, bytes_eq, cases_lt, get_or_append_left, get_or_default, position-Some, Latch, Parts, IsBoundTo, IsCareOf, column_of, CareSet, column_names, CareModel, has_latch, is_input, is_latch, unmatched, latch_name, column_named, model_of, HaveOneSource, column_within, rebound, list_any_none}
 use Rattle.std.specs.Prelude.{◌||◌, is_some, nat_lt}
 use Rattle.care_sets.specs.Binding.{is_unknown_name, is_before, BindsAny, BindsBoth, Binds, HasNoFault, IsCare, IsCareModel, IsFirstFault}
 use Rattle.care_sets.proofs.FaultLemmas as faults
 use Rattle.care_sets.specs.declared.fault.CareFault.{CareFault}
 use Rattle.care_sets.specs.declared.fault.CareFault.TheVariants.{Memory}
-use Rattle.care_sets.proofs.FaultLemmas.{passing, none_there}
 use Rattle.equal.specs.Rebound.{bound_to, BindsEach}
 use Rattle.equal.proofs.MatchLemmas.{Match, matched, HasColumn, column_among, column_is}
 
@@ -99,9 +98,6 @@ without_fault net a i fault sound_a sound_i some h = grind arith
 
 -- ---- what binding makes
 
-none_bound : (net : Parts) (first : ℕ) (model : Option Parts) (bound : Option CareModel) → model ≡ None → bound ≡ None → BindsAny net first model bound
-none_bound net first model bound e f = grind arith
-
 pub binds_none : (net : Parts) (a i : Option Parts) (care : CareSet) → a ≡ None → i ≡ None → care.assume ≡ None → care.invariant ≡ None → BindsEach net a i care
 binds_none net a i care no_a no_i no_assume no_invariant = grind arith
 
@@ -123,10 +119,6 @@ any_told net first model bound binds = grind (arith, one_told)
 pub rebound_told : (net : Parts) (care other : CareSet) (a i : Option Parts) → a ≡ model_of care.assume → i ≡ model_of care.invariant
     → BindsEach net a i other → other ≡ rebound net care
 rebound_told net care other a i is_a is_i binds = grind (arith, any_told net 0 care.assume other.assume, any_told net (length net.inputs) care.invariant other.invariant)
-
--- both care sets are of the same models
-one_source : (net : Parts) (first : ℕ) (model : Option CareModel) → model_of model ≡ model_of (option_map (bound_to net first) model)
-one_source net first model = grind arith
 
 pub rebound_source : (net : Parts) (care other : CareSet) → other ≡ rebound net care → HaveOneSource care other
 rebound_source net care other is = grind arith

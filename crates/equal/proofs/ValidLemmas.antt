@@ -1,6 +1,6 @@
 -- The joined netlist is a netlist.
-use Rattle.std.proofs.Common.{◌≡◌, inl, inr, ℕ, zero, suc, ◌+◌, ◌-◌, ◌<◌, ◌≤◌, false, List, [], ◌∷◌, ◌++◌, length, map, get_or, All, Option, Some, None, IfSome, refl, sym, ap, ap₂, subst, ◌∙◌, arith}
-use Rattle.equal.proofs.Common.{IsDistinct, list_any, range_with_len, option_map_or, bytes_eq, cases_lt, or_parts, append_assoc, map-append, length-append, length-map, get_or-map, get_or_default, get_or_append_left, get_or-append-add, get_or-append_right, map-map, columns, column_names, All-map, All-append, All-cons, All-nil, list_any-append, length-range_with_len, get_or-range_with_len, length-map-range_with_len, get_or-map-range_with_len, Sig, Gate, Latch, Parts, count, signal, gate_at, no_gate, signal_names, driven_names, IsSignal, IsNetlist, mark, Pair, IsPairOf, unmatched, columns_by_name, moved, moved_gate_by, moved_gates, joined, joined_pairs, link_gate, miter_gates, no_pair, last_gate, miter, length-column_names, IsBlifName, list_any-map}
+use Rattle.std.proofs.Common.{◌≡◌, inl, inr, ℕ, zero, suc, ◌+◌, ◌-◌, ◌<◌, ◌≤◌, false, List, [], ◌∷◌, ◌++◌, length, map, get_or, All, Option, None, IfSome, refl, sym, ap, subst, ◌∙◌, arith}
+use Rattle.equal.proofs.Common.{IsDistinct, list_any, range_with_len, option_map_or, bytes_eq, cases_lt, or_parts, append_assoc, map-append, length-append, length-map, get_or-map, get_or_default, get_or_append_left, get_or-append-add, get_or-append_right, map-map, column_names, All-map, All-append, All-cons, All-nil, list_any-append, length-range_with_len, get_or-range_with_len, length-map-range_with_len, get_or-map-range_with_len, Sig, Gate, Latch, Parts, count, signal, gate_at, no_gate, signal_names, driven_names, IsSignal, IsNetlist, mark, Pair, IsPairOf, unmatched, columns_by_name, moved, moved_gate_by, moved_gates, joined, joined_pairs, link_gate, miter_gates, no_pair, last_gate, miter, length-column_names, IsBlifName, list_any-map}
 use Rattle.std.specs.List.{AllByRecursion}
 use Rattle.std.proofs.lemmas.Bool.{or_from}
 use Rattle.std.proofs.lemmas.List.Elements.{All-from_get_or, recursion_from_All}

@@ -44,10 +44,6 @@ module _ (net : Parts) (v : List Bool) (wide : length v ≡ length net.inputs + 
 
 -- ---- a known or unknown value
 
-pub unknown_is : (x : Trit) → is_unknown x ≡ true → x ≡ X
-unknown_is X e = refl
-unknown_is x e = cc
-
 pub unknown_is_no_bit : (x : Trit) (b : Bool) → is_unknown x ≡ true → x ≢ bit b
 unknown_is_no_bit x true e same = let h : is_unknown (bit true) ≡ true = ap is_unknown (sym same) ∙ e in cc
 unknown_is_no_bit x false e same = let h : is_unknown (bit false) ≡ true = ap is_unknown (sym same) ∙ e in cc

@@ -1,5 +1,5 @@
 -- A literal that says whether two values aren't known and equal.
-use Rattle.std.proofs.Common.{◌≡◌, Bool, true, not, List, ◌++◌, length, refl, sym, ap, ◌∙◌, arith}
+use Rattle.std.proofs.Common.{◌≡◌, Bool, true, not, List, ◌++◌, length, refl, sym, ◌∙◌, arith}
 use Rattle.ternary_clauses.proofs.Common.{Trit, bit, Formula, Rails, holds, IsModel, HasModelFrom, is_one, is_known, Reads, AreRailsOf, value_read, TakesValue, HasNewRails}
 use Rattle.ternary_clauses.specs.Apart.{SaysApart}
 use Rattle.ternary_clauses.specs.Nodes.{agreed, apart_clauses}

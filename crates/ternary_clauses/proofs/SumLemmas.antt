@@ -1,5 +1,5 @@
 -- Literals that sum up others.
-use Rattle.std.proofs.Common.{◌≡◌, inl, inr, ℕ, ◌<◌, ◌+◌, ◌*◌, Bool, true, false, not, ◌&&◌, ◌||◌, List, [], ◌∷◌, ◌++◌, length, refl, sym, ap, ◌∙◌, arith}
+use Rattle.std.proofs.Common.{◌≡◌, inl, inr, ℕ, ◌<◌, ◌+◌, ◌*◌, Bool, true, false, not, ◌&&◌, ◌||◌, List, [], ◌∷◌, ◌++◌, length, sym, ap, ◌∙◌, arith}
 use Rattle.ternary_clauses.proofs.Common.{cases_lt, and_parts, and_from, length_push, get_or_append_left, All-nil, All-push, All-weaker, list_any, bit, Formula, Rails, says, negation, holds, IsModel, IsFormula, HasModelFrom, SaysAny, get_or_push, TakesValue, HasNewRails}
 use Rattle.std.proofs.lemmas.List.{take-append-le, take_all}
 use Rattle.std.proofs.lemmas.List.Folds.{list_any-append}

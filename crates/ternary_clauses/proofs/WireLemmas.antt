@@ -1,6 +1,6 @@
 -- Rails for gate after gate.
-use Rattle.std.proofs.Common.{◌≡◌, ◌≢◌, inl, inr, ℕ, ◌<◌, ◌+◌, Bool, true, false, List, [], ◌∷◌, ◌++◌, length, refl, sym, ◌∙◌, arith, append_assoc, true≢false}
-use Rattle.ternary_clauses.proofs.Common.{cases_lt, length_push, get_or_append_left, All-push, All, Trit, Zero, One, X, Parts, first_gate, value_in, Formula, Rails, IsModel, IsFormula, HasModelFrom, Grows, is_known, Reads, AreWithin, AreRailsOf, no_rails, is_marked, IsWanted, AreWires, get_or_push, TakesValue, HasNewRails}
+use Rattle.std.proofs.Common.{◌≡◌, ◌≢◌, ℕ, ◌<◌, ◌+◌, Bool, true, false, List, [], ◌∷◌, ◌++◌, length, refl, sym, ◌∙◌, arith, append_assoc, true≢false}
+use Rattle.ternary_clauses.proofs.Common.{length_push, get_or_append_left, All-push, All, Trit, X, Parts, first_gate, value_in, Formula, Rails, IsModel, IsFormula, HasModelFrom, Grows, is_known, Reads, AreWithin, AreRailsOf, no_rails, is_marked, IsWanted, AreWires, get_or_push, TakesValue, HasNewRails}
 use Rattle.ternary_clauses.specs.Encoding.{gate_rails}
 use Rattle.ternary_clauses.specs.Wires.{HasFirst}
 use Rattle.ternary_clauses.proofs.ReadingLemmas.{Reads-more, All-within-more}

@@ -1,5 +1,4 @@
-use Rattle.std.proofs.Common.{◌∙◌, ap, length, arith}
-use Rattle.equal.proofs.Common.{count}
+use Rattle.std.proofs.Common.{arith}
 use Rattle.equal.proofs.AlikeLemmas.{count_joined}
 use Rattle.equal.proofs.alike.find_hints.Goals as goal
 

@@ -1,5 +1,4 @@
-use Rattle.std.proofs.Common.{◌≡◌, None, Some, sym, subst, ◌∙◌, arith}
-use Rattle.equal.proofs.Common.{IfOk, Answer}
+use Rattle.std.proofs.Common.{None, sym, ◌∙◌, arith}
 use Rattle.equal.proofs.CompareLemmas.{difference_wide, told_of}
 use Rattle.equal.proofs.comparing.compare_accepted.Goals as goal
 

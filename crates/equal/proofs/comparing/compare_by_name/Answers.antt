@@ -1,7 +1,6 @@
-use Rattle.std.proofs.Common.{rules, subst, sym, ◌∙◌, arith}
-use Rattle.equal.proofs.Common.{CareSet, Matched, Compares, rebound}
+use Rattle.std.proofs.Common.{rules, subst, arith}
+use Rattle.equal.proofs.Common.{CareSet, Matched, Compares}
 use Rattle.equal.specs.Compared.{matched_netlists}
-use Rattle.equal.proofs.CompareLemmas.{told_unmatched}
 use Rattle.equal.proofs.ReboundLemmas.{rebound_source}
 use Rattle.equal.proofs.comparing.compare_by_name.Goals as goal
 

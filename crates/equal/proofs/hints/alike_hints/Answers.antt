@@ -1,6 +1,4 @@
-use Rattle.std.proofs.Common.{◌≡◌, ◌<◌, List, length, subst, arith}
-use Rattle.loops.specs.declared.structure.Block.{Block}
-use Rattle.loops.specs.Blocks.{block_at}
+use Rattle.std.proofs.Common.{arith}
 use Rattle.fixpoint.proofs.CutLemmas.{block-gates, gates-within}
 use Rattle.equal.proofs.hints.alike_hints.Goals as goal
 

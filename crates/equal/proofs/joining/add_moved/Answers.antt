@@ -1,4 +1,4 @@
-use Rattle.std.proofs.Common.{◌++◌, ◌∷◌, [], map, ap, ap₂, sym, ◌∙◌, arith}
+use Rattle.std.proofs.Common.{◌∷◌, [], map, arith}
 use Rattle.equal.proofs.Common.{append_assoc, range_with_len, moved_gate_by, map-range_with_len_more}
 use Rattle.equal.proofs.joining.add_moved.Goals as goal
 

@@ -1,4 +1,4 @@
-use Rattle.std.proofs.Common.{◌++◌, ◌∷◌, [], ap₂, sym, ◌∙◌, arith}
+use Rattle.std.proofs.Common.{arith}
 use Rattle.equal.proofs.Common.{taken}
 use Rattle.equal.proofs.joining.copy_gates.Goals as goal
 

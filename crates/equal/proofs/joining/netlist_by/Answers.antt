@@ -1,4 +1,4 @@
-use Rattle.std.proofs.Common.{◌≡◌, inl, inr, None, Some, sym, ◌∙◌, arith}
+use Rattle.std.proofs.Common.{arith}
 use Rattle.netlist.proofs.Validity.{no_fault_of_netlist}
 use Rattle.equal.proofs.joining.netlist_by.Goals as goal
 

@@ -1,5 +1,4 @@
-use Rattle.std.proofs.Common.{◌+◌, ◌-◌, ◌≤◌, ◌++◌, List, length, All, subst, sym, ◌∙◌, arith}
-use Rattle.equal.proofs.Common.{Pair, output_pairs, latch_pairs}
+use Rattle.std.proofs.Common.{◌-◌, arith}
 use Rattle.equal.proofs.CompareLemmas.{pairs_fit}
 use Rattle.equal.proofs.least.joined_pairs.Goals as goal
 

@@ -1,5 +1,4 @@
-use Rattle.std.proofs.Common.{not, ap, sym, ◌∙◌, arith}
-use Rattle.equal.proofs.Common.{Latch, is_latch}
+use Rattle.std.proofs.Common.{arith}
 use Rattle.equal.proofs.NameLemmas.{find_next, find_here}
 use Rattle.equal.proofs.matching.first_new_latch.Goals as goal
 

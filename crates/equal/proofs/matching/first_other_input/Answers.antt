@@ -1,6 +1,5 @@
-use Rattle.std.proofs.Common.{◌<◌, not, length, ap, sym, ◌∙◌, arith}
+use Rattle.std.proofs.Common.{arith}
 use Rattle.care_sets.proofs.BindingLemmas.{input_name}
-use Rattle.equal.proofs.Common.{is_input}
 use Rattle.equal.proofs.NameLemmas.{find_next, find_here}
 use Rattle.equal.proofs.matching.first_other_input.Goals as goal
 

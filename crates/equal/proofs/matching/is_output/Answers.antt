@@ -1,5 +1,4 @@
-use Rattle.std.proofs.Common.{ap, ◌∙◌, arith}
-use Rattle.equal.proofs.Common.{list_any, sig_eq}
+use Rattle.std.proofs.Common.{arith}
 use Rattle.equal.proofs.NameLemmas.{output_found}
 use Rattle.equal.proofs.matching.is_output.Goals as goal
 

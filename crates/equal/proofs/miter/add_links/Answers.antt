@@ -1,4 +1,4 @@
-use Rattle.std.proofs.Common.{◌++◌, ◌∷◌, [], map, ap, ap₂, sym, ◌∙◌, arith}
+use Rattle.std.proofs.Common.{◌∷◌, [], map, arith}
 use Rattle.equal.proofs.Common.{append_assoc, range_with_len, link_gate, map-range_with_len_more}
 use Rattle.equal.proofs.miter.add_links.Goals as goal
 

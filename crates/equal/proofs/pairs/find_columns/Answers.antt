@@ -1,4 +1,4 @@
-use Rattle.std.proofs.Common.{◌<◌, ◌++◌, ◌∷◌, [], ap₂, sym, ◌∙◌, arith}
+use Rattle.std.proofs.Common.{◌<◌, arith}
 use Rattle.equal.proofs.Common.{columns, column_named}
 use Rattle.equal.proofs.MatchLemmas.{column_taken}
 use Rattle.equal.proofs.pairs.find_columns.Goals as goal

@@ -1,5 +1,4 @@
-use Rattle.std.proofs.Common.{ap, sym, ◌∙◌, arith}
-use Rattle.equal.proofs.Common.{pair_of, signal_named}
+use Rattle.std.proofs.Common.{arith}
 use Rattle.equal.proofs.MatchLemmas.{named}
 use Rattle.equal.proofs.pairs.output_pair.Goals as goal
 

@@ -1,4 +1,4 @@
-use Rattle.std.proofs.Common.{◌≡◌, arith}
+use Rattle.std.proofs.Common.{arith}
 use Rattle.ternary_clauses.proofs.ColumnLemmas.{columns-none, column-step}
 use Rattle.ternary_clauses.proofs.columns.add_columns.Goals as goal
 

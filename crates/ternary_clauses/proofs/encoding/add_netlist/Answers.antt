@@ -1,5 +1,4 @@
-use Rattle.std.proofs.Common.{List, length, subst, arith}
-use Rattle.ternary_clauses.proofs.Common.{Rails, AreWires, AreBound}
+use Rattle.std.proofs.Common.{arith}
 use Rattle.ternary_clauses.proofs.BindLemmas.{netlist-says}
 use Rattle.ternary_clauses.proofs.encoding.add_netlist.Goals as goal
 

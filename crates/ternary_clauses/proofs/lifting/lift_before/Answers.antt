@@ -1,7 +1,7 @@
 use Rattle.std.proofs.Common.{◌≡◌, [], ◌∷◌, ◌++◌, length, sym, ap, subst, ◌∙◌, arith}
 use Rattle.ternary_clauses.proofs.Common.{length_push, IsTable}
 use Rattle.bdd_store.proofs.NodeLemmas.{plain}
-use Rattle.ternary_clauses.proofs.LiftLemmas.{base_rails, base-table, step-table}
+use Rattle.ternary_clauses.proofs.LiftLemmas.{base-table, step-table}
 use Rattle.ternary_clauses.proofs.GrowthLemmas.{Extends-refl, Extends-chain}
 use Rattle.ternary_clauses.proofs.ReadingLemmas.{All-within-more}
 use Rattle.ternary_clauses.proofs.lifting.lift_before.Goals as goal

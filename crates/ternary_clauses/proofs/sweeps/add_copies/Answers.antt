@@ -1,4 +1,4 @@
-use Rattle.std.proofs.Common.{◌≡◌, arith}
+use Rattle.std.proofs.Common.{arith}
 use Rattle.ternary_clauses.proofs.SweepLemmas.{copies-none, copies-step}
 use Rattle.ternary_clauses.proofs.sweeps.add_copies.Goals as goal
 

@@ -1,5 +1,5 @@
-use Rattle.std.proofs.Common.{◌≡◌, List, All, None, [], true, ap, subst, sym, ◌∙◌, arith}
-use Rattle.equal.proofs.Common.{IfOk-weaker, IfOk, Parts, IsCareOf, Pair, IsPairOf, AreNeverApart, difference, joined, Accepted}
+use Rattle.std.proofs.Common.{◌≡◌, List, None, [], true, ap, subst, sym, ◌∙◌, arith}
+use Rattle.equal.proofs.Common.{IfOk-weaker, IfOk, Parts, Pair, AreNeverApart, difference, joined, Accepted}
 use Rattle.equal.proofs.AlikeLemmas.{never_differ}
 use Rattle.equal.proofs.CompareLemmas.{care_joined, pairs_joined}
 use Rattle.equal.proofs.accepted.AcceptedNetlists.are_alike.Goals as goal

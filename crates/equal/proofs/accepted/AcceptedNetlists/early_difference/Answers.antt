@@ -1,5 +1,5 @@
 use Rattle.std.proofs.Common.{◌≡◌, length, ap, subst, sym, ◌∙◌, arith}
-use Rattle.equal.proofs.Common.{IfOk, Parts, IsCareOf, IsKnownEarly, IsFound, difference, joined_pairs, miter_gates, miter, Accepted}
+use Rattle.equal.proofs.Common.{Parts, IsCareOf, joined_pairs, miter_gates, miter, Accepted}
 use Rattle.equal.proofs.CompareLemmas.{care_joined}
 use Rattle.equal.proofs.DifferenceLemmas.{early_found}
 use Rattle.equal.proofs.MatchLemmas.{matched}

@@ -1,6 +1,5 @@
-use Rattle.std.proofs.Common.{◌≡◌, ◌++◌, ◌+◌, ◌≤◌, List, length, ap, subst, sym, ◌∙◌, arith}
-use Rattle.equal.proofs.Common.{IfOk, Gate, count, IsNetlist, Pair, joined_pairs, moved_gates, miter_gates, miter, with_gates, Accepted}
-use Rattle.std.specs.Prelude.{suc}
+use Rattle.std.proofs.Common.{◌≡◌, ◌++◌, ◌+◌, List, length, ap, subst, ◌∙◌, arith}
+use Rattle.equal.proofs.Common.{IfOk, Gate, Pair, joined_pairs, moved_gates, miter_gates, miter, with_gates, Accepted}
 use Rattle.equal.proofs.ValidLemmas.{miter_valid}
 use Rattle.equal.proofs.accepted.AcceptedNetlists.miter.Goals as goal
 

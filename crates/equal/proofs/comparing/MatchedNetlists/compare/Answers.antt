@@ -2,7 +2,7 @@ use Rattle.std.proofs.Common.{◌≡◌, None, sym, subst, ◌∙◌, arith}
 use Rattle.refusals.specs.declared.observe.Observe.TheVariants as observe
 use Rattle.equal.proofs.Common.{refusal, Matched}
 use Rattle.equal.proofs.BoundLemmas.{below_first, out_first, same_fault}
-use Rattle.equal.proofs.CompareLemmas.{told_first, answered, given_up}
+use Rattle.equal.proofs.CompareLemmas.{given_up}
 use Rattle.equal.proofs.comparing.MatchedNetlists.compare.Goals as goal
 
 pub compare_second-requires : goal.compare_second-requires

@@ -1,5 +1,5 @@
-use Rattle.std.proofs.Common.{◌≡◌, ◌<◌, List, length, sym, ap, subst, ◌∙◌, arith}
-use Rattle.ternary_clauses.proofs.Common.{All-get_or, on_ok_weaker, All, AllZip, Gate, no_gate, gate_at, Rails, AreWithin, AreRailsOf, IsSeen, rails_at, CopiedLoop}
+use Rattle.std.proofs.Common.{List, sym, subst, arith}
+use Rattle.ternary_clauses.proofs.Common.{All-get_or, on_ok_weaker, All, AllZip, Gate, gate_at, Rails, AreWithin, AreRailsOf, IsSeen, rails_at, CopiedLoop}
 use Rattle.std.specs.List.{slice_index}
 use Rattle.std.specs.Prelude.{OnOk}
 use Rattle.dual_rail.specs.Local.{IsDiagramOf}
