@@ -8,26 +8,20 @@ use Rattle.aig_core.specs.Answers.{IsFault, Makes, Builds}
 use Rattle.aig_core.proofs.ConjunctionLemmas.{conjunction-none}
 
 pub IsFault-grows : (old new : Graph) (f : AigFault) → length old.ands ≤ length new.ands → IsFault old f → IsFault new f
-IsFault-grows old new TooLarge h is = omega (arith, is)
-IsFault-grows old new Memory h is = tt
+IsFault-grows old new f h is = grind arith
 
 pub fault_from : (g : Graph) (f : AigFault) → (f ≡ TooLarge → 4000000 < length g.ands) → IsFault g f
-fault_from g TooLarge over = over refl
-fault_from g Memory over = tt
+fault_from g f over = grind arith
 
 pub err_is : {T : Type 0} (r : Result T AigFault) (f : AigFault) → IsErrAnd r (λ y. y ≡ f) → r ≡ Err f
-err_is (Ok e) f h = absurd h
-err_is (Err y) f h = ap Err h
+err_is r f h = grind arith
 
 -- a fault that is handed on
 pub handed : (r : Result Edge AigFault) (f : AigFault) (new : Graph) (made : Made) → IsErrAnd r (λ y. y ≡ f) → IsFault made.graph f → Makes r new made
 handed r f new made h is = rw (err_is r f h) is
 
 pub too_many : (g : Graph) (a b : Edge) → NeedsAnd g a b → length g.ands ≡ 4000000 → 4000000 < length (conjunction g a b).graph.ands
-too_many g a b needs full =
-    let new : entered g.ands (pair_of a b) ≡ g.ands ++ pair_of a b ∷ [] = ap (λ t. if t then g.ands else g.ands ++ pair_of a b ∷ []) needs.new in
-    let is = ap (λ (made : Made). length made.graph.ands) (conjunction-none g a b needs.apart) in
-    omega (arith, length_push g.ands (pair_of a b), ap length new)
+too_many g a b needs full = grind (arith, conjunction-none g a b needs.apart, length_push g.ands (pair_of a b))
 
 pub builds_refused : {T : Type 0} (r : Result T AigFault) (f : AigFault) (g : Graph) (edges : List Edge) (b : Building) → IsErrAnd r (λ y. y ≡ f) → IsFault b.graph f → Builds r g edges b
 builds_refused r f g edges b h is = rw (err_is r f h) is

@@ -43,8 +43,7 @@ building-none net = refl
 
 pub building_next : (net : Parts) (gates : List ℕ) (k n : ℕ) → k < length gates → n ≡ get_or gates k n → with_gate net (building net (take k gates)) n ≡ building net (take (k + 1) gates)
 unfolding building
-building_next net gates k n l is =
-    ap (with_gate net (building net (take k gates))) is ∙ sym (fold_more (with_gate net) (nothing_built net) gates k n l)
+building_next net gates k n l is = grind (arith, fold_more (with_gate net) (nothing_built net) gates k n l)
 
 -- ---- signals
 
@@ -62,37 +61,21 @@ signal_edge-gate : (net : Parts) (edges : List Edge) (s : Sig) → columns net �
 signal_edge-gate net edges s l = ap (λ t. if t then edge_to (1 + s.0) else get_or edges (s.0 - columns net) (edge 0)) (le-ltb s.0 (columns net) l)
 
 pub signal_edge_is : (net : Parts) (g : Graph) (edges : List Edge) (s : Sig) → HasEdges net g edges → IsSignal net s → IsEdge g (signal_edge net edges s)
-signal_edge_is net g edges s has signal = elim (cases_lt s.0 (columns net)) [
-  | inl l ↦ rw (signal_edge-column net edges s l) (omega (arith, has.inputs, has.latches))
-  | inr m ↦ rw (signal_edge-gate net edges s m) (All-get_or (IsEdge g) edges (s.0 - columns net) (edge 0) (omega (arith, has.width, signal)) has.all)
-]
+signal_edge_is net g edges s has signal = grind arith
 
 pub signal_edges_are : (net : Parts) (g : Graph) (edges : List Edge) (signals : List Sig) → HasEdges net g edges → All (IsSignal net) signals → All (IsEdge g) (map (signal_edge net edges) signals)
-signal_edges_are net g edges signals has all =
-    All-map (IsEdge g) (signal_edge net edges) signals (λ k d l. signal_edge_is net g edges (get_or signals k d) has (all k d l))
+signal_edges_are net g edges signals has all = grind (arith, All-map (IsEdge g) (signal_edge net edges) signals, signal_edge_is net g edges)
 
 wire-column : (net : Parts) (v : List Bool) (s : Sig) → length v ≡ columns net → s.0 < columns net → wire (fix net (bits v)) s ≡ bit (get_or v s.0 false)
-wire-column net v s width l =
-    let len = length-map v bit in
-    let m : s.0 < length v = omega arith in
-    get_or_append_left (bits v) (fix_gates net (bits v)) X s.0 (omega arith) ∙ bits-at v s.0 m
+wire-column net v s width l = grind (arith, length-map v bit, get_or_append_left (bits v) (fix_gates net (bits v)) X s.0, bits-at v s.0)
 
 wire-gate : (net : Parts) (v : List Bool) (s : Sig) → length v ≡ columns net → columns net ≤ s.0 → wire (fix net (bits v)) s ≡ get_or (fix_gates net (bits v)) (s.0 - columns net) X
-wire-gate net v s width m =
-    get_or-append_right (bits v) (fix_gates net (bits v)) (columns net) s.0 X (omega (arith, length-map v bit)) m
+wire-gate net v s width m = grind (arith, get_or-append_right (bits v) (fix_gates net (bits v)) (columns net) s.0 X, length-map v bit)
 
 pub signal_value : (net : Parts) (gates : List ℕ) (b : Building) (v : List Bool) (s : Sig) → AreBuilt net gates b → IsSignal net s
     → (columns net ≤ s.0 → list_any (nat_eq (s.0 - columns net)) gates ≡ true) → length v ≡ columns net
     → bit (den b.graph (signal_edge net b.edges s) v) ≡ wire (fix net (bits v)) s
-signal_value net gates b v s are signal among width = elim (cases_lt s.0 (columns net)) [
-  | inl l ↦
-      let m : s.0 < length v = omega arith in
-      ap bit (ap (λ e. den b.graph e v) (signal_edge-column net b.edges s l) ∙ den-column b.graph s.0 v m) ∙ sym (wire-column net v s width l)
-  | inr m ↦
-      ap (λ e. bit (den b.graph e v)) (signal_edge-gate net b.edges s m)
-      ∙ are.values (s.0 - columns net) v (omega (arith, signal)) (among m) width
-      ∙ sym (wire-gate net v s width m)
-]
+signal_value net gates b v s are signal among width = grind (arith, cases_lt s.0 (columns net), signal_edge-column net b.edges s, den-column b.graph s.0 v, wire-column net v s width, signal_edge-gate net b.edges s, wire-gate net v s width)
 
 -- a gate among signals is among their numbers, and so are those of the rest
 among_numbers : (net : Parts) (gates : List ℕ) (s : Sig) (rest : List Sig) → AllAmong gates (numbers_from (columns net) (s ∷ rest))
@@ -119,8 +102,7 @@ signals_values net gates b v (s ∷ rest) are all among width =
 pub HasEdges-gate : (net : Parts) (b : Building) (n : ℕ) → IsSound b.graph → IsNetlist net → HasEdges net b.graph b.edges → n < length net.gates
     → IsMade b.graph (gate_made net b n) (λ v. value (gate_at net n).cover (map (λ e. den b.graph e v) (map (signal_edge net b.edges) (gate_at net n).pins)))
 HasEdges-gate net b n sound valid has l =
-    cover_is b.graph (map (signal_edge net b.edges) (gate_at net n).pins) (gate_at net n).cover sound
-    (signal_edges_are net b.graph b.edges (gate_at net n).pins has (valid.pins n no_gate l))
+    grind (arith, cover_is b.graph (map (signal_edge net b.edges) (gate_at net n).pins) (gate_at net n).cover sound (signal_edges_are net b.graph b.edges (gate_at net n).pins has (valid.pins n no_gate l)), signal_edges_are net b.graph b.edges (gate_at net n).pins has (valid.pins n no_gate l))
 
 pub gate_built : (net : Parts) (gates : List ℕ) (b : Building) (n : ℕ) → IsNetlist net → AreBuilt net gates b → n < length net.gates
     → AllAmong gates (numbers_from (columns net) (gate_at net n).pins) → AreBuilt net (gates ++ n ∷ []) (with_gate net b n)
@@ -153,26 +135,11 @@ gate_built net gates b n valid are l among =
     }
 
 pub nothing_is_built : (net : Parts) → AreBuilt net [] (nothing_built net)
-nothing_is_built net = record {
-  sound = record { each = λ i x at. absurd (none i x at); once = λ i j x at _. absurd (none i x at) };
-  has = record {
-    inputs = refl;
-    latches = refl;
-    width = length-replicate (length net.gates) (edge 0);
-    all = All-replicate (IsEdge (empty (length net.inputs) (length net.latches))) (length net.gates) (edge 0) (omega arith);
-  };
-  values = λ n v l there width. absurd (false≢true there);
-}
-  where
-    none : (i : ℕ) (x : And) → slice_get {X = And} [] i ≡ Some x → ⊥
-    none i x at = absurd (none-some x at)
+nothing_is_built net = grind (arith, length-replicate (length net.gates) (edge 0), All-replicate (IsEdge (empty (length net.inputs) (length net.latches))) (length net.gates) (edge 0), false≢true, none-some)
 
 gates_built : (net : Parts) (seen rest : List ℕ) (b : Building) → IsNetlist net → AreBuilt net seen b → AllFollow (gate_graph net) seen rest → AreBuilt net (seen ++ rest) (fold (with_gate net) b rest)
 gates_built net seen [] b valid are follow = rw append-nil are
-gates_built net seen (n ∷ rest) b valid are follow =
-    let l : n < length net.gates = omega (arith, length-gate_graph net, follow.0) in
-    let one = gate_built net seen b n valid are l (rw (gate_successors net n l) at follow.1) in
-    rw (← append_assoc seen (n ∷ []) rest) (gates_built net (seen ++ n ∷ []) rest (with_gate net b n) valid one follow.2)
+gates_built net seen (n ∷ rest) b valid are follow = grind (arith, length-gate_graph net, gate_built net seen b n valid are, gate_successors net n, append_assoc seen (n ∷ []) rest, gates_built net (seen ++ n ∷ []) rest (with_gate net b n) valid)
 
 -- ---- the whole netlist
 
@@ -180,9 +147,7 @@ pub sources_are : (net : Parts) → IsNetlist net → All (IsSignal net) (map (�
 sources_are net valid = All-map (IsSignal net) (λ (latch : Latch). latch.from) net.latches valid.sources
 
 pub needed_within : (net : Parts) → IsNetlist net → All (λ n. n < length net.gates) (numbers_from (columns net) (needed_signals net))
-needed_within net valid =
-    numbers_within net (needed_signals net)
-    (All-append (IsSignal net) net.outputs (map (λ (latch : Latch). latch.from) net.latches) valid.outputs (sources_are net valid))
+needed_within net valid = grind (arith, numbers_within net (needed_signals net), All-append (IsSignal net) net.outputs, sources_are net valid)
 
 numbers-append : (first : ℕ) (xs ys : List Sig) → numbers_from first (xs ++ ys) ≡ numbers_from first xs ++ numbers_from first ys
 numbers-append first xs ys = ap (map (λ (s : Sig). s.0 - first)) (filter-append (λ (s : Sig). nat_le first s.0) xs ys) ∙ map-append (λ (s : Sig). s.0 - first) (filter (λ (s : Sig). nat_le first s.0) xs) (filter (λ (s : Sig). nat_le first s.0) ys)
@@ -194,8 +159,7 @@ all_right : (P : ℕ → Type 0) (xs ys : List ℕ) → All P (xs ++ ys) → All
 all_right P xs ys h k d l = subst P (get_or-append-add xs ys k d) (h (length xs + k) d (omega (arith, length-append xs ys)))
 
 pub needed_in_graph : (net : Parts) → IsNetlist net → All (λ n. n < length (gate_graph net)) (numbers_from (columns net) (needed_signals net))
-needed_in_graph net valid k d l =
-    omega (arith, length-gate_graph net, needed_within net valid k d l)
+needed_in_graph net valid k d l = grind (arith, length-gate_graph net, needed_within net valid k d l)
 
 order_within : (graph : List (List ℕ)) (count : ℕ) (seen nodes : List ℕ) → length graph ≡ count → AllFollow graph seen nodes → All (λ n. n < count) nodes
 order_within graph count seen [] size h = All-nil (λ n. n < count)
@@ -203,8 +167,7 @@ order_within graph count seen (n ∷ rest) size h = All-cons (λ m. m < count) n
 
 pub build_order_within : (net : Parts) (order : List ℕ) → IsNetlist net → IsGateOrder net order → All (λ n. n < length net.gates) (build_order net)
 build_order_within net order valid is =
-    let placed = postorder_is (gate_graph net) (gate_ranks net order valid is) (numbers_from (columns net) (needed_signals net)) (needed_in_graph net valid) in
-    order_within (gate_graph net) (length net.gates) [] (build_order net) (length-gate_graph net) placed.order
+    grind (arith, postorder_is (gate_graph net) (gate_ranks net order valid is) (numbers_from (columns net) (needed_signals net)) (needed_in_graph net valid), gate_ranks net order valid is, needed_in_graph net valid, order_within (gate_graph net) (length net.gates) [] (build_order net) (length-gate_graph net), length-gate_graph net)
 
 pub record IsBuiltWhole (net : Parts) (gates : List ℕ) (b : Building) : Type 0 where
   pub are : AreBuilt net gates b

@@ -15,11 +15,7 @@ pub same_edge : (a b : Edge) → a.0 ≡ b.0 → a ≡ b
 same_edge a b e = λ j. record { 0 = e j }
 
 pub same_and : (x y : And) → same_pair x y ≡ true → x ≡ y
-same_and x y h =
-    let parts = and_parts (x.greater.0 == y.greater.0) (x.smaller.0 == y.smaller.0) h in
-    let high = eqb-true x.greater.0 y.greater.0 parts.0 in
-    let low = eqb-true x.smaller.0 y.smaller.0 parts.1 in
-    λ j. record { greater = record { 0 = high j }; smaller = record { 0 = low j } }
+same_and x y h = grind arith
 
 -- what is known where no simple case applies
 pub record AreApart (a b : Edge) : Type 0 where
@@ -36,16 +32,13 @@ pub record IsSimple (a b e : Edge) : Type 0 where
   pub value : (g : Graph) (v : List Bool) → den g e v ≡ (den g a v && den g b v)
 
 and_false : (b : Bool) → false ≡ (b && false)
-and_false true = refl
-and_false false = refl
+and_false b = grind arith
 
 and_same : (b : Bool) → b ≡ (b && b)
-and_same true = refl
-and_same false = refl
+and_same b = grind arith
 
 and_opposite : (b : Bool) → false ≡ (not b && b)
-and_opposite true = refl
-and_opposite false = refl
+and_opposite b = grind arith
 
 den-zero : (g : Graph) (e : Edge) (v : List Bool) → e.0 ≡ 0 → den g e v ≡ false
 den-zero g e v h = ap (λ x. den g x v) (same_edge e (edge 0) h) ∙ den-constant g v
@@ -73,35 +66,14 @@ module _ (a b : Edge) where
   one_left h = record { edge_of = λ g _ k. k; value = λ g v. ap (λ x. x && den g b v) (sym (den-one g a v h)) }
 
   one_right : b.0 ≡ 1 → IsSimple a b a
-  one_right h = record {
-    edge_of = λ g k _. k;
-    value = λ g v. and_with_true (den g a v) ∙ ap (λ x. den g a v && x) (sym (den-one g b v h));
-  }
+  one_right h = grind (arith, and_with_true, den-one)
 
   equals : a.0 ≡ b.0 → IsSimple a b a
-  equals h = record {
-    edge_of = λ g k _. k;
-    value = λ g v. and_same (den g a v) ∙ ap (λ x. den g a v && x) (ap (λ x. den g x v) (same_edge a b h));
-  }
+  equals h = grind arith
 
   pub simple_cases : MatchOption (simple_and a b) (AreApart a b) (IsSimple a b)
-  simple_cases = by (a.0 == 0) (b.0 == 0) (a.0 == (complement b).0) (a.0 == 1) (b.0 == 1) (a.0 == b.0) refl refl refl refl refl refl
-    where
-      by : (t0 t1 t2 t3 t4 t5 : Bool) → (a.0 == 0) ≡ t0 → (b.0 == 0) ≡ t1 → (a.0 == (complement b).0) ≡ t2 → (a.0 == 1) ≡ t3 → (b.0 == 1) ≡ t4 → (a.0 == b.0) ≡ t5 → MatchOption (if t0 || (t1 || t2) then Some (edge 0) else (if t3 then Some b else (if t4 || t5 then Some a else None))) (AreApart a b) (IsSimple a b)
-      by true t1 t2 t3 t4 t5 e0 e1 e2 e3 e4 e5 = zero_left (eqb-true a.0 0 e0)
-      by false true t2 t3 t4 t5 e0 e1 e2 e3 e4 e5 = zero_right (eqb-true b.0 0 e1)
-      by false false true t3 t4 t5 e0 e1 e2 e3 e4 e5 = opposites (eqb-true a.0 (complement b).0 e2)
-      by false false false true t4 t5 e0 e1 e2 e3 e4 e5 = one_left (eqb-true a.0 1 e3)
-      by false false false false true t5 e0 e1 e2 e3 e4 e5 = one_right (eqb-true b.0 1 e4)
-      by false false false false false true e0 e1 e2 e3 e4 e5 = equals (eqb-true a.0 b.0 e5)
-      by false false false false false false e0 e1 e2 e3 e4 e5 = record {
-        a_zero = eqb-false a.0 0 e0;
-        b_zero = eqb-false b.0 0 e1;
-        complements = eqb-false a.0 (complement b).0 e2;
-        a_one = eqb-false a.0 1 e3;
-        b_one = eqb-false b.0 1 e4;
-        equal = eqb-false a.0 b.0 e5;
-      }
+  simple_cases =
+      grind (arith, zero_left, eqb-true a.0 0, zero_right, eqb-true b.0 0, opposites, eqb-true a.0 (complement b).0, one_left, eqb-true a.0 1, one_right, eqb-true b.0 1, equals, eqb-true a.0 b.0, eqb-false a.0 0, eqb-false b.0 0, eqb-false a.0 (complement b).0, eqb-false a.0 1, eqb-false b.0 1, eqb-false a.0 b.0)
 
 -- ---- an AND that is made or found
 
@@ -114,21 +86,7 @@ pub record IsPair (g : Graph) (a b : Edge) (x : And) : Type 0 where
   pub value : (v : List Bool) → (den g x.greater v && den g x.smaller v) ≡ (den g a v && den g b v)
 
 pub pair_is : (g : Graph) (a b : Edge) → IsEdge g a → IsEdge g b → AreApart a b → IsPair g a b (pair_of a b)
-pair_is g a b in_a in_b apart = by (leb b.0 a.0) refl
-  where
-    by : (t : Bool) → leb b.0 a.0 ≡ t → IsPair g a b (if t then record { greater = a; smaller = b } else record { greater = b; smaller = a })
-    by true e =
-        let le = leb-true b.0 a.0 e in
-        record {
-          sound = record { earlier = in_a; greater = omega (arith, apart.equal); constant = omega (arith, apart.b_zero, apart.b_one); apart = apart.complements };
-          value = λ v. refl;
-        }
-    by false e =
-        let lt = leb-false b.0 a.0 e in
-        record {
-          sound = record { earlier = in_b; greater = omega arith; constant = omega (arith, apart.a_zero, apart.a_one); apart = λ h. apart.complements (opposite_back a b h) };
-          value = λ v. and_comm (den g b v) (den g a v);
-        }
+pair_is g a b in_a in_b apart = grind arith
 
 -- where no AND passes a test, the first place that does is past the end
 none_passes : (ands : List And) (x : And) → list_any (same_pair x) ands ≡ false → position_or_len (same_pair x) ands ≡ length ands
@@ -150,10 +108,7 @@ pub record IsEntered (g : Graph) (x : And) : Type 0 where
   pub grows : length g.ands ≤ length (entered g.ands x)
 
 pub any_place : {T : Type 0} (p : T → Bool) (xs : List T) → list_any p xs ≡ true → position_or_len p xs < length xs
-any_place p xs h = elim (cases_lt (position_or_len p xs) (length xs)) [
-  | inl inside ↦ inside
-  | inr past ↦ absurd (true≢false (sym h ∙ list_any_none p xs (λ k d l. fails_before_first p xs k d (omega arith))))
-]
+any_place p xs h = grind (arith, cases_lt (position_or_len p xs) (length xs), true≢false, list_any_none p xs, fails_before_first p xs)
 
 -- an AND of a longer list is there already or is the last
 read_push : (xs : List And) (x y : And) (p : ℕ) → slice_get (xs ++ x ∷ []) p ≡ Some y → (slice_get xs p ≡ Some y) ⊎ ((p ≡ length xs) × (y ≡ x))
@@ -168,11 +123,7 @@ slice_get-last (y ∷ xs) x = slice_get-last xs x
 
 -- the AND itself isn't among those that none of passes
 absent : (ands : List And) (x : And) (p : ℕ) → list_any (same_pair x) ands ≡ false → slice_get ands p ≡ Some x → ⊥
-absent ands x p none at =
-    let within = slice_get_within ands p x at in
-    let is = get_or_from_slice_get ands p x x at in
-    let itself : same_pair x x ≡ true = ap₂ (λ b c. b && c) (eq-eqb x.greater.0 x.greater.0 refl) (eq-eqb x.smaller.0 x.smaller.0 refl) in
-    true≢false (sym (list_any_at (same_pair x) ands p x within (ap (same_pair x) is ∙ itself)) ∙ none)
+absent ands x p none at = grind (arith, slice_get_within ands p x, get_or_from_slice_get ands p x x, eq-eqb x.greater.0 x.greater.0, eq-eqb x.smaller.0 x.smaller.0, true≢false, list_any_at (same_pair x) ands p x)
 
 pushed_sound : (g : Graph) (x : And) → IsSound g → IsSoundAnd (variables g) x → list_any (same_pair x) g.ands ≡ false → IsSound (with_ands g (g.ands ++ x ∷ []))
 pushed_sound g x sound here none = record {
@@ -193,35 +144,8 @@ pushed_sound g x sound here none = record {
 }
 
 pub entered_is : (g : Graph) (x : And) → IsSound g → IsSoundAnd (variables g) x → IsEntered g x
-entered_is g x sound here = elim (cases_Bool (list_any (same_pair x) g.ands)) [
-  | inl t ↦
-      let old : entered g.ands x ≡ g.ands = ap (λ b. if b then g.ands else g.ands ++ x ∷ []) t in
-      let p = position_or_len (same_pair x) g.ands in
-      let l = any_place (same_pair x) g.ands t in
-      let is : slice_get g.ands p ≡ Some x =
-      slice_get-get_or g.ands p x l ∙ ap Some (sym (same_and x (get_or g.ands p x) (passes_at_first (same_pair x) g.ands x l))) in
-      record {
-        sound = rw old sound;
-        extends = rw old (Extends-refl g);
-        place = rw old is;
-        within = omega (arith, ap length old, l);
-        earlier = omega (arith, l);
-        grows = omega (arith, ap length old);
-      }
-  | inr f ↦
-      let new : entered g.ands x ≡ g.ands ++ x ∷ [] = ap (λ b. if b then g.ands else g.ands ++ x ∷ []) f in
-      let p = position_or_len (same_pair x) g.ands in
-      let last : p ≡ length g.ands = none_passes g.ands x f in
-      let longer = length_push g.ands x in
-      record {
-        sound = rw new (pushed_sound g x sound here f);
-        extends = rw new (extended g (x ∷ []));
-        place = rw (new, last) (slice_get-last g.ands x);
-        within = omega (arith, ap length new);
-        earlier = omega arith;
-        grows = omega (arith, ap length new);
-      }
-]
+entered_is g x sound here =
+    grind (arith, cases_Bool (list_any (same_pair x) g.ands), any_place (same_pair x) g.ands, slice_get-get_or g.ands, same_and x, passes_at_first (same_pair x) g.ands x, Extends-refl g, none_passes g.ands x, length_push g.ands x, pushed_sound g x sound here, extended g (x ∷ []), slice_get-last g.ands x)
 
 -- ---- what is made
 
@@ -237,13 +161,7 @@ pub made_alike : {g : Graph} {made : Made} {f : List Bool → Bool} (h : List Bo
 made_alike h is same = record { sound = is.sound; extends = is.extends; is_edge = is.is_edge; grows = is.grows; value_is = λ v k. is.value_is v k ∙ same v k }
 
 pub found_is : (g : Graph) (e : Edge) → IsSound g → IsEdge g e → IsMade g (found g e) (λ v. den g e v)
-found_is g e sound is_edge = record {
-  sound = sound;
-  extends = Extends-refl g;
-  is_edge = is_edge;
-  grows = omega arith;
-  value_is = λ v h. refl;
-}
+found_is g e sound is_edge = grind (arith, Extends-refl g)
 
 pub hashed_is : (g : Graph) (a b : Edge) → IsSound g → IsEdge g a → IsEdge g b → AreApart a b → IsMade g (hashed g (pair_of a b)) (λ v. den g a v && den g b v)
 hashed_is g a b sound in_a in_b apart =

@@ -46,9 +46,7 @@ fold-grows f size grows b (x ∷ xs) = omega (arith, grows b x, fold-grows f siz
 
 -- and the first of them have made no more than all
 pub fold-first : {A B : Type 0} (f : B → A → B) (size : B → ℕ) → ((b : B) (a : A) → size b ≤ size (f b a)) → (b : B) (xs : List A) (n : ℕ) → size (fold f b (take n xs)) ≤ size (fold f b xs)
-fold-first f size grows b xs n =
-    let split : fold f b xs ≡ fold f (fold f b (take n xs)) (drop n xs) = ap (fold f b) (sym (take-append-drop n xs)) ∙ fold-append f b (take n xs) (drop n xs) in
-    omega (arith, ap size split, fold-grows f size grows (fold f b (take n xs)) (drop n xs))
+fold-first f size grows b xs n = grind (arith, take-append-drop n xs, fold-append f b (take n xs) (drop n xs), fold-grows f size grows (fold f b (take n xs)) (drop n xs))
 
 abbrev pub made_size : Made → ℕ
 made_size made = length made.graph.ands
@@ -58,16 +56,10 @@ entered-grows ands x = elim (list_any (same_pair x) ands) as (λ t. length ands 
 
 pub conjunction-grows : (g : Graph) (a b : Edge) → length g.ands ≤ length (conjunction g a b).graph.ands
 unfolding conjunction
-conjunction-grows g a b = by (simple_and a b)
-  where
-    by : (o : Option Edge) → length g.ands ≤ length (option_map_or (found g) o (hashed g (pair_of a b))).graph.ands
-    by None = entered-grows g.ands (pair_of a b)
-    by (Some e) = omega arith
+conjunction-grows g a b = grind (arith, entered-grows g.ands (pair_of a b))
 
 pub with_pin-grows : (made : Made) (pin : Edge) (lit : Lit) → length made.graph.ands ≤ length (with_pin made pin lit).graph.ands
-with_pin-grows made pin Zero = conjunction-grows made.graph made.edge (complement pin)
-with_pin-grows made pin One = conjunction-grows made.graph made.edge pin
-with_pin-grows made pin Any = omega arith
+with_pin-grows made pin lit = grind (arith, conjunction-grows)
 
 abbrev pub with_pair : Made → Edge × Lit → Made
 with_pair made pin = with_pin made pin.0 pin.1
@@ -82,8 +74,7 @@ row-grows g pins lits = fold-grows with_pair made_size with_pair-grows (found g 
 pub with_row-grows : (pins : List Edge) (made : Made) (row : Row) → length made.graph.ands ≤ length (with_row pins made row).graph.ands
 with_row-grows pins made row =
     let next = row_made made.graph pins row.lits in
-    let last = conjunction-grows next.graph (complement made.edge) (complement next.edge) in
-    omega (arith, row-grows made.graph pins row.lits, last)
+    grind (arith, conjunction-grows next.graph (complement made.edge) (complement next.edge), row-grows made.graph pins row.lits)
 
 pub in_plane-graph : (plane : Bool) (rows : List Row) (made : Made) → (in_plane plane rows made).graph ≡ made.graph
 in_plane-graph true rows made = refl
@@ -92,47 +83,26 @@ in_plane-graph false (row ∷ rows) made = refl
 
 pub cover-grows : (g : Graph) (pins : List Edge) (cover : Cover) → length g.ands ≤ length (cover_made g pins cover).graph.ands
 unfolding rows_made
-cover-grows g pins cover =
-    omega (arith, fold-grows (with_row pins) made_size (with_row-grows pins) (found g (constant false)) cover.rows, ap (λ (h : Graph). length h.ands) (in_plane-graph cover.plane cover.rows (rows_made g pins cover.rows)))
+cover-grows g pins cover = grind (arith, fold-grows (with_row pins) made_size (with_row-grows pins) (found g (constant false)) cover.rows, with_row-grows pins, in_plane-graph cover.plane cover.rows (rows_made g pins cover.rows))
 
 -- ---- values
 
 pub made_then : {g : Graph} {made : Made} {f : List Bool → Bool} {next : Made} {h : List Bool → Bool} (q : List Bool → Bool)
     → IsMade g made f → IsMade made.graph next h → ((v : List Bool) → IsVector g v → h v ≡ q v) → IsMade g next q
-made_then {g} {made} {f} {next} {h} q is then_is e = record {
-  sound = then_is.sound;
-  extends = Extends-trans is.extends then_is.extends;
-  is_edge = then_is.is_edge;
-  grows = omega (arith, is.grows, then_is.grows);
-  value_is = λ v k. then_is.value_is v (IsVector-kept v is.extends k) ∙ e v k;
-}
+made_then {g} {made} {f} {next} {h} q is then_is e = grind (arith, Extends-trans is.extends then_is.extends, IsVector-kept)
 
 pub complemented_is : {g : Graph} {made : Made} {f : List Bool → Bool} → IsMade g made f → IsMade g (complemented made) (λ v. not (f v))
-complemented_is {g} {made} {f} is = record {
-  sound = is.sound;
-  extends = is.extends;
-  is_edge = IsEdge-complement made.graph made.edge is.is_edge;
-  grows = is.grows;
-  value_is = λ v k. den-complement made.graph made.edge v ∙ ap not (is.value_is v k);
-}
+complemented_is {g} {made} {f} is = grind (arith, IsEdge-complement made.graph made.edge is.is_edge, den-complement made.graph made.edge)
 
 false_is : (g : Graph) → IsSound g → IsMade g (found g (constant false)) (λ v. false)
-false_is g sound = record {
-  sound = sound;
-  extends = Extends-refl g;
-  is_edge = omega arith;
-  grows = omega arith;
-  value_is = λ v k. den-constant g v;
-}
+false_is g sound = grind (arith, Extends-refl g, den-constant g)
 
 pub constant_is : (g : Graph) (b : Bool) → IsSound g → IsMade g (found g (constant b)) (λ v. b)
 constant_is g true sound = complemented_is (false_is g sound)
 constant_is g false sound = false_is g sound
 
 pub de_morgan : (a b : Bool) → not (not a && not b) ≡ (a || b)
-de_morgan true b = refl
-de_morgan false true = refl
-de_morgan false false = refl
+de_morgan a b = grind arith
 
 pub with_pin_is : {g : Graph} {made : Made} {f : List Bool → Bool} (pin : Edge) (lit : Lit) → IsMade g made f → IsEdge g pin → IsMade g (with_pin made pin lit) (λ v. f v && allows lit (den g pin v))
 with_pin_is {g} {made} {f} pin Zero is in_g =
@@ -160,8 +130,7 @@ pins_are g (p ∷ ps) made f is in_g =
 zip_edges : (g : Graph) (pins : List Edge) (lits : List Lit) → All (IsEdge g) pins → All (λ (p : Edge × Lit). IsEdge g p.0) (zip pins lits)
 zip_edges g [] lits h = λ k d l. absurd (omega (arith, l))
 zip_edges g (p ∷ ps) [] h = λ k d l. absurd (omega (arith, l))
-zip_edges g (p ∷ ps) (l ∷ ls) h =
-    All-cons (λ (q : Edge × Lit). IsEdge g q.0) (p, l) (zip ps ls) (All-head (IsEdge g) p ps h) (zip_edges g ps ls (All-tail (IsEdge g) p ps h))
+zip_edges g (p ∷ ps) (l ∷ ls) h = grind (arith, All-cons, All-head (IsEdge g) p ps h, zip_edges g ps ls (All-tail (IsEdge g) p ps h), All-tail (IsEdge g) p ps h)
 
 zip_matches : (g : Graph) (v : List Bool) (pins : List Edge) (lits : List Lit) → list_all (pin_allows g v) (zip pins lits) ≡ matches lits (map (λ e. den g e v) pins)
 zip_matches g v [] [] = refl
@@ -177,8 +146,7 @@ row_is g pins lits sound in_g =
 
 kept_values : {old new : Graph} (v : List Bool) (pins : List Edge) → Extends old new → IsVector old v → All (IsEdge old) pins → map (λ e. den new e v) pins ≡ map (λ e. den old e v) pins
 kept_values {old} {new} v [] e k h = refl
-kept_values {old} {new} v (p ∷ ps) e k h =
-    ap₂ (λ b bs. b ∷ bs) (e.keeps p v (All-head (IsEdge old) p ps h) k) (kept_values v ps e k (All-tail (IsEdge old) p ps h))
+kept_values {old} {new} v (p ∷ ps) e k h = grind (arith, All-head (IsEdge old) p ps h, kept_values v ps e k (All-tail (IsEdge old) p ps h), All-tail (IsEdge old) p ps h)
 
 pub with_row_is : {g : Graph} {made : Made} {f : List Bool → Bool} (pins : List Edge) (row : Row) → IsMade g made f → All (IsEdge g) pins → IsMade g (with_row pins made row) (λ v. f v || matches row.lits (map (λ e. den g e v) pins))
 with_row_is {g} {made} {f} pins row is in_g =
@@ -197,8 +165,7 @@ rows_are : (g : Graph) (pins : List Edge) (rows : List Row) (made : Made) (f : L
 rows_are g pins [] made f is in_g = made_alike (λ v. f v || false) is (λ v k. or_with_false (f v))
 rows_are g pins (r ∷ rs) made f is in_g =
     let rest = rows_are g pins rs (with_row pins made r) (λ v. f v || matches r.lits (map (λ e. den g e v) pins)) (with_row_is pins r is in_g) in_g in
-    made_alike (λ v. f v || some_row_matches (r ∷ rs) (map (λ e. den g e v) pins)) rest
-    (λ v k. or_assoc (f v) (matches r.lits (map (λ e. den g e v) pins)) (some_row_matches rs (map (λ e. den g e v) pins)))
+    grind (arith, made_alike, or_assoc)
 
 plane_is : {g : Graph} (plane : Bool) (rows : List Row) (made : Made) (bs : List Bool → List Bool) → IsMade g made (λ v. some_row_matches rows (bs v)) → IsMade g (in_plane plane rows made) (λ v. value_of_rows plane rows (bs v))
 plane_is {g} true rows made bs is = is
@@ -217,11 +184,7 @@ cover_is g pins cover sound in_g =
 pub row_next : (start made : Made) (pins : List Edge) (lits : List Lit) (k : ℕ) (pin : Edge) (lit : Lit)
     → k < length pins → k < length lits → ((d : Edge) → pin ≡ get_or pins k d) → ((d : Lit) → lit ≡ get_or lits k d)
     → made ≡ fold with_pair start (take k (zip pins lits)) → with_pin made pin lit ≡ fold with_pair start (take (k + 1) (zip pins lits))
-row_next start made pins lits k pin lit l m pin_is lit_is e =
-    let within : k < length (zip pins lits) = omega (arith, length-zip pins lits) in
-    let at : get_or (zip pins lits) k (pin, lit) ≡ (pin, lit) =
-    get_or-zip pins lits k (pin, lit) l m ∙ (λ j. (sym (pin_is pin) j, sym (lit_is lit) j)) in
-    ap₂ (λ m p. with_pair m p) e (sym at) ∙ sym (fold_more with_pair start (zip pins lits) k (pin, lit) within)
+row_next start made pins lits k pin lit l m pin_is lit_is e = grind (arith, length-zip pins lits, get_or-zip pins lits k (pin, lit) l, fold_more with_pair start (zip pins lits) k (pin, lit))
 
 pub row_fault : (g : Graph) (pins : List Edge) (lits : List Lit) (n : ℕ) → length (fold with_pair (found g (constant true)) (take n (zip pins lits))).graph.ands ≤ length (row_made g pins lits).graph.ands
 unfolding row_made
@@ -229,13 +192,11 @@ row_fault g pins lits n = fold-first with_pair made_size with_pair-grows (found 
 
 pub row_all : (g : Graph) (pins : List Edge) (lits : List Lit) (n : ℕ) (made : Made) → n ≡ min (length pins) (length lits) → made ≡ fold with_pair (found g (constant true)) (take n (zip pins lits)) → made ≡ row_made g pins lits
 unfolding row_made
-row_all g pins lits n made e is =
-    is ∙ ap (fold with_pair (found g (constant true))) (take_all n (zip pins lits) (omega (arith, length-zip pins lits)))
+row_all g pins lits n made e is = grind (arith, take_all n (zip pins lits), length-zip pins lits)
 
 pub rows_next : (pins : List Edge) (start made : Made) (rows : List Row) (k : ℕ) (row : Row) → k < length rows → row ≡ get_or rows k row
     → made ≡ fold (with_row pins) start (take k rows) → with_row pins made row ≡ fold (with_row pins) start (take (k + 1) rows)
-rows_next pins start made rows k row l row_is e =
-    ap₂ (λ m r. with_row pins m r) e row_is ∙ sym (fold_more (with_row pins) start rows k row l)
+rows_next pins start made rows k row l row_is e = grind (arith, fold_more (with_row pins) start rows k row l)
 
 pub rows_fault : (g : Graph) (pins : List Edge) (rows : List Row) (n : ℕ) → length (fold (with_row pins) (found g (constant false)) (take n rows)).graph.ands ≤ length (rows_made g pins rows).graph.ands
 unfolding rows_made

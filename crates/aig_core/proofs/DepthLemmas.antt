@@ -27,17 +27,11 @@ sum_same f h (x ∷ xs) same =
 
 pub map-reverse : {A B : Type 0} (f : A → B) (xs : List A) → map f (reverse xs) ≡ reverse (map f xs)
 map-reverse {A} {B} f [] = refl
-map-reverse {A} {B} f (x ∷ xs) =
-    ap (map f) (reverse-append (x ∷ []) xs)
-    ∙ map-append f (reverse xs) (x ∷ [])
-    ∙ ap (λ ys. ys ++ f x ∷ []) (map-reverse f xs)
-    ∙ sym (reverse-append (f x ∷ []) (map f xs))
+map-reverse {A} {B} f (x ∷ xs) = grind (arith, reverse-append (x ∷ []) xs, map-append f (reverse xs) (x ∷ []), map-reverse f xs, reverse-append (f x ∷ []) (map f xs))
 
 pub sum_by-reverse : {A : Type 0} (f : A → ℕ) (xs : List A) → sum_by f (reverse xs) ≡ sum_by f xs
 sum_by-reverse {A} f [] = refl
-sum_by-reverse {A} f (x ∷ xs) =
-    let e = ap (sum_by f) (reverse-append (x ∷ []) xs) ∙ sum_by-append f (reverse xs) (x ∷ []) in
-    omega (arith, sum_by-cons f x xs, sum_by-cons f x [], sum_by-reverse f xs, e)
+sum_by-reverse {A} f (x ∷ xs) = grind (arith, reverse-append (x ∷ []) xs, sum_by-append f (reverse xs) (x ∷ []), sum_by-cons f x xs, sum_by-cons f x [], sum_by-reverse f xs)
 
 -- ---- the bound on the depth
 
@@ -45,39 +39,26 @@ abbrev pub Lower : (graph : List (List ℕ)) → HasRanks graph → ℕ → ℕ 
 Lower graph ranks d n = (n < length graph) × (ranks.rank n < d)
 
 pub successors_lower : (graph : List (List ℕ)) (ranks : HasRanks graph) (d n : ℕ) → n < length graph → ranks.rank n ≤ d → All (Lower graph ranks d) (successors graph n)
-successors_lower graph ranks d n l low k x m =
-    (ranks.nodes n l k x m, omega (arith, ranks.falls n (get_or (successors graph n) k x) l (Contains-get_or (successors graph n) k x m)))
+successors_lower graph ranks d n l low k x m = grind (arith, Contains-get_or (successors graph n) k x m)
 
 module _ (graph : List (List ℕ)) (ranks : HasRanks graph) where
   pub placed-depth : (d e n : ℕ) (before : List ℕ) → Lower graph ranks d n → Lower graph ranks e n → placed graph d before n ≡ placed graph e before n
   unfolding placed
   placed-depth zero e n before low lower = absurd (omega (arith, low.1))
   placed-depth (suc d) zero n before low lower = absurd (omega (arith, lower.1))
-  placed-depth (suc d) (suc e) n before low lower =
-      ap (λ after. if list_any (nat_eq n) before then before else after ++ n ∷ [])
-      (fold_same (placed graph d) (placed graph e) (successors graph n) before
-      (λ k x l b.
-      let s = get_or (successors graph n) k x in
-      placed-depth d e s b (successors_lower graph ranks d n low.0 (omega (arith, low.1)) k x l) (successors_lower graph ranks e n low.0 (omega (arith, lower.1)) k x l)))
+  placed-depth (suc d) (suc e) n before low lower = grind (arith, fold_same (placed graph d) (placed graph e) (successors graph n) before, placed-depth d e, successors_lower graph ranks d n low.0, successors_lower graph ranks e n low.0)
 
   pub weight-depth : (d e n : ℕ) → Lower graph ranks d n → Lower graph ranks e n → weight graph d n ≡ weight graph e n
   unfolding weight
   weight-depth zero e n low lower = absurd (omega (arith, low.1))
   weight-depth (suc d) zero n low lower = absurd (omega (arith, lower.1))
-  weight-depth (suc d) (suc e) n low lower =
-      ap (λ s. 2 + s)
-      (sum_same (weight graph d) (weight graph e) (successors graph n)
-      (λ k x l.
-      let s = get_or (successors graph n) k x in
-      weight-depth d e s (successors_lower graph ranks d n low.0 (omega (arith, low.1)) k x l) (successors_lower graph ranks e n low.0 (omega (arith, lower.1)) k x l)))
+  weight-depth (suc d) (suc e) n low lower = grind (arith, sum_same (weight graph d) (weight graph e) (successors graph n), weight-depth d e, successors_lower graph ranks d n low.0, successors_lower graph ranks e n low.0)
 
   -- ---- one visit
 
   placed-opened : (g : ℕ) (before : List ℕ) (n : ℕ) → Lower graph ranks g n → list_any (nat_eq n) before ≡ false → placed graph g before n ≡ fold (placed graph g) before (successors graph n) ++ n ∷ []
   unfolding placed
-  placed-opened g before n low new =
-      placed-depth g (suc g) n before low (low.0, omega (arith, low.1))
-      ∙ ap (λ t. if t then before else fold (placed graph g) before (successors graph n) ++ n ∷ []) new
+  placed-opened g before n low new = grind (arith, placed-depth g (suc g) n before low)
 
   weight-opened : (g n : ℕ) → Lower graph ranks g n → weight graph g n ≡ 2 + sum_by (weight graph g) (successors graph n)
   unfolding weight
@@ -91,13 +72,11 @@ module _ (graph : List (List ℕ)) (ranks : HasRanks graph) where
 
 pub placed-there : (graph : List (List ℕ)) (g : ℕ) (before : List ℕ) (n : ℕ) → list_any (nat_eq n) before ≡ true → placed graph g before n ≡ before
 unfolding placed
-placed-there graph zero before n there = refl
-placed-there graph (suc d) before n there = ap (λ t. if t then before else fold (placed graph d) before (successors graph n) ++ n ∷ []) there
+placed-there graph g before n there = grind arith
 
 weight-positive : (graph : List (List ℕ)) (g n : ℕ) → 0 < weight graph g n
 unfolding weight
-weight-positive graph zero n = omega arith
-weight-positive graph (suc d) n = omega arith
+weight-positive graph g n = grind arith
 
 -- ---- tasks
 
@@ -112,25 +91,14 @@ visits graph before nodes = fold-map (done graph) visit before nodes
 
 pub finished_visits : (graph : List (List ℕ)) (before : List ℕ) (tasks : List Task) (nodes : List ℕ) → finished graph before (tasks ++ map visit (reverse nodes)) ≡ finished graph (fold (placed graph (length graph)) before nodes) tasks
 finished_visits graph before tasks nodes =
-    ap (fold (done graph) before)
-    (reverse-append tasks (map visit (reverse nodes))
-    ∙ ap (λ xs. xs ++ reverse tasks) (sym (map-reverse visit (reverse nodes)) ∙ ap (map visit) (reverse-reverse nodes)))
-    ∙ fold-append (done graph) before (map visit nodes) (reverse tasks)
-    ∙ ap (λ b. fold (done graph) b (reverse tasks)) (visits graph before nodes)
+    grind (arith, reverse-append tasks (map visit (reverse nodes)), map-reverse visit (reverse nodes), reverse-reverse nodes, fold-append (done graph) before (map visit nodes) (reverse tasks), visits graph before nodes)
 
 visits_left : (graph : List (List ℕ)) (tasks : List Task) (nodes : List ℕ) → tasks_left graph (tasks ++ map visit (reverse nodes)) ≡ tasks_left graph tasks + sum_by (weight graph (length graph)) nodes
-visits_left graph tasks nodes =
-    let weights : sum_by (task_weight graph) (map visit (reverse nodes)) ≡ sum_by (weight graph (length graph)) (reverse nodes) =
-    fold-map (λ a t. a + task_weight graph t) visit 0 (reverse nodes) in
-    let back = sum_by-reverse (weight graph (length graph)) nodes in
-    sum_by-append (task_weight graph) tasks (map visit (reverse nodes)) ∙ ap (λ s. tasks_left graph tasks + s) (weights ∙ back)
+visits_left graph tasks nodes = grind (arith, fold-map, sum_by-reverse (weight graph (length graph)) nodes, sum_by-append (task_weight graph) tasks (map visit (reverse nodes)))
 
 -- one more visit, as a loop adds it
 pub visits_more : (old tasks : List Task) (nodes : List ℕ) (k n : ℕ) → k < length nodes → n ≡ get_or nodes k n → tasks ≡ old ++ map visit (take k nodes) → tasks ++ Visit n ∷ [] ≡ old ++ map visit (take (k + 1) nodes)
-visits_more old tasks nodes k n l is e =
-    ap₂ (λ xs m. xs ++ visit m ∷ []) e is
-    ∙ append_assoc old (map visit (take k nodes)) (visit (get_or nodes k n) ∷ [])
-    ∙ ap (λ xs. old ++ xs) (sym (map_more visit nodes k n l))
+visits_more old tasks nodes k n l is e = grind (arith, append_assoc old (map visit (take k nodes)) (visit (get_or nodes k n) ∷ []), map_more visit nodes k n l)
 
 reversed_within : (count : ℕ) (nodes : List ℕ) → All (λ n. n < count) nodes → All (λ n. n < count) (reverse nodes)
 reversed_within count [] h = h
@@ -145,11 +113,7 @@ visits_within count tasks nodes h k =
 
 -- a node that is visited again
 pub pass_advances : (graph : List (List ℕ)) (before : List ℕ) (tasks : List Task) (n : ℕ) → AreWithin (length graph) tasks → list_any (nat_eq n) before ≡ true → Advances graph before before (tasks ++ Visit n ∷ []) tasks
-pass_advances graph before tasks n within there = record {
-  end = sym (finished_push graph before tasks (Visit n) ∙ ap (λ b. finished graph b tasks) (placed-there graph (length graph) before n there));
-  less = omega (arith, tasks_push graph tasks (Visit n), weight-positive graph (length graph) n);
-  within = within;
-}
+pass_advances graph before tasks n within there = grind (arith, finished_push graph before tasks (Visit n), placed-there graph (length graph) before n there, tasks_push graph tasks (Visit n), weight-positive graph (length graph) n)
 
 -- a node that is visited first
 pub open_advances : (graph : List (List ℕ)) → HasRanks graph → (before : List ℕ) (tasks : List Task) (n : ℕ) → AreWithin (length graph) tasks → n < length graph → list_any (nat_eq n) before ≡ false → Advances graph before before (tasks ++ Visit n ∷ []) ((tasks ++ Place n ∷ []) ++ map visit (reverse (successors graph n)))
@@ -177,7 +141,4 @@ among_others nodes k n apart =
     list_any-append (nat_eq k) nodes (n ∷ []) ∙ ap (λ t. list_any (nat_eq k) nodes || (t || false)) (ne_eqb k n apart) ∙ or-false (list_any (nat_eq k) nodes)
 
 pub marked_more : (nodes : List ℕ) (marks : List Bool) (n : ℕ) → n < length marks → HasMarks nodes marks → HasMarks (nodes ++ n ∷ []) (set marks n true)
-marked_more nodes marks n l has k m = elim (cases_eq k n) [
-  | inl e ↦ rw e (get_or-set_same marks n true false l ∙ sym (among_last nodes n))
-  | inr ne ↦ get_or-set_other marks n k true false ne ∙ has k (omega (arith, length-set marks n true)) ∙ sym (among_others nodes k n ne)
-]
+marked_more nodes marks n l has k m = grind (arith, cases_eq k n, get_or-set_same marks n true false l, among_last nodes n, get_or-set_other marks n k true false, length-set marks n true, among_others nodes k n)

@@ -12,37 +12,25 @@ pub variable-complement : (e : Edge) → variable (complement e) ≡ variable e
 variable-complement e = omega arith
 
 pub is_complement-complement : (e : Edge) → is_complement (complement e) ≡ not (is_complement e)
-is_complement-complement e = elim (parity e.0) [
-  | inl a ↦ let odd : (complement e).0 % 2 ≡ 1 = omega (arith, a) in ap (λ r. r == 1) odd ∙ ap (λ r. not (r == 1)) (sym a)
-  | inr a ↦ let even : (complement e).0 % 2 ≡ 0 = omega (arith, a) in ap (λ r. r == 1) even ∙ ap (λ r. not (r == 1)) (sym a)
-]
+is_complement-complement e = grind arith
 
 negated : (b c : Bool) → (if not b then not c else c) ≡ not (if b then not c else c)
-negated true true = refl
-negated true false = refl
-negated false c = refl
+negated b c = grind arith
 
 pub edge_value-complement : (vs : List Bool) (e : Edge) → edge_value vs (complement e) ≡ not (edge_value vs e)
-edge_value-complement vs e =
-    ap₂ (λ b n. if b then not (get_or vs n false) else get_or vs n false) (is_complement-complement e) (variable-complement e)
-    ∙ negated (is_complement e) (get_or vs (variable e) false)
+edge_value-complement vs e = grind arith
 
 pub IsEdge-complement : (g : Graph) (e : Edge) → IsEdge g e → IsEdge g (complement e)
 IsEdge-complement g e h = omega arith
 
 pub edge_value-to : (vs : List Bool) (n : ℕ) → edge_value vs (edge_to n) ≡ get_or vs n false
-edge_value-to vs n =
-    let even : (2 * n) % 2 ≡ 0 = omega arith in
-    let half : (2 * n) / 2 ≡ n = omega arith in
-    ap₂ (λ r i. if r == 1 then not (get_or vs i false) else get_or vs i false) even half
+edge_value-to vs n = grind arith
 
 -- ---- values
 
 pub length-values_from : (vs : List Bool) (ands : List And) → length (fold with_value vs ands) ≡ length vs + length ands
 length-values_from vs [] = omega arith
-length-values_from vs (x ∷ xs) =
-    let one = length_push vs (edge_value vs x.greater && edge_value vs x.smaller) in
-    omega (arith, length-values_from (with_value vs x) xs)
+length-values_from vs (x ∷ xs) = grind (arith, length_push vs (edge_value vs x.greater && edge_value vs x.smaller), length-values_from (with_value vs x) xs)
 
 pub length-values : (ands : List And) (v : List Bool) → length (values ands v) ≡ 1 + length v + length ands
 length-values ands v = let e = length-values_from (false ∷ v) ands in omega arith
@@ -50,10 +38,7 @@ length-values ands v = let e = length-values_from (false ∷ v) ands in omega ar
 -- values that are there stay
 pub value_kept : (vs : List Bool) (ands : List And) (i : ℕ) → i < length vs → get_or (fold with_value vs ands) i false ≡ get_or vs i false
 value_kept vs [] i h = refl
-value_kept vs (x ∷ xs) i h =
-    let one = length_push vs (edge_value vs x.greater && edge_value vs x.smaller) in
-    value_kept (with_value vs x) xs i (omega arith)
-    ∙ get_or_append_left vs ((edge_value vs x.greater && edge_value vs x.smaller) ∷ []) false i h
+value_kept vs (x ∷ xs) i h = grind (arith, length_push vs (edge_value vs x.greater && edge_value vs x.smaller), value_kept (with_value vs x) xs i, get_or_append_left vs ((edge_value vs x.greater && edge_value vs x.smaller) ∷ []) false i h)
 
 pub edge_value_kept : (vs : List Bool) (ands : List And) (e : Edge) → variable e < length vs → edge_value (fold with_value vs ands) e ≡ edge_value vs e
 edge_value_kept vs ands e h = ap (λ b. if is_complement e then not b else b) (value_kept vs ands (variable e) h)
@@ -63,9 +48,7 @@ values-append ands more v = fold-append with_value (false ∷ v) ands more
 
 pub den_kept : (g : Graph) (more : List And) (e : Edge) (v : List Bool) → IsEdge g e → IsVector g v → den (with_ands g (g.ands ++ more)) e v ≡ den g e v
 unfolding den
-den_kept g more e v is_edge is_vector =
-    ap (λ vs. edge_value vs e) (values-append g.ands more v)
-    ∙ edge_value_kept (values g.ands v) more e (omega (arith, length-values g.ands v, is_edge, is_vector))
+den_kept g more e v is_edge is_vector = grind (arith, values-append g.ands more v, edge_value_kept (values g.ands v) more e, length-values g.ands v)
 
 pub extended : (g : Graph) (more : List And) → Extends g (with_ands g (g.ands ++ more))
 extended g more = record { more = more; is = refl; keeps = λ e v h k. den_kept g more e v h k }
@@ -82,11 +65,7 @@ den-constant g v = edge_value-to (values g.ands v) 0 ∙ value_kept (false ∷ v
 
 pub den-column : (g : Graph) (i : ℕ) (v : List Bool) → i < length v → den g (edge_to (1 + i)) v ≡ get_or v i false
 unfolding den
-den-column g i v h =
-    let next : 1 + i ≡ suc i = omega arith in
-    edge_value-to (values g.ands v) (1 + i)
-    ∙ ap (λ n. get_or (values g.ands v) n false) next
-    ∙ value_kept (false ∷ v) g.ands (suc i) (omega arith)
+den-column g i v h = grind (arith, edge_value-to (values g.ands v) (1 + i), value_kept (false ∷ v) g.ands (suc i))
 
 -- an AND has the value of the conjunction of its edges
 pub den-and : (g : Graph) (i : ℕ) (x : And) (v : List Bool) → slice_get g.ands i ≡ Some x → IsSoundAnd (first_and g + i) x → IsVector g v → den g (edge_to (first_and g + i)) v ≡ (den g x.greater v && den g x.smaller v)

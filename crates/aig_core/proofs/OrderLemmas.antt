@@ -26,8 +26,7 @@ AllFollow graph seen (n ∷ rest) = (n < length graph) × AllAmong seen (success
 
 pub AllFollow-push : (graph : List (List ℕ)) (seen nodes : List ℕ) (n : ℕ) → AllFollow graph seen nodes → n < length graph → AllAmong (seen ++ nodes) (successors graph n) → AllFollow graph seen (nodes ++ n ∷ [])
 AllFollow-push graph seen [] n h l among = (l, rw append-nil at among, tt)
-AllFollow-push graph seen (m ∷ rest) n h l among =
-    (h.0, h.1, AllFollow-push graph (seen ++ m ∷ []) rest n h.2 l (rw (← append_assoc seen (m ∷ []) rest) at among))
+AllFollow-push graph seen (m ∷ rest) n h l among = grind (arith, AllFollow-push graph (seen ++ m ∷ []) rest n h.2 l, append_assoc seen (m ∷ []) rest)
 
 among_push : (seen : List ℕ) (m n : ℕ) → list_any (nat_eq m) seen ≡ true → list_any (nat_eq m) (seen ++ n ∷ []) ≡ true
 among_push seen m n h = list_any-append (nat_eq m) seen (n ∷ []) ∙ ap (λ t. t || list_any (nat_eq m) (n ∷ [])) h
@@ -55,42 +54,17 @@ module _ (graph : List (List ℕ)) (ranks : HasRanks graph) where
   one_placed : (d n : ℕ) (before : List ℕ) → Lower graph ranks d n → AllFollow graph [] before → ArePlaced graph before (placed graph d before n) (n ∷ [])
   unfolding placed
   one_placed zero n before low h = absurd (omega (arith, low.1))
-  one_placed (suc d) n before low h =
-      by (list_any (nat_eq n) before) refl
-      (fold_placed d (successors graph n) before (λ m b l k. one_placed d m b l k) (successors_lower graph ranks d n low.0 (omega (arith, low.1))) h)
-    where
-      by : (t : Bool) → list_any (nat_eq n) before ≡ t → ArePlaced graph before (fold (placed graph d) before (successors graph n)) (successors graph n)
-          → ArePlaced graph before (if t then before else fold (placed graph d) before (successors graph n) ++ n ∷ []) (n ∷ [])
-      by true e parts = record {
-        order = h;
-        all = All-cons (λ m. list_any (nat_eq m) before ≡ true) n [] e (All-nil (λ m. list_any (nat_eq m) before ≡ true));
-        kept = λ m k. k;
-      }
-      by false e parts =
-          let between = fold (placed graph d) before (successors graph n) in
-          record {
-            order = AllFollow-push graph [] between n parts.order low.0 parts.all;
-            all = All-cons (λ m. list_any (nat_eq m) (between ++ n ∷ []) ≡ true) n [] (among_last between n) (All-nil (λ m. list_any (nat_eq m) (between ++ n ∷ []) ≡ true));
-            kept = λ m k. among_push between m n (parts.kept m k);
-          }
+  one_placed (suc d) n before low h = grind (arith, fold_placed d (successors graph n) before, one_placed d, successors_lower graph ranks d n low.0, All-cons, All-nil, AllFollow-push graph [], among_last, among_push)
 
   pub postorder_is : (needed : List ℕ) → All (λ n. n < length graph) needed → ArePlaced graph [] (postorder graph needed) needed
-  postorder_is needed within =
-      fold_placed (length graph) needed [] (λ n b l h. one_placed (length graph) n b l h)
-      (λ k d l. (within k d l, ranks.within (get_or needed k d) (within k d l))) tt
+  postorder_is needed within = grind (arith, fold_placed (length graph) needed [], one_placed (length graph))
 
 -- ---- the graph of a netlist's gates
 
 pub numbers_within : (net : Parts) (signals : List Sig) → All (IsSignal net) signals → All (λ n. n < length net.gates) (numbers_from (columns net) signals)
 numbers_within net [] h = All-nil (λ n. n < length net.gates)
 numbers_within net (s ∷ rest) h =
-    let others = numbers_within net rest (All-tail (IsSignal net) s rest h) in
-    elim (cases_Bool (nat_le (columns net) s.0)) [
-      | inl above ↦
-          let inside : s.0 - columns net < length net.gates = omega (arith, leb-true (columns net) s.0 above, All-head (IsSignal net) s rest h) in
-          rw above (All-cons (λ n. n < length net.gates) (s.0 - columns net) (numbers_from (columns net) rest) inside others)
-      | inr below ↦ rw below others
-    ]
+    grind (arith, numbers_within net rest (All-tail (IsSignal net) s rest h), All-tail (IsSignal net) s rest h, cases_Bool (nat_le (columns net) s.0), leb-true (columns net) s.0, All-head (IsSignal net) s rest h, All-cons)
 
 pub gate_successors : (net : Parts) (n : ℕ) → n < length net.gates → successors (gate_graph net) n ≡ numbers_from (columns net) (gate_at net n).pins
 gate_successors net n l = get_or-map (gates_read (columns net)) net.gates n no_gate [] l

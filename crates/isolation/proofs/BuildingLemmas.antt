@@ -19,32 +19,20 @@ use Rattle.isolation.specs.Building.{IsOutside, AreOutside, AreWires, IsAmong, A
 
 -- a gate is where its signal is
 pub gate_there : (net : Parts) (gates : List ℕ) (s : Sig) → Contains (map (gate_sig net) gates) s → (first_gate net ≤ s.0) × Contains gates (s.0 - first_gate net)
-gate_there net gates s c =
-    let low : c.0 < length gates = omega (arith, c.1, length-map gates (gate_sig net)) in
-    let at : gate_sig net (get_or gates c.0 0) ≡ s = sym (get_or-map (gate_sig net) gates c.0 0 s low) ∙ c.2 in
-    let n = ap (λ (r : Sig). r.0) at in (
-      omega (arith, n),
-      (c.0, low, get_or_default gates c.0 (s.0 - first_gate net) 0 low ∙ omega (arith, n)),
-    )
+gate_there net gates s c = grind (arith, length-map gates (gate_sig net), get_or-map (gate_sig net) gates c.0 0 s, get_or_default gates c.0 (s.0 - first_gate net) 0)
 
 -- and back
 pub there_gate : (net : Parts) (gates : List ℕ) (s : Sig) → first_gate net ≤ s.0 → Contains gates (s.0 - first_gate net) → Contains (map (gate_sig net) gates) s
-there_gate net gates s above c =
-    let same : first_gate net + (s.0 - first_gate net) ≡ s.0 = omega (arith, above) in
-    subst (λ (t : Sig). Contains (map (gate_sig net) gates) t) (ap signal same) (Contains-map (gate_sig net) gates (s.0 - first_gate net) c)
+there_gate net gates s above c = grind (arith, Contains-map (gate_sig net) gates (s.0 - first_gate net) c)
 
 -- a gate of a block, by its signal
 pub inside_block : (net : Parts) (blocks : Blocks) → AreBlocksOf net blocks → (place : ℕ) (s : Sig) → place < length blocks.list → Contains (map (gate_sig net) (block_at blocks place).gates) s →
     (first_gate net ≤ s.0) × (home_of blocks (s.0 - first_gate net) ≡ place)
-inside_block net blocks are place s inside c =
-    let there = gate_there net (block_at blocks place).gates s c in
-    (there.0, (gate_home net blocks are place (s.0 - first_gate net) inside there.1).1)
+inside_block net blocks are place s inside c = grind (arith, gate_there net (block_at blocks place).gates s c, gate_home net blocks are place (s.0 - first_gate net) inside)
 
 pub block_inside : (net : Parts) (blocks : Blocks) → AreBlocksOf net blocks → (place : ℕ) (s : Sig) → s.0 < count net → first_gate net ≤ s.0 → home_of blocks (s.0 - first_gate net) ≡ place →
     Contains (map (gate_sig net) (block_at blocks place).gates) s
-block_inside net blocks are place s within above home =
-    there_gate net (block_at blocks place).gates s above
-    (subst (λ (p : ℕ). Contains (block_at blocks p).gates (s.0 - first_gate net)) home (home_gate net blocks are (s.0 - first_gate net) (omega (arith, within, above))))
+block_inside net blocks are place s within above home = grind (arith, there_gate net (block_at blocks place).gates s above, home_gate net blocks are (s.0 - first_gate net))
 
 -- one more wire outside
 pub outside_more : (net : Parts) (gates : List ℕ) (outside : List Sig) (s : Sig) → AreOutside net gates outside → IsOutside net gates s → AreOutside net gates (outside ++ s ∷ [])
@@ -71,29 +59,20 @@ loop_is net gates outside small wires is = record { outside = outside; is = is; 
 
 -- what holds of all that is found
 pub found_then : {E T : Type 0} {P Q : T → Type 0} (made : Result (Option T) E) → ((x : T) → P x → Q x) → IfOk made (λ found. IfSome found P) → IfOk made (λ found. IfSome found Q)
-found_then (Ok (Some x)) into is = into x is
-found_then (Ok None) into is = tt
-found_then (Err fault) into is = tt
+found_then made into is = grind arith
 
 -- ---- the wires outside, pin by pin and gate by gate
 
 -- one more wire, that isn't there
 once_push : (xs : List Sig) (s : Sig) → AreOnce xs → (¬ Contains xs s) → AreOnce (xs ++ s ∷ [])
 once_push xs s once new i j less within same =
-    let low : i < length xs = omega (arith, length_push xs s) in
-    let first = get_or_append_left xs (s ∷ []) (signal 0) i low in
-    elim (cases_lt j (length xs)) [
-      | inl inside ↦ once i j less inside (sym first ∙ same ∙ get_or_append_left xs (s ∷ []) (signal 0) j inside)
-      | inr last ↦ new (i, low, get_or_default xs i s (signal 0) low ∙ sym first ∙ same ∙ get_or_push xs s (signal 0) j (omega (arith, length_push xs s)))
-    ]
+    grind (arith, length_push xs s, get_or_append_left xs (s ∷ []) (signal 0) i, cases_lt j (length xs), get_or_append_left xs (s ∷ []) (signal 0) j, get_or_default xs i s (signal 0), get_or_push xs s (signal 0) j)
 
 none_like : (xs : List Sig) (s : Sig) → list_any (λ (x : Sig). eqb s.0 x.0) xs ≡ false → ¬ Contains xs s
-none_like xs s none c =
-    true≢false (sym (list_any_at (λ (x : Sig). eqb s.0 x.0) xs c.0 s c.1 (eq-eqb s.0 (get_or xs c.0 s).0 (ap (λ (r : Sig). r.0) (sym c.2)))) ∙ none)
+none_like xs s none c = grind (arith, true≢false, list_any_at, eq-eqb s.0 (get_or xs c.0 s).0)
 
 among_more : (net : Parts) (gates : List ℕ) (old new : List Sig) → ((t : Sig) → Contains old t → Contains new t) → (s : Sig) → IsAmong net gates old s → IsAmong net gates new s
-among_more net gates old new keeps s (inl c) = inl (keeps s c)
-among_more net gates old new keeps s (inr g) = inr g
+among_more net gates old new keeps s h = grind arith
 
 -- none yet
 pub adds_none : (net : Parts) (gates : List ℕ) (pins old : List Sig) → AreWires net gates old → AddWires net gates (take 0 pins) old old
@@ -131,8 +110,7 @@ adds_outside net gates pins start old new i d less before is one =
 -- a gate is there
 pub adds_gate : (net : Parts) (gates : List ℕ) (pins start old new : List Sig) (i : ℕ) (d : Sig) → i < length pins → AddWires net gates (take i pins) start old → new ≡ old →
     Contains (map (gate_sig net) gates) (get_or pins i d) → AddWires net gates (take (i + 1) pins) start new
-adds_gate net gates pins start old new i d less before is inside =
-    subst (AddWires net gates (take (i + 1) pins) start) (sym is) (adds_next net gates pins start old old i d less before before.wires (λ t c. c) (inr inside))
+adds_gate net gates pins start old new i d less before is inside = grind (arith, adds_next net gates pins start old old i d less before before.wires)
 
 pub adds_all : (net : Parts) (gates : List ℕ) (pins start new : List Sig) (i : ℕ) → length pins ≤ i → AddWires net gates (take i pins) start new → AddWires net gates pins start new
 adds_all net gates pins start new i all = subst (λ xs. AddWires net gates xs start new) (take_all i pins all)
@@ -154,11 +132,7 @@ wires_at net block gates k d pins old new same less are before adds = record {
 }
 
 pub pin_at : (net : Parts) (block gates : List ℕ) (k d : ℕ) (pins : List Sig) → gates ≡ block → k < length gates → pins ≡ (gate_at net (get_or gates k d)).pins → All (IsRead net block) pins
-pin_at net block gates k d pins same less are i e within = record {
-  place = k;
-  within = omega (arith, ap length same);
-  pin = subst (λ xs. Contains xs (get_or pins i e)) (sym (pins_at net block gates k d pins same less are)) (Contains-get_or pins i e within);
-}
+pin_at net block gates k d pins same less are i e within = grind (arith, pins_at net block gates k d pins same less are, Contains-get_or pins i e within)
 
 pub wires_all : (net : Parts) (block gates : List ℕ) (k : ℕ) (outside : List Sig) → gates ≡ block → length gates ≤ k → AreWiresOf net block k outside → AreWiresOf net block (length block) outside
 wires_all net block gates k outside same all is = record { wires = is.wires; all = λ i less. is.all i (let e = ap length same in omega (arith, e, less, all)) }
@@ -178,34 +152,18 @@ not_there {o = Some x} none some = none x refl
 
 -- what a search for a signal finds
 pub found_place : (xs : List Sig) (s : Sig) (o : Option ℕ) → o ≡ position (λ x. eqb s.0 x.0) xs → IfSome o (IsPlaceOf xs s)
-found_place xs s None is = tt
-found_place xs s (Some k) is =
-    let p = position-Some (λ (x : Sig). eqb s.0 x.0) xs k s (sym is) in
-    record { within = p.0; is = sym (ap (λ (n : ℕ). let r : Sig = record { 0 = n } in r) (eqb-true s.0 (get_or xs k s).0 p.1)) }
+found_place xs s o is = grind (arith, position-Some, eqb-true)
 
 pub found_some : (xs : List Sig) (s : Sig) (o : Option ℕ) → o ≡ position (λ x. eqb s.0 x.0) xs → Contains xs s → IsSome o
-found_some xs s None is c =
-    let differ = none_found (λ (x : Sig). eqb s.0 x.0) xs (sym is) c.0 s c.1 in
-    absurd (true≢false (sym (eq-eqb s.0 (get_or xs c.0 s).0 (sym (ap (λ (r : Sig). r.0) c.2))) ∙ differ))
-found_some xs s (Some k) is c = refl
+found_some xs s o is c = grind (arith, none_found, true≢false, eq-eqb)
 
 -- a signal by its place: a wire outside, or a gate
 pub place_outside : (net : Parts) (outside : List Sig) (gates : List ℕ) (s : Sig) (place : ℕ) → IsPlaceOf outside s place → IsPlaceOf (origins net outside gates) s place
-place_outside net outside gates s place p = record {
-  within = omega (arith, p.within, origins-size net outside gates);
-  is = origin-wire net outside gates place s p.within ∙ p.is;
-}
+place_outside net outside gates s place p = grind (arith, origins-size net outside gates, origin-wire net outside gates place s p.within)
 
 pub place_gate : (net : Parts) (outside : List Sig) (gates : List ℕ) (s : Sig) (gate place number : ℕ) → s ≡ gate_sig net gate → IsPlaceOf gates gate place → number ≡ place + length outside → IsPlaceOf (origins net outside gates) s number
 place_gate net outside gates s gate place number is p at =
-    let inside : number < length (origins net outside gates) = omega (arith, p.within, at, origins-size net outside gates) in
-    record {
-      within = inside;
-      is = get_or_default (origins net outside gates) number s (signal 0) inside
-          ∙ origin-gate net outside gates number place p.within (omega (arith, at))
-          ∙ ap (gate_sig net) (get_or_default gates place 0 gate p.within ∙ p.is)
-          ∙ sym is;
-    }
+    grind (arith, origins-size net outside gates, get_or_default (origins net outside gates) number s (signal 0), origin-gate net outside gates number place p.within, get_or_default gates place 0 gate p.within)
 
 -- the numbers of more pins
 pub numbers_none : (net : Parts) (outside : List Sig) (gates : List ℕ) (pins : List Sig) → AreNumbersOf (origins net outside gates) (take 0 pins) []
@@ -241,21 +199,8 @@ search_none gates gate i found rise c =
 -- ---- the gates, copied one by one
 
 pub copies_none : (net : Parts) (signals : List Sig) (gates : List ℕ) (made : List Gate) → made ≡ [] → AreCopies net signals gates made 0
-copies_none net signals gates made none = record {
-  size = ap (λ (gs : List Gate). length gs) none;
-  each = λ i less. absurd (omega (arith, less));
-}
+copies_none net signals gates made none = grind arith
 
 pub copies_more : (net : Parts) (signals : List Sig) (gates : List ℕ) (made new : List Gate) (n d : ℕ) (copy : Gate) → n < length gates → AreCopies net signals gates made n → IsCopyOf signals (gate_at net (get_or gates n d)) copy → new ≡ made ++ copy ∷ [] →
     AreCopies net signals gates new (n + 1)
-copies_more net signals gates made new n d copy inside are one is = rw is (record {
-  size = let s = are.size in let l = length_push made copy in omega (arith, s, l);
-  each = λ i less. elim (cases_lt i n) [
-    | inl low ↦
-        subst (IsCopyOf signals (gate_at net (gate_in gates i))) (sym (get_or_append_left made (copy ∷ []) no_gate i (omega (arith, are.size)))) (are.each i low)
-    | inr high ↦
-        let at : i ≡ n = omega (arith, less, high) in
-        subst (λ (g : Gate). IsCopyOf signals g (get_or (made ++ copy ∷ []) i no_gate)) (ap (gate_at net) (get_or_default gates n d 0 inside ∙ ap (gate_in gates) (sym at)))
-        (subst (IsCopyOf signals (gate_at net (get_or gates n d))) (sym (get_or_push made copy no_gate i (omega (arith, are.size)))) one)
-  ];
-})
+copies_more net signals gates made new n d copy inside are one is = grind (arith, length_push made copy, cases_lt, get_or_append_left made (copy ∷ []) no_gate, get_or_default gates n d 0 inside, get_or_push made copy no_gate)

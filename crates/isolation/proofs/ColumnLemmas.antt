@@ -48,8 +48,4 @@ columns-end {a} {columns} {first} {rails} are all is = record {
 }
 
 pub AreColumns-kept : {s t : Arena} {columns : List ℕ} {rails : List Rails} → KeepsNodes s t → AreColumns s columns rails → AreColumns t columns rails
-AreColumns-kept {s} {t} {columns} {rails} keeps is = record {
-  width = is.width ∙ sym keeps.vars;
-  proper = All-rails-kept keeps rails is.proper;
-  values = λ v wide. values_of-kept keeps rails is.proper (by_variable columns v) ∙ is.values v (wide ∙ keeps.vars);
-}
+AreColumns-kept {s} {t} {columns} {rails} keeps is = grind (arith, All-rails-kept keeps rails is.proper, values_of-kept keeps rails is.proper)

@@ -36,15 +36,7 @@ columns_give_vectors net v width =
 
 pub unsettled_excerpt_decides : UnsettledExcerptDecides
 unsettled_excerpt_decides net blocks settled gates small valid are alone small_valid is whole has v width known n nl =
-    unsettled_loops_decide net blocks settled valid are alone v width n nl
-    (λ m ml up loop isnt x.
-    let c = has m ml loop isnt in
-    let wide : length (bits v) ≡ first_gate net = length-map v bit ∙ width in
-    let at : gate_in gates c.0 ≡ m = get_or_default gates c.0 0 m c.1 ∙ c.2 in
-    known c.0 c.1
-    (ap (λ (xs : List Trit). value_in (fix_gates small xs) c.0) (sym (columns_give_vectors net (bits v) wide))
-    ∙ fix-kept net (column_signals net) gates small small_valid is whole.within (bits v) wide c.0 c.1
-    ∙ ap (value_in (fix_gates net (bits v))) at ∙ x))
+    grind (arith, unsettled_loops_decide net blocks settled valid are alone v width n nl, length-map v bit, get_or_default gates, columns_give_vectors net (bits v), fix-kept net (column_signals net) gates small small_valid is whole.within (bits v))
 
 -- ---- while marked gates are listed
 

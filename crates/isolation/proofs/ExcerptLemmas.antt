@@ -29,21 +29,14 @@ module _ (net : Parts) (outside : List Sig) (gates : List ℕ) (small : Parts) (
       omega (arith, length-append outside (map (gate_sig net) gates), length-map gates (gate_sig net), is.inputs, is.latches, is.size)
 
   pub pin-within : (i k : ℕ) (none : Sig) → i < length gates → k < length (gate_at small i).pins → (get_or (gate_at small i).pins k none).0 < length (origins net outside gates)
-  pin-within i k none inside here =
-      let b = valid.pins i no_gate (omega (arith, is.size)) k none here in
-      omega (arith, b, length-origins)
+  pin-within i k none inside here = grind (arith, length-origins)
 
   module _ (v : List Trit) (width : length v ≡ first_gate net) where
     pub gate_wire : (n : ℕ) → wire (fix net v) (gate_sig net n) ≡ value_in (fix_gates net v) n
-    gate_wire n =
-        wire_of_gate v (fix_gates net v) (first_gate net) (gate_sig net n).0 width (omega arith)
-        ∙ ap (value_in (fix_gates net v)) (omega arith)
+    gate_wire n = grind (arith, wire_of_gate v (fix_gates net v) (first_gate net) (gate_sig net n).0 width)
 
     pub values_at_fix : inputs_in net v outside ++ gates_in net v gates ≡ map (wire (fix net v)) (origins net outside gates)
-    values_at_fix =
-        ap (λ ys. map (wire (fix net v)) outside ++ ys)
-        (sym (map-map (wire (fix net v)) (gate_sig net) gates ∙ map_agree (λ n. wire (fix net v) (gate_sig net n)) (value_in (fix_gates net v)) gates (λ k d l. gate_wire (get_or gates k d))))
-        ∙ sym (map-append (wire (fix net v)) outside (map (gate_sig net) gates))
+    values_at_fix = grind (arith, map-map (wire (fix net v)) (gate_sig net) gates, map_agree, gate_wire, map-append (wire (fix net v)) outside (map (gate_sig net) gates))
 
     pub reads_at_fix : (i : ℕ) → i < length gates → map (wire (inputs_in net v outside ++ gates_in net v gates)) (gate_at small i).pins ≡ map (wire (fix net v)) (gate_at net (gate_in gates i)).pins
     reads_at_fix i inside =

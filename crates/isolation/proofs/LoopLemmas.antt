@@ -82,8 +82,7 @@ module _ (net : Parts) (outside : List Sig) (gates : List ℕ) (small : Parts) (
 
   -- the pin of the whole at the same place
   pin-is : (j k : ℕ) (d e : Sig) → j < size → k < length (gate_at small j).pins → origin all (get_or (gate_at small j).pins k d) ≡ get_or (gate_at net (at j)).pins k e
-  pin-is j k d e jl kl =
-      sym (get_or-map (origin all) (gate_at small j).pins k d e kl) ∙ ap (λ (xs : List Sig). get_or xs k e) (is.pins j jl)
+  pin-is j k d e jl kl = grind (arith, get_or-map (origin all) (gate_at small j).pins k d e kl)
 
   pins-size : (j : ℕ) → j < size → length (gate_at small j).pins ≡ length (gate_at net (at j)).pins
   pins-size j jl = sym (length-map (gate_at small j).pins (origin all)) ∙ ap (λ (xs : List Sig). length xs) (is.pins j jl)
@@ -107,21 +106,13 @@ module _ (net : Parts) (outside : List Sig) (gates : List ℕ) (small : Parts) (
     where
       by : (s : Sig) → origin all s ≡ gate_sig net (at i) → Source (length outside) size s → s ≡ gate_sig small i
       by s o (at_input low) = absurd (outside-apart s i low il o)
-      by s o (at_gate q ql e) =
-          let n = ap (λ (r : Sig). r.0) (sym (origin-gate net outside gates s.0 q ql e) ∙ o) in
-          let same : q ≡ i = at-once q i ql il (omega (arith, n)) in
-          sig_is s (first_gate small + i) (omega (arith, first-is))
+      by s o (at_gate q ql e) = grind (arith, origin-gate net outside gates s.0 q ql e, at-once q i ql il, sig_is s (first_gate small + i), first-is)
 
   feeds-up : (i j : ℕ) → i < size → j < size → Feeds small i j → Feeds net (at i) (at j)
   feeds-up i j il jl f =
       let k = f.pin.0 in
       let s : Sig = get_or (gate_at small j).pins f.pin.0 (gate_sig small i) in
-      let n = ap (λ (r : Sig). r.0) f.pin.2 in
-      record {
-        source = whole.within i il;
-        reader = whole.within j jl;
-        pin = (f.pin.0, (let l = f.pin.1 in let e = pins-size j jl in omega (arith, l, e)), sym (pin-is j k (gate_sig small i) (gate_sig net (at i)) jl f.pin.1) ∙ origin-gate net outside gates s.0 i il (omega (arith, n, first-is)));
-      }
+      grind (arith, pins-size j jl, pin-is j k (gate_sig small i) (gate_sig net (at i)) jl f.pin.1, origin-gate net outside gates s.0 i il, first-is)
 
   -- ---- walks
 
@@ -134,8 +125,7 @@ module _ (net : Parts) (outside : List Sig) (gates : List ℕ) (small : Parts) (
 
   -- a walk of the whole through placed gates
   walk-down : (P : ℕ → Type 0) (i j x y : ℕ) (via : List ℕ) → i < size → j < size → at i ≡ x → at j ≡ y → Walk net x via y → AllByRecursion (λ g. (h : Placed g) × P h.place) via → Leads small P i j
-  walk-down P i j x y [] il jl xi yj f all_placed =
-      record { via = []; kind = tt; walk = feeds-down i j il jl (subst (λ (p : ℕ). Feeds net p (at j)) (sym xi) (subst (Feeds net x) (sym yj) f)) }
+  walk-down P i j x y [] il jl xi yj f all_placed = grind (arith, feeds-down i j il jl)
   walk-down P i j x y (g ∷ via) il jl xi yj w all_placed =
       let h = all_placed.0.0 in
       let rest = walk-down P h.place j g y via h.inside jl h.found yj w.1 all_placed.1 in
@@ -151,22 +141,17 @@ module _ (net : Parts) (outside : List Sig) (gates : List ℕ) (small : Parts) (
   placed-walk i via il = all_weaker (SameLoop net (at i)) (λ g. (h : Placed g) × AnyGate h.place) via (λ g s. (in-loop i g il s, tt))
 
   same-walk : (i j : ℕ) (via : List ℕ) → Leads net AnyGate (at j) (at i) → Walk net (at i) via (at j) → AllByRecursion (λ g. SameLoop net (at i) g) via
-  same-walk i j via back w =
-      all_weaker (λ g. Leads net AnyGate (at i) g × Leads net AnyGate g (at j)) (SameLoop net (at i)) via
-      (λ g h. record { there = h.0; back = leads-trans net g (at j) (at i) h.1 back }) (on_walk net (at i) (at j) via w)
+  same-walk i j via back w = grind (arith, all_weaker, leads-trans net, on_walk net (at i) (at j) via w)
 
   leads-down : (i j : ℕ) → i < size → j < size → SameLoop net (at i) (at j) → Leads small AnyGate i j
-  leads-down i j il jl s =
-      walk-down AnyGate i j (at i) (at j) s.there.via il jl refl refl s.there.walk (placed-walk i s.there.via il (same-walk i j s.there.via s.back s.there.walk))
+  leads-down i j il jl s = grind (arith, walk-down AnyGate i j (at i) (at j) s.there.via il jl, placed-walk i s.there.via il (same-walk i j s.there.via s.back s.there.walk), same-walk i j s.there.via s.back s.there.walk)
 
   same-down : (i j : ℕ) → i < size → j < size → SameLoop net (at i) (at j) → SameLoop small i j
   same-down i j il jl s = record { there = leads-down i j il jl s; back = leads-down j i jl il (record { there = s.back; back = s.there }) }
 
   same-up : (i j : ℕ) → SameLoop small i j → SameLoop net (at i) (at j)
-  same-up i j s = record {
-    there = leads-any net (at i) (at j) (map at s.there.via) (walk-up i j s.there.via s.there.walk);
-    back = leads-any net (at j) (at i) (map at s.back.via) (walk-up j i s.back.via s.back.walk);
-  }
+  same-up i j s =
+      grind (arith, leads-any net (at i) (at j) (map at s.there.via) (walk-up i j s.there.via s.there.walk), walk-up i j s.there.via s.there.walk, leads-any net (at j) (at i) (map at s.back.via) (walk-up j i s.back.via s.back.walk), walk-up j i s.back.via s.back.walk)
 
   module _ (one two : Loops) (one_is : AreLoopsOf net one) (two_is : AreLoopsOf small two) where
     pub loop-same : (i j : ℕ) → i < size → j < size → two.same i j ≡ one.same (at i) (at j)
@@ -185,11 +170,7 @@ module _ (net : Parts) (outside : List Sig) (gates : List ℕ) (small : Parts) (
         })
       where
         passes : (j : ℕ) → MayPass small two.cut i j → MayPass net one.cut (at i) (at j)
-        passes j may = record {
-          loop = same-up i j may.loop;
-          before = whole.rise j i may.before il;
-          uncut = sym (before j may.before (omega (arith, may.before))) ∙ may.uncut;
-        }
+        passes j may = grind (arith, same-up i j may.loop)
 
     cut-down : (i : ℕ) → i < size → ((j : ℕ) → j < i → j < size → two.cut j ≡ one.cut (at j)) → one.cut (at i) ≡ true → two.cut i ≡ true
     cut-down i il before cut =
@@ -205,10 +186,7 @@ module _ (net : Parts) (outside : List Sig) (gates : List ℕ) (small : Parts) (
 
     cut-below : (bound i : ℕ) → i < bound → i < size → two.cut i ≡ one.cut (at i)
     cut-below zero i less il = absurd (omega (arith, less))
-    cut-below (suc bound) i less il =
-        same_truth (two.cut i) (one.cut (at i))
-        (cut-up i il (λ j jl js. cut-below bound j (omega (arith, jl, less)) js))
-        (cut-down i il (λ j jl js. cut-below bound j (omega (arith, jl, less)) js))
+    cut-below (suc bound) i less il = grind (arith, same_truth (two.cut i) (one.cut (at i)), cut-up i il, cut-below bound, cut-down i il)
 
     pub cut-same : (i : ℕ) → i < size → two.cut i ≡ one.cut (at i)
     cut-same i il = cut-below (suc i) i (omega arith) il
@@ -246,11 +224,7 @@ module _ (net : Parts) (outside : List Sig) (gates : List ℕ) (small : Parts) (
           ∙ ap (wire (fix net v)) (sym (origin-input p p low)))
         where
           away : (t : Bool) → in_loop_of net one (at i) (origin all p) ≡ t → in_loop_of net one (at i) (origin all p) ≡ false
-          away false e = e
-          away true e =
-              let parts = and_parts (leb (first_gate net) (origin all p).0) (one.same (at i) (gate_of net (origin all p))) e in
-              let h = in-loop i (gate_of net (origin all p)) il ((one_is.same (at i) (gate_of net (origin all p))).0 parts.1) in
-              absurd (outside-apart p h.place low h.inside (sig_is (origin all p) (first_gate net + at h.place) (omega (arith, h.found, leb-true (first_gate net) (origin all p).0 parts.0))))
+          away t e = grind (arith, and_parts, in-loop, outside-apart, sig_is, leb-true)
 
       -- a sweep sets the block as the whole's does
       sweep-same : (c c' : List Trit) → Agree c' c → Agree (sweep small two inputs c') (sweep net one v c)
@@ -277,8 +251,7 @@ module _ (net : Parts) (outside : List Sig) (gates : List ℕ) (small : Parts) (
           }
 
       pub sweeps-same : (k : ℕ) → Agree (sweeps small two inputs k) (sweeps net one v k)
-      sweeps-same zero i il =
-          get_or-replicate (length small.gates) i X X (omega (arith, is.size)) ∙ sym (get_or-replicate (length net.gates) (at i) X X (whole.within i il))
+      sweeps-same zero i il = grind (arith, get_or-replicate (length small.gates) i X X, get_or-replicate (length net.gates) (at i) X X (whole.within i il))
       sweeps-same (suc k) i il = sweep-same (sweeps net one v k) (sweeps small two inputs k) (sweeps-same k) i il
 
       -- ---- the cut wires stand at the fixpoint in both, or in neither

@@ -14,40 +14,16 @@ add-none kind old none = record { width = refl; keeps = λ m is. is; adds = λ m
 
 -- the same marks, for what is said otherwise
 pub add-same : (kind other : ℕ → Type 0) (old new : List Bool) → ((m : ℕ) → kind m → other m) → ((m : ℕ) → other m → kind m) → AddMarks kind old new → AddMarks other old new
-add-same kind other old new to from are = record {
-  width = are.width;
-  keeps = are.keeps;
-  adds = λ m k. are.adds m (from m k);
-  only = λ m is. elim (are.only m is) [ inl before ↦ inl before | inr k ↦ inr (to m k) ];
-}
+add-same kind other old new to from are = grind arith
 
 -- one kind after another
 pub add-both : (first second both : ℕ → Type 0) (old mid new : List Bool) → ((m : ℕ) → first m → both m) → ((m : ℕ) → second m → both m) → ((m : ℕ) → both m → first m ⊎ second m) →
     AddMarks first old mid → AddMarks second mid new → AddMarks both old new
-add-both first second both old mid new to_first to_second from one two = record {
-  width = two.width ∙ one.width;
-  keeps = λ m is. two.keeps m (one.keeps m is);
-  adds = λ m k. elim (from m k) [ inl f ↦ two.keeps m (one.adds m f) | inr s ↦ two.adds m s ];
-  only = λ m is. elim (two.only m is) [
-    | inr s ↦ inr (to_second m s)
-    | inl before ↦ elim (one.only m before) [ inl o ↦ inl o | inr f ↦ inr (to_first m f) ]
-  ];
-}
+add-both first second both old mid new to_first to_second from one two = grind arith
 
 -- one gate is marked
 pub add-one : (marks : List Bool) (gate : ℕ) → gate < length marks → AddMarks (λ m. m ≡ gate) marks (set marks gate true)
-add-one marks gate less = record {
-  width = length-set marks gate true;
-  keeps = λ m is. elim (cases_eq m gate) [
-    | inl e ↦ ap (λ (n : ℕ). get_or (set marks gate true) n false) e ∙ get_or-set_same marks gate true false less
-    | inr ne ↦ get_or-set_other marks gate m true false ne ∙ is
-  ];
-  adds = λ m e. ap (λ (n : ℕ). get_or (set marks gate true) n false) e ∙ get_or-set_same marks gate true false less;
-  only = λ m is. elim (cases_eq m gate) [
-    | inl e ↦ inr e
-    | inr ne ↦ inl (sym (get_or-set_other marks gate m true false ne) ∙ is)
-  ];
-}
+add-one marks gate less = grind (arith, length-set marks gate true, cases_eq, get_or-set_same marks gate true false less, get_or-set_other marks gate)
 
 module _ (net : Parts) (valid : IsNetlist net) (gate : ℕ) (less : gate < length net.gates) (pins : List Sig) (same : pins ≡ (gate_at net gate).pins) (k : ℕ) (d : Sig) (within : k < length pins) where
   at-pin : (m : ℕ) → IsOnPin net (k + 1) gate m → IsOnPin net k gate m ⊎ (get_or pins k d ≡ gate_sig net m)
@@ -69,23 +45,14 @@ module _ (net : Parts) (valid : IsNetlist net) (gate : ℕ) (less : gate < lengt
       (λ m is. record { feeds = drives m is; early = omega arith }) at-pin one two
     where
       drives : (m : ℕ) → get_or pins k d ≡ gate_sig net m → Feeds net m gate
-      drives m is =
-          let here : k < length (gate_at net gate).pins = subst (λ (xs : List Sig). k < length xs) same within in
-          let e : get_or (gate_at net gate).pins k (gate_sig net m) ≡ gate_sig net m = ap (λ (xs : List Sig). get_or xs k (gate_sig net m)) (sym same) ∙ get_or_default pins k (gate_sig net m) d within ∙ is in
-          let n = ap (λ (q : Sig). q.0) e in
-          record { source = omega (arith, valid.pins gate no_gate less k (gate_sig net m) here, n); reader = less; pin = (k, here, e) }
+      drives m is = grind (arith, get_or_default pins k (gate_sig net m) d within)
 
 -- a signal that no gate drives, and one that a gate does
 pub driver-none : (net : Parts) (s : Sig) (marks : List Bool) (driver : Option ℕ) → ((gate : ℕ) → ¬ (driver ≡ Some gate)) → IfNone driver (s.0 < first_gate net) → AddMarks (λ m. s ≡ gate_sig net m) marks marks
-driver-none net s marks None none low = add-none (λ m. s ≡ gate_sig net m) marks (λ m e. let n = ap (λ (q : Sig). q.0) e in omega (arith, n, low))
-driver-none net s marks (Some gate) none low = absurd (none gate refl)
+driver-none net s marks driver none low = grind arith
 
 pub driver-marked : (net : Parts) (s : Sig) (marks : List Bool) (gate : ℕ) → s ≡ gate_sig net gate → gate < length marks → AddMarks (λ m. s ≡ gate_sig net m) marks (set marks gate true)
-driver-marked net s marks gate is inside =
-    add-same (λ m. m ≡ gate) (λ m. s ≡ gate_sig net m) marks (set marks gate true)
-    (λ m e. is ∙ ap (gate_sig net) (sym e))
-    (λ m e. let n = ap (λ (q : Sig). q.0) (sym is ∙ e) in omega (arith, n))
-    (add-one marks gate inside)
+driver-marked net s marks gate is inside = grind (arith, add-same, add-one marks gate inside)
 
 -- all pins
 pub pins-marked : (net : Parts) (gate k : ℕ) (pins : List Sig) (old new : List Bool) → pins ≡ (gate_at net gate).pins → length pins ≤ k → AddMarks (IsOnPin net k gate) old new → AddMarks (λ m. Feeds net m gate) old new
@@ -96,30 +63,14 @@ pub near-marked : (net : Parts) (gate : ℕ) (marks new : List Bool) → gate < 
 near-marked net gate marks new less are = add-both (λ m. m ≡ gate) (λ m. Feeds net m gate) (IsNear net gate) marks (set marks gate true) new (λ m e. inl e) (λ m f. inr f) (λ m n. n) (add-one marks gate less) are
 
 pub near-more : (net : Parts) (gates : List ℕ) (k d : ℕ) (old mid new : List Bool) → k < length gates → AddMarks (IsNearOne net gates k) old mid → AddMarks (IsNear net (get_or gates k d)) mid new → AddMarks (IsNearOne net gates (k + 1)) old new
-near-more net gates k d old mid new less one two =
-    let at : get_or gates k d ≡ gate_in gates k = get_or_default gates k d 0 less in
-    add-both (IsNearOne net gates k) (IsNear net (get_or gates k d)) (IsNearOne net gates (k + 1)) old mid new
-    (λ m near. record { place = near.place; within = (let w = near.within in omega (arith, w)); near = near.near })
-    (λ m near. record { place = k; within = omega arith; near = subst (λ (n : ℕ). IsNear net n m) at near })
-    (λ m near. elim (cases_lt near.place k) [
-      | inl low ↦ inl (record { place = near.place; within = low; near = near.near })
-      | inr high ↦
-          let is : near.place ≡ k = omega (arith, near.within) in
-          inr (subst (λ (n : ℕ). IsNear net n m) (ap (gate_in gates) is ∙ sym at) near.near)
-    ])
-    one two
+near-more net gates k d old mid new less one two = grind (arith, get_or_default gates k d 0 less, add-both (IsNearOne net gates k) (IsNear net (get_or gates k d)) (IsNearOne net gates (k + 1)) old mid new, cases_lt)
 
 pub near-none : (net : Parts) (gates : List ℕ) (m : ℕ) → ¬ IsNearOne net gates 0 m
 near-none net gates m near = let w = near.within in omega (arith, w)
 
 module _ (net : Parts) (blocks : Blocks) (are : AreBlocksOf net blocks) (old : List Bool) where
   pub marked-first : (b : ℕ) → length blocks.list ≤ b → length old ≡ length net.gates → AreMarkedFrom net blocks old b old
-  marked-first b all width = record {
-    width = width;
-    keeps = λ m is. is;
-    closed = λ m n feeds past is. absurd (let h = are.home n feeds.reader in omega (arith, h, past));
-    only = λ m is. record { gate = m; marked = is; upstream = inl refl };
-  }
+  marked-first b all width = grind arith
 
   pub marked-more : (b : ℕ) (gates : List ℕ) (marks new : List Bool) → b < length blocks.list → gates ≡ (block_at blocks b).gates → AreMarkedFrom net blocks old (b + 1) marks → AddMarks (IsWithMark net gates marks) marks new → AreMarkedFrom net blocks old b new
   marked-more b gates marks new less same before added = record {
@@ -203,25 +154,8 @@ unmarked (suc width) (suc n) = unmarked width n
 
 -- marked from these on, where nothing was
 pub cone_marked : (net : Parts) (gates : List ℕ) (start marks new : List Bool) → ((n : ℕ) → is_marked start n ≡ false) → AddMarks (Contains gates) start marks → AreUpstreamMarks net marks new → IsConeOf net gates new
-cone_marked net gates start marks new none adds are = record {
-  width = are.width;
-  each = λ m less. (
-    λ is. let lead = (are.each m less).0 is in record { gate = lead.gate; among = own lead.gate (adds.only lead.gate lead.marked); upstream = lead.upstream },
-    λ leads. (are.each m less).1 (record { gate = leads.gate; marked = adds.adds leads.gate leads.among; upstream = leads.upstream }),
-  );
-}
-  where
-    own : (n : ℕ) → (is_marked start n ≡ true) ⊎ Contains gates n → Contains gates n
-    own n (inl before) = absurd (true≢false (sym before ∙ none n))
-    own n (inr among) = among
+cone_marked net gates start marks new none adds are = grind arith
 
 -- one gate's
 pub cone_of_one : (net : Parts) (gate : ℕ) (marks : List Bool) → IsConeOf net (gate ∷ []) marks → (m : ℕ) → m < length net.gates → (is_marked marks m ≡ true) ↔ IsUpstream net m gate
-cone_of_one net gate marks are m less = (
-  λ is. let lead = (are.each m less).0 is in subst (IsUpstream net m) (only lead.gate lead.among) lead.upstream,
-  λ up. (are.each m less).1 (record { gate = gate; among = (0, omega arith, refl); upstream = up }),
-)
-  where
-    only : (n : ℕ) → Contains (gate ∷ []) n → n ≡ gate
-    only n (zero, less, is) = sym is
-    only n (suc k, less, is) = absurd (omega (arith, less))
+cone_of_one net gate marks are m less = grind arith

@@ -10,8 +10,4 @@ module _ (net : Parts) (outside : List Sig) (gates : List ℕ) where
   origin-wire k d low = get_or_append_left outside (map (gate_sig net) gates) d k low
 
   pub origin-gate : (k q : ℕ) → q < length gates → k ≡ length outside + q → get_or (origins net outside gates) k (signal 0) ≡ gate_sig net (gate_in gates q)
-  origin-gate k q inside at =
-      let back : k - length outside ≡ q = omega (arith, at) in
-      get_or-append_right outside (map (gate_sig net) gates) (length outside) k (signal 0) refl (omega (arith, at))
-      ∙ ap (λ (n : ℕ). get_or (map (gate_sig net) gates) n (signal 0)) back
-      ∙ get_or-map (gate_sig net) gates q 0 (signal 0) inside
+  origin-gate k q inside at = grind (arith, get_or-append_right outside (map (gate_sig net) gates) (length outside) k (signal 0), get_or-map (gate_sig net) gates q 0 (signal 0) inside)

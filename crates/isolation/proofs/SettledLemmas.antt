@@ -25,14 +25,8 @@ module _ (net : Parts) (valid : IsNetlist net) (blocks : Blocks) (are : AreBlock
 
   -- a wire is known that is an input, a latch or a gate of an earlier block
   pin_known : (n : ℕ) (s : Sig) → s.0 < count net → ((g : ℕ) → g < length net.gates → s ≡ gate_sig net g → value_in (fix_gates net (bits v)) g ≢ X) → wire (fix net (bits v)) s ≢ X
-  pin_known n s inside known x = elim (cases_lt s.0 (first_gate net)) [
-    | inl low ↦
-        bit-known (get_or v s.0 false)
-        (sym (get_or_append_left (bits v) (fix_gates net (bits v)) X s.0 (let w = wide in omega (arith, low, w)) ∙ get_or-map bit v s.0 false X (omega (arith, low, width))) ∙ x)
-    | inr high ↦
-        known (gate_of net s) (omega (arith, inside, high)) (ap (λ (m : ℕ). let r : Sig = record { 0 = m } in r) (omega (arith, high)))
-        (sym (wire_of_gate (bits v) (fix_gates net (bits v)) (first_gate net) s.0 wide high) ∙ x)
-  ]
+  pin_known n s inside known x =
+      grind (arith, cases_lt s.0 (first_gate net), bit-known (get_or v s.0 false), get_or_append_left (bits v) (fix_gates net (bits v)) X s.0, wide, get_or-map bit v s.0 false X, wire_of_gate (bits v) (fix_gates net (bits v)) (first_gate net) s.0 wide)
 
   feeds-from : (n g : ℕ) (s : Sig) → n < length net.gates → g < length net.gates → s ≡ gate_sig net g → Contains (gate_at net n).pins s → Feeds net g n
   feeds-from n g s nl gl e c = record { source = gl; reader = nl; pin = subst (Contains (gate_at net n).pins) e c }
@@ -51,13 +45,7 @@ module _ (net : Parts) (valid : IsNetlist net) (blocks : Blocks) (are : AreBlock
         (sym (ap (ext (gate_at net n).cover) (sym us.1) ∙ ext_at_bits (gate_at net n).cover us.0) ∙ sym (get_or-fix net (bits v) n nl) ∙ x)
       where
         earlier : (g : ℕ) → Feeds net g n → home_of blocks g < b
-        earlier g feeds = elim (cases_eq (home_of blocks g) (home_of blocks n)) [
-          | inr other ↦ let after = are.after_reads g n feeds in omega (arith, after, other, here)
-          | inl same ↦ absurd (true≢false (sym ((are.looped n nl).1 (elim ((are.same g n feeds.source nl).0 same) [
-            | inl e ↦ leads-step net n n (subst (λ (m : ℕ). Feeds net m n) e feeds)
-            | inr s ↦ leads-trans net n g n s.back s.there
-          ])) ∙ isnt))
-        ]
+        earlier g feeds = grind (arith, cases_eq (home_of blocks g) (home_of blocks n), true≢false, leads-step net n n, leads-trans net n g n)
 
         known : (k : ℕ) → k < length (gate_at net n).pins → wire (fix net (bits v)) (get_or (gate_at net n).pins k (signal 0)) ≢ X
         known k l =
@@ -105,20 +93,11 @@ module _ (net : Parts) (valid : IsNetlist net) (blocks : Blocks) (are : AreBlock
 
   by_blocks : (b n : ℕ) → n < length net.gates → home_of blocks n < b → Clear n → value_in (fix_gates net (bits v)) n ≢ X
   by_blocks zero n nl low clear = absurd (omega (arith, low))
-  by_blocks (suc b) n nl low clear = elim (cases_eq (home_of blocks n) b) [
-    | inr other ↦ by_blocks b n nl (omega (arith, low, other)) clear
-    | inl here ↦ elim (cases_Bool (block_at blocks (home_of blocks n)).looped) [
-      | inr isnt ↦ plain b (by_blocks b) n nl here isnt clear
-      | inl loop ↦ elim (cases_Bool (settled (home_of blocks n))) [
-        | inl itself ↦ looped b (by_blocks b) n nl here loop itself clear
-        | inr other ↦ clear n nl (inl refl) loop other
-      ]
-    ]
-  ]
+  by_blocks (suc b) n nl low clear =
+      grind (arith, cases_eq (home_of blocks n) b, by_blocks b n nl, cases_Bool (block_at blocks (home_of blocks n)).looped, plain b (by_blocks b) n nl, by_blocks b, cases_Bool (settled (home_of blocks n)), looped b (by_blocks b) n nl)
 
 pub unsettled_loops_decide : UnsettledLoopsDecide
-unsettled_loops_decide net blocks settled valid are alone v width n nl clear =
-    by_blocks net valid blocks are settled alone v width (suc (home_of blocks n)) n nl (omega arith) clear
+unsettled_loops_decide net blocks settled valid are alone v width n nl clear = grind (arith, by_blocks net valid blocks are settled alone v width (suc (home_of blocks n)) n nl)
 
 pub settled_loops_determine : SettledLoopsDetermine
 settled_loops_determine net blocks valid are alone v width n nl =

@@ -20,16 +20,11 @@ use Rattle.isolation.specs.Settling.{IsSettledIn}
 
 -- what a netlist with its loops hands out belongs together too
 pub handed-out : (l : Looped) (net : Parts) (blocks : Blocks) (cut : Cut) → net ≡ l.net → blocks ≡ l.blocks → cut ≡ l.cut → IsLooped l → IsLooped (record { net = net; blocks = blocks; cut = cut })
-handed-out l net blocks cut n b c is = record {
-  blocks = subst (λ (p : Parts). AreBlocksOf p blocks) (sym n) (subst (AreBlocksOf l.net) (sym b) is.blocks);
-  cut = subst (λ (p : Parts). IsCutOf p cut) (sym n) (subst (IsCutOf l.net) (sym c) is.cut);
-}
+handed-out l net blocks cut n b c is = grind arith
 
 -- the loops that blocks and a cut tell are those of the netlist
 pub loops-are : (net : Parts) (blocks : Blocks) (cut : Cut) → AreBlocksOf net blocks → IsCutOf net cut → loops_by blocks cut ≡ loops_of net
-loops-are net blocks cut are cut_is =
-    let one = loops_are_unique net (loops_by blocks cut) (loops_of net) (blocks_tell_loops net blocks cut are cut_is) (loops_exist net) in
-    ap₂ (λ (same : ℕ → ℕ → Bool) (c : ℕ → Bool). let l : Loops = record { same = same; cut = c } in l) (fun_ext (λ a. fun_ext (λ b. one.0 a b))) (fun_ext one.1)
+loops-are net blocks cut are cut_is = grind (arith, loops_are_unique net (loops_by blocks cut) (loops_of net) (blocks_tell_loops net blocks cut are cut_is) (loops_exist net), blocks_tell_loops net blocks cut are cut_is, loops_exist net, fun_ext)
 
 module _ (net : Parts) (blocks : Blocks) (cut : Cut) (are : AreBlocksOf net blocks) (cut_is : IsCutOf net cut) (v : Vectors) (layout : List ℕ) (laid : (u : List Bool) → length u ≡ first_gate net → v (by_variable layout u) ≡ bits u) where
   -- where no rails are X, no gate is
@@ -58,10 +53,7 @@ module _ (net : Parts) (blocks : Blocks) (cut : Cut) (are : AreBlocksOf net bloc
   -- a gate that is in no loop has no cut wires
   no_cuts : (n : ℕ) → (block_at blocks (home_of blocks n)).looped ≡ false → (xs : List ℕ) → filter (λ m. in_one_loop blocks n m && is_cut cut.wires m) xs ≡ []
   no_cuts n plain [] = refl
-  no_cuts n plain (m ∷ xs) = elim (cases_Bool (in_one_loop blocks n m && is_cut cut.wires m)) [
-    | inl is ↦ absurd (true≢false (sym (told_parts net blocks are n m (and_parts (in_one_loop blocks n m) (is_cut cut.wires m) is).0).looped ∙ plain))
-    | inr is ↦ rw is (no_cuts n plain xs)
-  ]
+  no_cuts n plain (m ∷ xs) = grind (arith, cases_Bool (in_one_loop blocks n m && is_cut cut.wires m), true≢false, told_parts net blocks are n m, and_parts (in_one_loop blocks n m) (is_cut cut.wires m), no_cuts n plain xs)
 
   -- the greatest count is enough for each loop
   pub sweeps-are : (a : Arena) (counts : SweepCounts) (care : Node) (most : ℕ) → length counts.per_block ≡ length blocks.list → CountSweeps net blocks cut a v care counts → ((v : List Bool) → den a care v ≡ true) → All (λ n. n ≤ most) counts.per_block →

@@ -31,10 +31,7 @@ all_longer n f zeros ones (false ∷ v) long = zeros v (omega (arith, long))
 all_longer n f zeros ones (true ∷ v) long = ones v (omega (arith, long))
 
 false_or_all : (n : ℕ) (f : List Bool → Bool) → IsFalseAt n f ⊎ IsTrueAtAll n f
-false_or_all zero f = elim (cases_Bool (f [])) [
-  | inl is ↦ inr (λ v long. rw (empty_list v long) is)
-  | inr is ↦ inl (record { vector = []; width = refl; is = is })
-]
+false_or_all zero f = grind (arith, cases_Bool (f []), empty_list)
 false_or_all (suc n) f = elim (false_or_all n (λ v. f (false ∷ v))) [
   | inl at ↦ inl (record { vector = false ∷ at.vector; width = ap suc at.width; is = at.is })
   | inr zeros ↦ elim (false_or_all n (λ v. f (true ∷ v))) [
@@ -46,9 +43,7 @@ false_or_all (suc n) f = elim (false_or_all n (λ v. f (false ∷ v))) [
 -- ---- rails that are X there
 
 neither : (p q : Bool) → (p || q) ≡ false → trit_of p q ≡ X
-neither true q e = absurd (true≢false e)
-neither false true e = absurd (true≢false e)
-neither false false e = refl
+neither p q e = grind arith
 
 -- where the node that says where rails are known isn't true, they are X at a vector
 pub unknown-vector : (s t : Arena) (r : Rails) (n true_node : Node) (b : Bool) → IsLawful t → KeepsNodes s t → IsNodeOf t n → ((x : List Bool) → den t n x ≡ disjunction s r.one r.zero x) → true_node ≡ constant true → b ≡ (n.number == true_node.number) → b ≡ false →
@@ -113,13 +108,10 @@ unknown-gate net points points_are a rails proper vector values vars at =
 
 -- none for one of two causes
 pub unknown-or : (net : Parts) (budget : ℕ) (found : Option ℕ) → IfNone found (HasUnknown net) → IfNone found (HasUnknown net ⊎ IsBelowEnough net budget)
-unknown-or net budget None is = inl is
-unknown-or net budget (Some k) is = tt
+unknown-or net budget found is = grind arith
 
 pub unsettled-is : (net : Parts) (gates : List ℕ) (small : Parts) (budget : ℕ) → IsNetlist small → IsLoopNetlist net gates small → HasUnknown small ⊎ IsBelowEnough small budget → AreUnsettled net gates budget
 unsettled-is net gates small budget valid is shown = record { outside = is.outside; small = small; valid = valid; is = is.is; read = is.read; once = is.once; shown = shown }
 
 pub unsettled-found : {E : Type 0} (net : Parts) (gates : List ℕ) (small : Parts) (budget : ℕ) (made : Result (Option ℕ) E) → IsNetlist small → IsLoopNetlist net gates small → IfOk made (λ found. IfNone found (HasUnknown small ⊎ IsBelowEnough small budget)) → IfOk made (λ found. IfNone found (AreUnsettled net gates budget))
-unsettled-found net gates small budget (Ok None) valid is shown = unsettled-is net gates small budget valid is shown
-unsettled-found net gates small budget (Ok (Some k)) valid is shown = tt
-unsettled-found net gates small budget (Err fault) valid is shown = tt
+unsettled-found net gates small budget made valid is shown = grind arith

@@ -1,5 +1,5 @@
 -- Which gates lie upstream of others.
-use Rattle.std.proofs.Common.{◌≡◌, inl, inr, ℕ, ◌<◌, List, [], ◌∷◌, length, sym, subst}
+use Rattle.std.proofs.Common.{◌≡◌, inl, inr, ℕ, ◌<◌, List, [], ◌∷◌, length, sym, subst, arith}
 use Rattle.isolation.proofs.Common.{Parts, Feeds, Blocks, AreBlocksOf, home_of, leads-trans, IsUpstream}
 use Rattle.netlist.specs.Walks.{Walk}
 use Rattle.loops.specs.Walks.{AnyGate, Leads}
@@ -18,5 +18,4 @@ walk-closed net P closed m n [] feeds last = closed m n feeds last
 walk-closed net P closed m n (x ∷ via) walk last = closed m x walk.0 (walk-closed net P closed x n via walk.1 last)
 
 pub upstream-closed : (net : Parts) (P : ℕ → Type 0) → ((a b : ℕ) → Feeds net a b → P b → P a) → (m n : ℕ) → IsUpstream net m n → P n → P m
-upstream-closed net P closed m n (inl e) last = subst P (sym e) last
-upstream-closed net P closed m n (inr leads) last = walk-closed net P closed m n leads.via leads.walk last
+upstream-closed net P closed m n h last = grind (arith, walk-closed)

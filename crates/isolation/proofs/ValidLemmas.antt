@@ -35,13 +35,7 @@ module _ (net : Parts) (gates : List ℕ) (outside : List Sig) (gates_in : All (
   gate-at k high within = origin-gate net outside gates k (k - length outside) (omega (arith, origins-size net outside gates)) (omega (arith, high))
 
   origin-within : (k : ℕ) → k < length (origins net outside gates) → (get_or (origins net outside gates) k (signal 0)).0 < count net
-  origin-within k within = elim (cases_lt k (length outside)) [
-    | inl low ↦ subst (λ (s : Sig). s.0 < count net) (sym (origin-wire net outside gates k (signal 0) low)) (outside_in k (signal 0) low)
-    | inr high ↦
-        let s = origins-size net outside gates in
-        let g = gates_in (k - length outside) 0 (omega (arith, s, high, within)) in
-        subst (λ (s : Sig). s.0 < count net) (sym (gate-at k high within)) (omega (arith, g))
-  ]
+  origin-within k within = grind (arith, cases_lt k (length outside), origin-wire net outside gates k (signal 0), origins-size net outside gates, gate-at k)
 
   origin-once : (i j : ℕ) → i < j → j < length (origins net outside gates) → get_or (origins net outside gates) i (signal 0) ≢ get_or (origins net outside gates) j (signal 0)
   origin-once i j less within same = elim (cases_lt j (length outside)) [
@@ -117,9 +111,7 @@ module _ (net : Parts) (gates : List ℕ) (outside : List Sig) (gates_in : All (
         (λ same. origin-once i j less inside (ap signal same)))
 
     names-blif : All IsBlifName (map (name_at net) (origins net outside gates))
-    names-blif k d within =
-        let inside : k < length (origins net outside gates) = omega (arith, length-map (origins net outside gates) (name_at net)) in
-        subst IsBlifName (sym (name-of k d inside)) (valid.names (get_or (origins net outside gates) k (signal 0)).0 [] (let n = names-size in let o = origin-within k inside in omega (arith, n, o)))
+    names-blif k d within = grind (arith, length-map (origins net outside gates) (name_at net), name-of k d, names-size, origin-within k)
 
     gate-name : (g : ℕ) → g < length net.gates → name_at net (gate_sig net g) ≡ (gate_at net g).name
     gate-name g less =
@@ -144,14 +136,10 @@ module _ (net : Parts) (gates : List ℕ) (outside : List Sig) (gates_in : All (
           ∙ sym (get_or-map (name_at net) (map (gate_sig net) gates) k (signal 0) [] (omega (arith, inside, d))))
 
       names-are : signal_names small ≡ map (name_at net) (origins net outside gates)
-      names-are =
-          ap₂ (λ (xs : List (List ℕ)) (ls : List Latch). xs ++ (map (λ l. l.name) ls ++ map (λ g. g.name) small.gates)) named.inputs named.latches
-          ∙ ap (λ (ys : List (List ℕ)). map (name_at net) outside ++ ys) gate-names
-          ∙ sym (map-append (name_at net) outside (map (gate_sig net) gates))
+      names-are = grind (arith, gate-names, map-append (name_at net) outside (map (gate_sig net) gates))
 
       count-is : count small ≡ length outside + length gates
-      count-is =
-          omega (arith, is.inputs, is.latches, is.size)
+      count-is = grind arith
 
       none-in : {T : Type 0} (P : T → Type 0) (xs : List T) → xs ≡ [] → All P xs
       none-in P xs none k d less = let e = ap length none in absurd (omega (arith, e, less))
@@ -183,49 +171,24 @@ module _ (net : Parts) (gates : List ℕ) (outside : List Sig) (gates_in : All (
 
 -- the signals of what is closed can be numbered
 pub numerable : (net : Parts) (gates : List ℕ) (outside : List Sig) → IsNetlist net → All (λ gate. gate < length net.gates) gates → All (λ s. s.0 < count net) outside → AreApart net gates outside → AreClosed net gates outside → AreNumerable gates outside
-numerable net gates outside valid gates_in outside_in apart closed = record {
-  rise = closed.rise;
-  fits = (let f = few net gates outside gates_in outside_in apart closed.rise closed.once in let n = valid.fits in omega (arith, f, n));
-}
+numerable net gates outside valid gates_in outside_in apart closed = grind (arith, few net gates outside gates_in outside_in apart closed.rise closed.once)
 
 -- ---- its parts
 
 pub parts_excerpt : (net : Parts) (outside : List Sig) (gates : List ℕ) (small : Parts) (inputs : List (List ℕ)) (copies : List Gate) → AreApart net gates outside →
     small.inputs ≡ inputs → inputs ≡ map (name_at net) outside → small.latches ≡ [] → small.gates ≡ copies → AreCopies net (origins net outside gates) gates copies (length gates) → IsExcerpt net outside gates small
-parts_excerpt net outside gates small inputs copies apart i names l g are =
-    let at : (k : ℕ) → gate_at small k ≡ get_or copies k no_gate = λ k. ap (λ (gs : List Gate). get_or gs k no_gate) g in
-    record {
-      inputs = ap length i ∙ ap length names ∙ length-map outside (name_at net);
-      latches = ap length l;
-      size = ap length g ∙ are.size;
-      covers = λ k less. ap (λ (x : Gate). x.cover) (at k) ∙ (are.each k less).cover;
-      pins = λ k less. ap (λ (x : Gate). map (origin (origins net outside gates)) x.pins) (at k) ∙ (are.each k less).pins.are;
-      apart = apart;
-    }
+parts_excerpt net outside gates small inputs copies apart i names l g are = grind (arith, length-map outside (name_at net))
 
 pub parts_named : (net : Parts) (outside : List Sig) (gates : List ℕ) (small : Parts) (inputs : List (List ℕ)) (copies : List Gate) → small.name ≡ net.name →
     small.inputs ≡ inputs → inputs ≡ map (name_at net) outside → small.latches ≡ [] → small.gates ≡ copies → small.outputs ≡ [] → small.clock ≡ None → AreCopies net (origins net outside gates) gates copies (length gates) → IsNamedBy net outside gates small
-parts_named net outside gates small inputs copies name i names l g o k are =
-    let at : (n : ℕ) → gate_at small n ≡ get_or copies n no_gate = λ n. ap (λ (gs : List Gate). get_or gs n no_gate) g in
-    record {
-      name = name;
-      inputs = i ∙ names;
-      copies = λ n less. ap (λ (x : Gate). x.name) (at n) ∙ (are.each n less).name;
-      pins = λ n less. subst (λ (x : Gate). All (λ s. s.0 < length (origins net outside gates)) x.pins) (sym (at n)) (are.each n less).pins.within;
-      latches = l;
-      outputs = o;
-      clock = k;
-    }
+parts_named net outside gates small inputs copies name i names l g o k are = grind arith
 
 -- parts that make a netlist have no fault
 pub no_fault : (parts : Parts) (fault : PartsFault) → (fault ≡ Memory) ⊎ (first_fault parts ≡ Some fault) → (fault ≢ Memory) → IsNetlist parts → ⊥
-no_fault parts fault (inl memory) other valid = other memory
-no_fault parts fault (inr is) other valid = let e : None ≡ Some fault = sym (no_fault_of_netlist parts valid) ∙ is in absurd cc
+no_fault parts fault h other valid = grind (arith, no_fault_of_netlist)
 
 -- a name more
 pub names_more : (net : Parts) (signals : List Sig) (names new : List (List ℕ)) (i : ℕ) (d : Sig) (name read : List ℕ) → i < length signals → names ≡ map (name_at net) (take i signals) → new ≡ names ++ name ∷ [] → name ≡ read →
     slice_get (signal_names net) (get_or signals i d).0 ≡ Some read → new ≡ map (name_at net) (take (i + 1) signals)
 names_more net signals names new i d name read less before is same at =
-    is
-    ∙ ap₂ (λ xs x. xs ++ x ∷ []) before (same ∙ sym (get_or_from_slice_get (signal_names net) (get_or signals i d).0 read [] at))
-    ∙ sym (ap (map (name_at net)) (take_more signals i d less) ∙ map-append (name_at net) (take i signals) (get_or signals i d ∷ []))
+    grind (arith, get_or_from_slice_get (signal_names net) (get_or signals i d).0 read [], take_more signals i d less, map-append (name_at net) (take i signals) (get_or signals i d ∷ []))

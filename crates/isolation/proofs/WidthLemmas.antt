@@ -82,18 +82,14 @@ module _ (net : Parts) (points : Vectors) (points_are : AreColumnVectors net poi
         omega (arith, one, two, length-fix net (loops_of net) (points []), vector [])
 
     signal-value : (k : ℕ) → k < length rails → (x : List Bool) → value_of a (rails_at rails k) x ≡ value_in (fix net (points x)) k
-    signal-value k less x =
-        sym (get_or-map (λ (r : Rails). value_of a r x) rails k unknown X less) ∙ ap (λ (ts : List Trit). get_or ts k X) (values x)
+    signal-value k less x = grind (arith, get_or-map)
 
     signal-laid : (k : ℕ) → k < length rails → (b : Bool) → IsLaid net (λ x. is_bit b (value_in (fix net (points x)) k))
-    signal-laid k less b =
-        working-laid (λ x. is_bit b (value_in (fix net (points x)) k)) (fix_is_working net (loops_of net) (loops_exist net) points vector k (let s = rails-size in omega (arith, s, less)) b)
+    signal-laid k less b = grind (arith, working-laid, fix_is_working net (loops_of net) (loops_exist net) points vector k, loops_exist net, rails-size)
 
     -- a rail says where the signal has its bit
     rail-laid : (k : ℕ) → k < length rails → (b : Bool) (f : List Bool → Bool) → ((x : List Bool) → is_bit b (value_of a (rails_at rails k) x) ≡ f x) → IsLaid net f
-    rail-laid k less b f rail =
-        let is = signal-laid k less b in
-        record { of = is.of; is = is.is; same = λ u long. sym (rail (laid net u)) ∙ ap (is_bit b) (signal-value k less (laid net u)) ∙ is.same u long }
+    rail-laid k less b f rail = grind (arith, signal-laid k less b, signal-value k less)
 
     pub known-bounded : {w : ℕ} → IsWide a.vars (IsLaid net) w → BoundsKnown a rails w
     known-bounded wide k less =
@@ -159,9 +155,7 @@ module _ (net : Parts) (points : Vectors) (points_are : AreColumnVectors net poi
 
 -- where rails are known, in a store that has grown
 pub known-kept : {s t : Arena} (r : Rails) → KeepsNodes s t → AreRailsOf s r → nodes t.vars (disjunction t r.one r.zero) ≡ nodes s.vars (disjunction s r.one r.zero)
-known-kept {s} {t} r keeps proper =
-    ap (λ (n : ℕ). nodes n (disjunction t r.one r.zero)) keeps.vars
-    ∙ nodes-alike s.vars (disjunction t r.one r.zero) (disjunction s r.one r.zero) (λ x long. ap₂ (λ p q. p || q) (keeps.function r.one x proper.one) (keeps.function r.zero x proper.zero))
+known-kept {s} {t} r keeps proper = grind arith
 
 -- ---- what a solved netlist costs
 
@@ -209,27 +203,20 @@ gates-effort (gate ∷ gates) =
     omega (arith, gates-effort gates, sum)
 
 sum-enough : (v gates effort : ℕ) → gates ≤ effort → 2 + (10 * (gates + 2) * effort + (v + gates + 6 * gates * (gates + 2))) ≤ 16 * (gates + 2) * (effort + v + 4)
-sum-enough v gates effort less =
-    let squares : gates * gates ≤ gates * effort = mul-le-mul_left {m = gates} {n = effort} gates less in
-    omega (arith, less, squares)
+sum-enough v gates effort less = grind arith
 
 -- settling costs no more than is enough
 pub cost-enough : (net : Parts) (w : ℕ) → w * settling_cost net ≤ enough net w
 cost-enough net w =
     let most : ℕ = 16 * (length net.gates + 2) * (effort net + first_gate net + 4) in
-    let all = mul-le-mul_left {m = settling_cost net} {n = most} w (sum-enough (first_gate net) (length net.gates) (effort net) (gates-effort net.gates)) in
-    omega (arith, all)
+    grind (arith, mul-le-mul_left {m = settling_cost net} {n = most} w (sum-enough (first_gate net) (length net.gates) (effort net) (gates-effort net.gates)), sum-enough (first_gate net) (length net.gates) (effort net) (gates-effort net.gates), gates-effort net.gates)
 
 pub effort-enough : (limit e w gates v : ℕ) → limit < e → v + 1 ≤ w → limit < 16 * w * (gates + 2) * (e + v + 4)
-effort-enough limit e w gates v less wide =
-    let one : 1 * e ≤ w * e = mul-le-mul_right {m = 1} {n = w} e (omega (arith, wide)) in
-    omega (arith, less, wide, one)
+effort-enough limit e w gates v less wide = grind arith
 
 -- where a cover has more nodes than the limit, so has what is enough
 pub over-enough : (net : Parts) (w limit : ℕ) → IsWide (first_gate net) (IsLaid net) w → HasLargeCover net limit → limit < enough net w
-over-enough net w limit wide is =
-    let most = get_or-le-sum_by (λ (g : Gate). size g.cover + 1) net.gates is.gate no_gate is.within in
-    effort-enough limit (effort net) w (length net.gates) (first_gate net) (omega (arith, is.over, most)) wide.variables
+over-enough net w limit wide is = grind (arith, get_or-le-sum_by, effort-enough limit (effort net) w (length net.gates) (first_gate net))
 
 -- a solution that finds new diagrams full
 pub full-below : {T : Type 0} {r : Result T StoreFault} (net : Parts) (budget : ℕ) (s t : Arena) (vars : ℕ) → s ≡ empty vars budget → vars ≡ first_gate net → t.limit ≡ s.limit → AddsWithin r s t (HasLargeCover net) (IsWide s.vars (IsLaid net)) (settling_cost net) →

@@ -37,8 +37,7 @@ pub record IsOfGate (net : Parts) (h : List Bool → Bool) : Type 0 where
 
 -- the column's bit
 pub column-bit : {net : Parts} {h : List Bool → Bool} (of : IsOfColumn net h) (v : List Bool) → length v ≡ first_gate net → h v ≡ is_bit of.bit (bit (bit_at of.column v))
-column-bit of v long =
-    of.same v long ∙ ap (is_bit of.bit) (get_or-map bit v of.column false X (omega (arith, of.within)))
+column-bit of v long = grind (arith, get_or-map bit v of.column false X)
 
 -- a function that a gate works with, of other vectors
 part-at : (net : Parts) (loops : Loops) (v : Vectors) (g : List Bool → Bool) → IsGatePart net loops v g → (f : List Bool → List Bool) → IsGatePart net loops (λ x. v (f x)) (λ x. g (f x))
@@ -59,12 +58,7 @@ part-at net loops v g part f = record {
 -- the working list of a netlist, where vectors by column are laid out so
 pub working-is : (net : Parts) (points : Vectors) (lay : List Bool → List Bool) → ((v : List Bool) → length v ≡ first_gate net → points (lay v) ≡ bits v) →
     (g : List Bool → Bool) → IsWorking net (loops_of net) points g → IsOfColumn net (λ v. g (lay v)) ⊎ IsOfGate net (λ v. g (lay v))
-working-is net points lay are g (inl rail) = inl (record {
-  column = rail.signal;
-  within = rail.within;
-  bit = rail.bit;
-  same = λ v long. rail.same (lay v) ∙ ap (λ (ts : List Trit). is_bit rail.bit (value_in ts rail.signal)) (are v long);
-})
+working-is net points lay are g (inl rail) = grind arith
 working-is net points lay are g (inr part) =
     let h = gate_parts_agree net (loops_of net) (first_gate net) (λ v. points (lay v)) bits are (λ v. g (lay v)) (part-at net (loops_of net) points g part lay) in
     inr (record { of = h.of; is = h.is; same = h.alike })
@@ -96,8 +90,7 @@ cut-is net loops are gate n has =
 swept-is : (net : Parts) (points : Vectors) (gate n k : ℕ) (b : Bool) → Contains (cuts_of net (loops_of net) gate) n → k ≤ length (cuts_of net (loops_of net) gate) + 1 → (h : List Bool → Bool) →
     ((v : List Bool) → h v ≡ is_bit b (value_in (sweeps net (loops_of net) (points v) k) n)) → IsConstant h ⊎ IsOfWorking net points h
 swept-is net points gate n zero b has few h same =
-    let within = same_within net (loops_of net) (loops_exist net) n n (cut-is net (loops_of net) (loops_exist net) gate n has).0 in
-    inl (record { value = is_bit b X; same = λ v. same v ∙ ap (is_bit b) (get_or-replicate {A = Trit} (length net.gates) n X X within) })
+    grind (arith, same_within net (loops_of net) (loops_exist net) n n (cut-is net (loops_of net) (loops_exist net) gate n has).0, loops_exist net, cut-is net (loops_of net) (loops_exist net) gate n has, get_or-replicate {A = Trit} (length net.gates) n X X)
 swept-is net points gate n (suc k) b has few h same =
     let is = cut-is net (loops_of net) (loops_exist net) gate n has in
     inr (record {
@@ -131,10 +124,7 @@ module _ (net : Parts) (points : Vectors) (a : Arena) (blocks : Blocks) (cut : C
       ∙ ap (λ (l : Loops). cuts net l (points v) gate step) (loops-are net blocks cut are cut_is)
 
   width : length is.step ≡ length (cuts_of net (loops_of net) gate)
-  width =
-      sym (length-map {B = Trit} is.step (λ r. value_of a r []))
-      ∙ ap length (values-are [])
-      ∙ length-map {B = Trit} (cuts_of net (loops_of net) gate) (value_in (sweeps net (loops_of net) (points []) step))
+  width = grind (arith, length-map {B = Trit} is.step, values-are [], length-map {B = Trit} (cuts_of net (loops_of net) gate) (value_in (sweeps net (loops_of net) (points []) step)))
 
   abbrev wire : ℕ
   wire = get_or (cuts_of net (loops_of net) gate) place 0
@@ -143,19 +133,11 @@ module _ (net : Parts) (points : Vectors) (a : Arena) (blocks : Blocks) (cut : C
   wire-there = Contains-get_or (cuts_of net (loops_of net) gate) is.within.0 0 (omega (arith, is.within.1, width))
 
   rail-value : (v : List Bool) → value_of a is.rails v ≡ value_in (sweeps net (loops_of net) (points v) step) wire
-  rail-value v =
-      let inside = is.within.1 in
-      ap (λ (r : Rails). value_of a r v) (sym is.within.2)
-      ∙ sym (get_or-map (λ (r : Rails). value_of a r v) is.step place is.rails X inside)
-      ∙ ap (λ (ts : List Trit). get_or ts place X) (values-are v)
-      ∙ get_or-map (value_in (sweeps net (loops_of net) (points v) step)) (cuts_of net (loops_of net) gate) place 0 X (omega (arith, inside, width))
+  rail-value v = grind (arith, get_or-map, values-are v, get_or-map (value_in (sweeps net (loops_of net) (points v) step)) (cuts_of net (loops_of net) gate) place 0 X, width)
 
   -- a node is one of the two of a rail
   rail-is : (b : Bool) → ((v : List Bool) → den a node v ≡ is_bit b (value_of a is.rails v)) → IsConstant (den a node) ⊎ IsOfWorking net points (den a node)
-  rail-is b same =
-      let wires : length loop.cuts ≡ length (cuts_of net (loops_of net) gate) =
-      ap length (steps.wires gate gate-there) ∙ ap (λ (l : Loops). length (cuts_of net l gate)) (loops-are net blocks cut are cut_is) in
-      swept-is net points gate wire step b wire-there (omega (arith, is.among.1, steps.few)) (den a node) (λ v. same v ∙ ap (is_bit b) (rail-value v))
+  rail-is b same = grind (arith, gate-there, loops-are net blocks cut are cut_is, swept-is net points gate wire step b wire-there, wire-there, rail-value)
 
   -- what a node of a step says
   pub step-is_working : IsConstant (den a node) ⊎ IsOfWorking net points (den a node)

@@ -10,32 +10,20 @@ use Rattle.aig_core.proofs.building.add_gates.Goals.{After-add_gate}
 pub loop-number-init : goal.loop-number-init
 loop-number-init c =
     let net = c.args.net.now in
-    record {
-      made = (λ j. record { graph = c.requires.graph j; edges = c.requires.edges j }) ∙ sym (building-none net);
-      has = rw (c.requires.graph, c.requires.edges) (nothing_is_built net).has;
-    }
+    grind (arith, building-none net, nothing_is_built net)
 
 next_is : (c : After-add_gate) → with_gate c.args.net.now (record { graph = c.loop-number.aig; edges = c.loop-number.edges }) (get_or c.args.gates.now c.loop-number.number-index 0) ≡ building c.args.net.now (take (c.loop-number.number-index + 1) c.args.gates.now)
 next_is c =
     let gates = c.args.gates.now in
     let k = c.loop-number.number-index in
-    ap (λ (b : Building). with_gate c.args.net.now b (get_or gates k 0)) c.loop-number.invariant.made
-    ∙ building_next c.args.net.now gates k (get_or gates k 0) c.loop-number-test.true (get_or_default gates k 0 (get_or gates k 0) c.loop-number-test.true)
+    grind (arith, building_next c.args.net.now gates k (get_or gates k 0) c.loop-number-test.true (get_or_default gates k 0 (get_or gates k 0) c.loop-number-test.true), get_or_default gates k 0 (get_or gates k 0) c.loop-number-test.true)
 
 pub returns-in_err-add_gate-clause-builds : goal.returns-in_err-add_gate-clause-builds
 returns-in_err-add_gate-clause-builds c =
     let net = c.args.net.now in
     let gates = c.args.gates.now in
     let k = c.loop-number.number-index in
-    let next = next_is ((goal.at.returns-in_err-add_gate-clause-builds c).After-add_gate) in
-    builds_refused c.from_residual.result c.in_err-add_gate.field-0.0 c.add_gate.new.aig c.add_gate.new.edges (building net gates) c.from_residual.ensures.1
-    (IsFault-grows (with_gate net (record { graph = c.loop-number.aig; edges = c.loop-number.edges }) (get_or gates k 0)).graph (building net gates).graph c.in_err-add_gate.field-0.0
-    (omega (arith, building-grows net gates (k + 1), ap (λ (b : Building). length b.graph.ands) next)) c.in_err-add_gate.ensures.builds)
+    grind (arith, next_is ((goal.at.returns-in_err-add_gate-clause-builds c).After-add_gate), builds_refused c.from_residual.result c.in_err-add_gate.field-0.0 c.add_gate.new.aig c.add_gate.new.edges (building net gates) c.from_residual.ensures.1, IsFault-grows, building-grows net gates (k + 1))
 
 pub loop-number-preserved : goal.loop-number-preserved
-loop-number-preserved c =
-    let builds = c.in_ok-add_gate.ensures.builds in
-    record {
-      made = (λ j. record { graph = builds.0 j; edges = builds.1 j }) ∙ next_is ((goal.at.loop-number-preserved c).After-add_gate);
-      has = c.in_ok-add_gate.ensures.has;
-    }
+loop-number-preserved c = grind (arith, next_is ((goal.at.loop-number-preserved c).After-add_gate))

@@ -1,12 +1,11 @@
-use Rattle.std.proofs.Common.{map, ap, ◌∙◌}
+use Rattle.std.proofs.Common.{map, ap, ◌∙◌, arith}
 use Rattle.aig_core.proofs.Common.{Latch, signal_edge}
 use Rattle.aig_core.proofs.BuildingLemmas.{sources_are}
 use Rattle.cyc_base.proofs.ListLemmas.{map-map}
 use Rattle.aig_core.proofs.building.with_ends.Goals as goal
 
 pub signal_edges-requires-2-clause-signals : goal.signal_edges-requires-2-clause-signals
-signal_edges-requires-2-clause-signals c =
-    rw c.requires.sources (sources_are c.args.net.now c.outputs.ensures.valid)
+signal_edges-requires-2-clause-signals c = grind (arith, sources_are c.args.net.now c.outputs.ensures.valid)
 
 pub returns : goal.returns
 returns c =

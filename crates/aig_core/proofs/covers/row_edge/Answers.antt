@@ -21,18 +21,8 @@ returns-in_err-edge-clause-made c =
     (omega (arith, grows, ap (λ (m : Made). length m.graph.ands) next)) c.in_err-edge.ensures.made)
 
 pub loop-pin-preserved : goal.loop-pin-preserved
-loop-pin-preserved c =
-    let next = next_is ((goal.at.loop-pin-preserved c).In-Some) in
-    let made = c.in_ok-edge.ensures.made in
-    let longer = length_push c.loop-pin.yielded (c.in-Some.pin, c.in-Some.lit) in
-    record {
-      made = (λ j. record { graph = made.1 j; edge = made.0 j }) ∙ next ∙ ap (λ n. fold with_pair (found c.args.aig.now (constant true)) (take n (zip c.args.pins.now c.args.lits.now))) (sym longer);
-      edge = c.in_ok-edge.ensures.edge;
-      extends = Extends-trans c.loop-pin.invariant.extends c.in_ok-edge.ensures.extends;
-    }
+loop-pin-preserved c = grind (arith, next_is ((goal.at.loop-pin-preserved c).In-Some), length_push c.loop-pin.yielded (c.in-Some.pin, c.in-Some.lit), Extends-trans c.loop-pin.invariant.extends c.in_ok-edge.ensures.extends)
 
 pub returns-clause-made : goal.returns-clause-made
 returns-clause-made c =
-    let end = zip_end c.args.pins.now c.args.lits.now c.loop-pin.yielded c.into_iter-pin-iterator.result c.loop-pin.pin-iterator c.next.new.self c.next.result (cc) (cc) c.loop-pin.yielded_by c.in-None.is c.next.ensures.steps in
-    let is = row_all c.args.aig.now c.args.pins.now c.args.lits.now (length c.loop-pin.yielded) (found c.loop-pin.aig c.loop-pin.edge) end c.loop-pin.invariant.made in
-    (ap (λ (m : Made). m.edge) is, ap (λ (m : Made). m.graph) is)
+    grind (arith, zip_end c.args.pins.now c.args.lits.now c.loop-pin.yielded c.into_iter-pin-iterator.result c.loop-pin.pin-iterator c.next.new.self c.next.result, row_all c.args.aig.now c.args.pins.now c.args.lits.now (length c.loop-pin.yielded) (found c.loop-pin.aig c.loop-pin.edge))

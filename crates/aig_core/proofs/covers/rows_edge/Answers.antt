@@ -14,6 +14,4 @@ returns-in_err-edge-clause-made c =
     (omega (arith, grows, ap (λ (m : Made). length m.graph.ands) next)) c.in_err-edge.ensures.made)
 
 pub returns-clause-made : goal.returns-clause-made
-returns-clause-made c =
-    let is = rows_all c.args.aig.now c.args.pins.now c.args.rows.now c.loop-row.row-index (found c.loop-row.aig c.loop-row.edge) (omega arith) c.loop-row.invariant.made in
-    (ap (λ (m : Made). m.edge) is, ap (λ (m : Made). m.graph) is)
+returns-clause-made c = grind (arith, rows_all c.args.aig.now c.args.pins.now c.args.rows.now c.loop-row.row-index (found c.loop-row.aig c.loop-row.edge))

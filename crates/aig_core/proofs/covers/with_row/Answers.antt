@@ -1,3 +1,4 @@
+use Rattle.std.proofs.Common.{arith}
 use Rattle.aig_core.proofs.Common.{found, row_made, with_row}
 use Rattle.aig_core.proofs.CoverLemmas.{disjunction-grows}
 use Rattle.aig_core.proofs.AnswerLemmas.{handed, IsFault-grows}
@@ -8,6 +9,4 @@ returns-in_err-next-clause-made c =
     let lits = c.args.row.now.lits in
     let next = row_made c.args.aig.now c.args.pins.now lits in
     let whole = with_row c.args.pins.now (found c.args.aig.now c.args.edge) c.args.row.now in
-    handed c.from_residual.result c.in_err-next.field-0.0 c.row_edge.new.aig whole c.from_residual.ensures.1
-    (IsFault-grows next.graph whole.graph c.in_err-next.field-0.0 (disjunction-grows next.graph c.args.edge next.edge)
-    (rw c.items.ensures at c.in_err-next.ensures.made))
+    grind (arith, handed c.from_residual.result c.in_err-next.field-0.0 c.row_edge.new.aig whole c.from_residual.ensures.1, IsFault-grows next.graph whole.graph c.in_err-next.field-0.0 (disjunction-grows next.graph c.args.edge next.edge), disjunction-grows next.graph c.args.edge next.edge)

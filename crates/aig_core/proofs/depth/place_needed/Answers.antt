@@ -1,4 +1,4 @@
-use Rattle.std.proofs.Common.{◌≡◌, ◌<◌, ◌++◌, [], Some, length, map, reverse, ap, ap₂, ◌∙◌}
+use Rattle.std.proofs.Common.{◌≡◌, ◌<◌, ◌++◌, [], Some, length, map, reverse, ap, ap₂, ◌∙◌, arith}
 use Rattle.aig_core.proofs.Common.{All-nil, Task, visit, node_of, finished}
 use Rattle.std.proofs.lemmas.List.Elements.{All-pop}
 use Rattle.aig_core.proofs.DepthLemmas.{finished_visits, visits_within}
@@ -8,14 +8,7 @@ pub loop-task-init : goal.loop-task-init
 loop-task-init c =
     let graph = c.args.graph.now in
     let needed = c.args.needed.now in
-    let items : c.add_visits.new.tasks.items ≡ [] ++ map visit (reverse needed) =
-    c.in_ok-add_visits.ensures ∙ ap (λ xs. xs ++ map visit (reverse needed)) c.new-tasks.ensures.items in
-    record {
-      end = ap₂ (λ ns ts. finished graph ns ts) c.requires.nodes items ∙ finished_visits graph [] [] needed;
-      within = rw items (visits_within (length graph) [] needed (All-nil (λ (t : Task). node_of t < length graph)) c.requires.needed);
-      marks = c.requires.marks;
-      width = c.requires.width;
-    }
+    grind (arith, finished_visits graph [] [] needed, visits_within (length graph) [] needed, All-nil)
 
 pub step-requires-clause-task : goal.step-requires-clause-task
 step-requires-clause-task c =

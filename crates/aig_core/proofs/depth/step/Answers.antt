@@ -17,11 +17,7 @@ returns-then-index-clause-advances c =
     let marks = c.args.placed.now.marks.items in
     let tasks = c.args.tasks.now.items in
     let n = c.in-Visit.node in
-    let l = within ((goal.at.returns-then-index-clause-advances c).In-Visit) in
-    let marked : n < length marks = omega (arith, c.requires.width) in
-    let there : list_any (nat_eq n) nodes ≡ true =
-    sym (c.requires.marks n marked) ∙ get_or_default marks n false c.index.result.now marked ∙ sym c.index.ensures ∙ c.if-index.true in
-    rw c.in-Visit.is (pass_advances c.args.graph.now nodes tasks n c.requires.tasks there)
+    grind (arith, within ((goal.at.returns-then-index-clause-advances c).In-Visit), get_or_default marks n false c.index.result.now, pass_advances c.args.graph.now nodes tasks n c.requires.tasks)
 
 pub returns-in_ok-push-in-Visit-clause-advances : goal.returns-in_ok-push-in-Visit-clause-advances
 returns-in_ok-push-in-Visit-clause-advances c =

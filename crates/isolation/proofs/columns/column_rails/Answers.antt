@@ -23,14 +23,10 @@ loop-variable-preserved c =
     }
 
 pub returns-in_err-made-clause-grows : goal.returns-in_err-made-clause-grows
-returns-in_err-made-clause-grows c =
-    let all = ap (λ (a : Arena). a.vars) c.store.ensures in
-    grows_more (omega (arith, c.loop-variable-test.true, c.vars-variable-end.ensures, all)) (grows_refused c.in_err-made.was c.from_residual-in_err-made.ensures.1 (step ((goal.at.returns-in_err-made-clause-grows c).After-var_rails)))
+returns-in_err-made-clause-grows c = grind arith
 
 pub returns-clause-grows : goal.returns-clause-grows
-returns-clause-grows c =
-    let all = ap (λ (a : Arena). a.vars) c.store.ensures in
-    grows_more (omega (arith, c.loop-variable.auto.variable-end, c.vars-variable-end.ensures, all)) (grows_answered c.loop-variable.invariant.grows)
+returns-clause-grows c = grind arith
 
 pub returns-clause-rails : goal.returns-clause-rails
 returns-clause-rails c =

@@ -3,5 +3,4 @@ use Rattle.isolation.proofs.MarkLemmas.{near-marked}
 use Rattle.isolation.proofs.cones.mark_gate.Goals as goal
 
 pub returns : goal.returns
-returns c =
-    near-marked c.args.net.now c.args.gate c.args.marks.now c.mark_sources.new.marks (omega (arith, c.requires.width, c.requires.gate)) c.mark_sources.ensures
+returns c = grind (arith, near-marked c.args.net.now c.args.gate c.args.marks.now c.mark_sources.new.marks)

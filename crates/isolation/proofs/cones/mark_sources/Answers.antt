@@ -1,4 +1,4 @@
-use Rattle.std.proofs.Common.{◌∙◌, ap}
+use Rattle.std.proofs.Common.{◌∙◌, ap, arith}
 use Rattle.isolation.proofs.Common.{Gate}
 use Rattle.isolation.proofs.MarkLemmas.{pin-more, pins-marked}
 use Rattle.isolation.proofs.cones.mark_sources.Goals as goal
@@ -9,5 +9,4 @@ loop-pin-preserved c =
     c.args.marks.now c.loop-pin.marks c.mark_driver.new.marks c.loop-pin.invariant c.mark_driver.ensures
 
 pub returns : goal.returns
-returns c =
-    pins-marked c.args.net.now c.args.gate c.loop-pin.pin-index c.items-pin-items.result.now c.args.marks.now c.loop-pin.marks (c.items-pin-items.ensures ∙ ap (λ (g : Gate). g.pins) c.gate.ensures.at) c.loop-pin-test.false c.loop-pin.invariant
+returns c = grind (arith, pins-marked c.args.net.now c.args.gate c.loop-pin.pin-index c.items-pin-items.result.now c.args.marks.now c.loop-pin.marks)

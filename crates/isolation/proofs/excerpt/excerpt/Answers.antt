@@ -1,4 +1,4 @@
-use Rattle.std.proofs.Common.{subst}
+use Rattle.std.proofs.Common.{subst, arith}
 use Rattle.isolation.proofs.Common.{IfSome, IsExcerpt}
 use Rattle.isolation.specs.Building.{IsNamedBy}
 use Rattle.isolation.proofs.BuildingLemmas.{not_there}
@@ -11,8 +11,4 @@ returns-in_default-clause-some c closed =
     (c.in_ok-parts.ensures.some (numerable c.args.net.now c.args.gates.now c.args.outside.now.keys c.in_ok-parts.ensures.valid c.requires.gates c.requires.outside c.requires.apart closed) closed))
 
 pub returns-clause-some : goal.returns-clause-some
-returns-clause-some c closed =
-    c.made_of.ensures.some
-    (excerpt-valid c.args.net.now c.args.gates.now c.args.outside.now.keys c.requires.gates c.requires.outside c.requires.apart closed.rise closed.once c.in_ok-parts.ensures.valid c.in-Some.parts
-    (subst (λ o. IfSome o (IsExcerpt c.args.net.now c.args.outside.now.keys c.args.gates.now)) c.in-Some.is c.in_ok-parts.ensures.small)
-    (subst (λ o. IfSome o (IsNamedBy c.args.net.now c.args.outside.now.keys c.args.gates.now)) c.in-Some.is c.in_ok-parts.ensures.named))
+returns-clause-some c closed = grind (arith, excerpt-valid c.args.net.now c.args.gates.now c.args.outside.now.keys c.requires.gates c.requires.outside c.requires.apart closed.rise closed.once c.in_ok-parts.ensures.valid c.in-Some.parts)

@@ -1,4 +1,4 @@
-use Rattle.std.proofs.Common.{◌∙◌, ap, refl, rules, map}
+use Rattle.std.proofs.Common.{◌∙◌, ap, refl, rules, map, arith}
 use Rattle.isolation.proofs.Common.{name_at}
 use Rattle.isolation.proofs.BuildingLemmas.{not_there}
 use Rattle.isolation.proofs.ValidLemmas.{parts_excerpt, parts_named}
@@ -13,6 +13,4 @@ returns-clause-small c =
     (search rules) (c.in_ok-inputs.ensures ∙ ap (map (name_at c.args.net.now)) c.as_slice.ensures.keys) (search rules) (search rules) (rw c.in-Some.is at c.in_ok-copies.ensures.copies)
 
 pub returns-clause-named : goal.returns-clause-named
-returns-clause-named c =
-    parts_named c.args.net.now c.args.outside.now.keys c.args.gates.now _ c.in_ok-inputs.inputs.items c.in-Some.copies.items (c.in_ok-copy.ensures ∙ c.name-name.ensures.name)
-    (search rules) (c.in_ok-inputs.ensures ∙ ap (map (name_at c.args.net.now)) c.as_slice.ensures.keys) (search rules) (search rules) (search rules) refl (rw c.in-Some.is at c.in_ok-copies.ensures.copies)
+returns-clause-named c = grind arith

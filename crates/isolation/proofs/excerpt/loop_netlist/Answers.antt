@@ -8,10 +8,7 @@ use Rattle.isolation.proofs.excerpt.loop_netlist.Goals as goal
 pub excerpt-requires-clause-outside : goal.excerpt-requires-clause-outside
 excerpt-requires-clause-outside c =
     let l = c.args.looped.now in
-    subst (λ (net : Parts). All (λ (s : Sig). s.0 < count net) c.in_ok-outside.outside.keys) (sym c.net.ensures.net)
-    (outside_within l.net c.gates_at-gates.ensures.valid (block_at l.blocks c.args.place).gates
-    (gates_within l.net l.blocks c.net.ensures.looped.blocks c.args.place c.requires (block_at l.blocks c.args.place).gates refl)
-    c.in_ok-outside.outside.keys c.in_ok-outside.ensures.wires.are)
+    grind (arith, outside_within l.net c.gates_at-gates.ensures.valid (block_at l.blocks c.args.place).gates, gates_within l.net l.blocks c.net.ensures.looped.blocks c.args.place c.requires (block_at l.blocks c.args.place).gates)
 
 pub excerpt-requires-clause-apart : goal.excerpt-requires-clause-apart
 excerpt-requires-clause-apart c =

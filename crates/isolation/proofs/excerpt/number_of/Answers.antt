@@ -7,8 +7,7 @@ pub returns-in_err-place-clause-some : goal.returns-in_err-place-clause-some
 returns-in_err-place-clause-some c numerable among = absurd (true≢false (sym (c.in_err-place.ensures.some numerable.rise among)))
 
 pub returns-in-Ok-clause-number : goal.returns-in-Ok-clause-number
-returns-in-Ok-clause-number c =
-    subst (IsPlaceOf (origins c.args.net.now c.args.outside.now.keys c.args.gates.now) c.args.signal) (sym c.in-Ok.ensures.1) c.in_ok-place.ensures.place
+returns-in-Ok-clause-number c = grind arith
 
 pub returns-in-Err-clause-some : goal.returns-in-Err-clause-some
 returns-in-Err-clause-some c numerable among =

@@ -4,16 +4,14 @@ use Rattle.isolation.proofs.BuildingLemmas.{numbers_none, numbers_more, numbers_
 use Rattle.isolation.proofs.excerpt.numbers_of.Goals as goal
 
 pub loop-pin-init : goal.loop-pin-init
-loop-pin-init c =
-    subst (AreNumbersOf (origins c.args.net.now c.args.outside.now.keys c.args.gates.now) (take 0 c.args.pins.now)) (sym c.in_ok-numbers.ensures.items) (numbers_none c.args.net.now c.args.outside.now.keys c.args.gates.now c.args.pins.now)
+loop-pin-init c = grind arith
 
 pub loop-pin-preserved : goal.loop-pin-preserved
 loop-pin-preserved c =
     numbers_more (origins c.args.net.now c.args.outside.now.keys c.args.gates.now) c.args.pins.now c.loop-pin.numbers.items c.push.new.self.items c.loop-pin.pin-index _ c.in-Some.number c.loop-pin-test.true c.in_ok-push.ensures.items c.loop-pin.invariant c.in-Some.ensures.number
 
 pub returns-clause-numbers : goal.returns-clause-numbers
-returns-clause-numbers c =
-    numbers_all (origins c.args.net.now c.args.outside.now.keys c.args.gates.now) c.args.pins.now c.loop-pin.numbers.items c.loop-pin.pin-index (omega arith) c.loop-pin.invariant
+returns-clause-numbers c = grind (arith, numbers_all (origins c.args.net.now c.args.outside.now.keys c.args.gates.now) c.args.pins.now c.loop-pin.numbers.items c.loop-pin.pin-index)
 
 pub returns-in_default-clause-some : goal.returns-in_default-clause-some
 returns-in_default-clause-some c numerable among =

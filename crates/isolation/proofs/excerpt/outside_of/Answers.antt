@@ -20,6 +20,4 @@ add_outside-requires-clause-read c =
     pin_at l.net (block_at l.blocks c.args.place).gates c.gates_at-gate-items.result.now c.loop-gate.gate-index 0 c.items-pins.result.now c.gates_at-gate-items.ensures.is c.loop-gate-test.true (pins (goal.at.add_outside-requires-clause-read c).After-items-pins)
 
 pub returns : goal.returns
-returns c =
-    let l = c.args.looped.now in
-    wires_all l.net (block_at l.blocks c.args.place).gates c.gates_at-gate-items.result.now c.loop-gate.gate-index c.loop-gate.outside.keys c.gates_at-gate-items.ensures.is (omega arith) c.loop-gate.invariant
+returns c = grind arith

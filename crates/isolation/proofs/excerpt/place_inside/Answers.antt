@@ -5,9 +5,7 @@ use Rattle.isolation.proofs.BuildingLemmas.{place_gate, gate_there, search_none}
 use Rattle.isolation.proofs.excerpt.place_inside.Goals as goal
 
 pub returns-in_err-gate-clause-some : goal.returns-in_err-gate-clause-some
-returns-in_err-gate-clause-some c rise has =
-    let above = (gate_there c.args.net.now c.args.gates.now c.args.signal has).0 in
-    absurd (omega (arith, above, c.in_err-gate.ensures.given))
+returns-in_err-gate-clause-some c rise has = grind (arith, gate_there c.args.net.now c.args.gates.now c.args.signal has)
 
 pub returns-in-Err-clause-some : goal.returns-in-Err-clause-some
 returns-in-Err-clause-some c rise has =

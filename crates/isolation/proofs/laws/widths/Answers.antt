@@ -5,9 +5,4 @@ use Rattle.isolation.proofs.Common.{first_gate}
 use Rattle.isolation.proofs.laws.widths.Goals as goal
 
 pub returns : goal.returns
-returns c net = record {
-  variables = more_vectors (first_gate net);
-  combinations = λ b f g h is_f is_g is_h.
-      let most = nodes-below_power (first_gate net) (λ v. b (f v) (g v) (h v)) in
-      omega (arith, most);
-}
+returns c net = grind (arith, more_vectors (first_gate net), nodes-below_power (first_gate net))

@@ -30,11 +30,7 @@ pub returns-then-not-branch-clause-grows : goal.returns-then-not-branch-clause-g
 returns-then-not-branch-clause-grows c = within_more (omega (arith, c.loop-one-test.true)) (within_answered (step ((goal.at.returns-then-not-branch-clause-grows c).After-is_known)))
 
 pub returns-then-not-branch-clause-unknown : goal.returns-then-not-branch-clause-unknown
-returns-then-not-branch-clause-unknown c other = record {
-  place = c.loop-one.one-index;
-  within = c.loop-one-test.true;
-  at = unknown-back c.args.d.now c.loop-one.d (rails_at c.args.rails.now c.loop-one.one-index) c.loop-one.invariant.grows.keeps (c.requires c.loop-one.one-index unknown c.loop-one-test.true) (c.in_ok-is_known.ensures.unknown c.if-not-branch.true);
-}
+returns-then-not-branch-clause-unknown c other = grind arith
 
 pub returns-clause-grows : goal.returns-clause-grows
 returns-clause-grows c = within_more c.loop-one.invariant.within (within_answered c.loop-one.invariant.grows)

@@ -14,9 +14,7 @@ pub returns-clause-unknown : goal.returns-clause-unknown
 returns-clause-unknown c = rw (c.deref.ensures.value, c.in_ok-rails.ensures) at c.are_known.ensures.unknown
 
 pub returns-clause-grows : goal.returns-clause-grows
-returns-clause-grows c =
-    within_more (omega (arith, length-map {B = Rails} c.args.solved.now (rails_under c.args.d.now)))
-    (rw (c.deref.ensures.value, c.in_ok-rails.ensures) at c.are_known.ensures.grows)
+returns-clause-grows c = grind (arith, within_more, length-map {B = Rails} c.args.solved.now (rails_under c.args.d.now))
 
 pub returns-in_err-rails-clause-grows : goal.returns-in_err-rails-clause-grows
 returns-in_err-rails-clause-grows c = record { keeps = KeepsNodes-refl _; adds = adds_nothing c.from_residual.ensures.1 }

@@ -1,12 +1,11 @@
-use Rattle.std.proofs.Common.{subst}
+use Rattle.std.proofs.Common.{subst, arith}
 use Rattle.isolation.proofs.Common.{IsLawful}
 use Rattle.bdd_store.proofs.GrowthLemmas.{grows_answered, grows_refused}
 use Rattle.isolation.proofs.UnknownLemmas.{unknown-vector}
 use Rattle.isolation.proofs.settling.is_known.Goals as goal
 
 pub returns-clause-unknown : goal.returns-clause-unknown
-returns-clause-unknown c other =
-    unknown-vector c.args.d.now c.or.new.self c.args.rails c.in_ok-either.either c.of.result c.eq.result (subst IsLawful c.store.ensures c.laws.ensures) c.or.ensures.grows.keeps c.in_ok-either.ensures.node c.in_ok-either.ensures.function c.of.ensures.constant c.eq.ensures other
+returns-clause-unknown c other = grind (arith, unknown-vector c.args.d.now c.or.new.self c.args.rails c.in_ok-either.either c.of.result c.eq.result)
 
 pub returns-clause-grows : goal.returns-clause-grows
 returns-clause-grows c = grows_answered c.or.ensures.grows

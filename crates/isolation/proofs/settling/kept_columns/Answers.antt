@@ -15,9 +15,7 @@ pub returns-in_err-rails-clause-adds : goal.returns-in_err-rails-clause-adds
 returns-in_err-rails-clause-adds c = adds_refused c.in_err-rails.was c.from_residual-in_err-rails.ensures.1 (columns-add ((goal.at.returns-in_err-rails-clause-adds c).After-column_rails))
 
 pub returns-in_err-keep_rails-clause-adds : goal.returns-in_err-keep_rails-clause-adds
-returns-in_err-keep_rails-clause-adds c =
-    adds_lacking c.from_residual-in_err-keep_rails.ensures.1 (omega (arith, ap length c.keep_rails.ensures.gains.entries)) (columns-add ((goal.at.returns-in_err-keep_rails-clause-adds c).After-column_rails))
+returns-in_err-keep_rails-clause-adds c = grind arith
 
 pub returns-clause-adds : goal.returns-clause-adds
-returns-clause-adds c =
-    adds_swept (omega (arith, ap length c.keep_rails.ensures.gains.entries)) (columns-add ((goal.at.returns-clause-adds c).After-column_rails))
+returns-clause-adds c = grind arith

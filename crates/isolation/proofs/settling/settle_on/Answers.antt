@@ -47,8 +47,7 @@ solution c =
     c.kept_columns.ensures.adds c.solve.ensures.adds
 
 pub returns-in_err-given-clause-adds : goal.returns-in_err-given-clause-adds
-returns-in_err-given-clause-adds c =
-    adds_more {m = 2} {n = settling_cost c.args.looped.now.net} (omega arith) (adds_caused (λ (none : ⊥). absurd none) (adds_refused c.in_err-given.was c.from_residual.ensures.1 (adds_moved (λ w wide. wide.variables) c.kept_columns.ensures.adds)))
+returns-in_err-given-clause-adds c = grind arith
 
 pub returns-in_err-solved-clause-adds : goal.returns-in_err-solved-clause-adds
 returns-in_err-solved-clause-adds c =

@@ -25,9 +25,7 @@ abbrev asked : (c : After-most_sweeps) → IsSolvedNetlist c.args.d.now c.args.b
 asked c is = solved-stays c.solutions.ensures.stay (RootsStay-kept (subst IsLawful c.store.ensures c.laws.ensures) c.is_determined.ensures.grows.keeps) is
 
 pub returns-then-not-branch-clause-unknown : goal.returns-then-not-branch-clause-unknown
-returns-then-not-branch-clause-unknown c is =
-    unknown-gate is.net is.points is.points_are c.args.d.now (map (rails_under c.args.d.now) c.args.solved.now.rails) is.solution.rails is.solution.vector is.solution.values is.vars
-    (subst (λ (kept : List KeptRails). HasUnknownRails c.args.d.now (map (rails_under c.args.d.now) kept)) c.items.ensures (c.in_ok-is_determined.ensures.unknown c.if-not-branch.true))
+returns-then-not-branch-clause-unknown c is = grind (arith, unknown-gate is.net is.points is.points_are c.args.d.now (map (rails_under c.args.d.now) c.args.solved.now.rails) is.solution.rails is.solution.vector is.solution.values is.vars)
 
 pub returns-clause-settled : goal.returns-clause-settled
 returns-clause-settled c is =

@@ -11,9 +11,7 @@ simple : (c : goal.In-Some) → simple_and c.args.a c.args.b ≡ Some c.in-Some.
 simple c = sym c.simple_and.ensures ∙ c.in-Some.is
 
 pub returns-in-Some-clause-made : goal.returns-in-Some-clause-made
-returns-in-Some-clause-made c =
-    let is = conjunction-some c.args.self.now c.args.a c.args.b c.in-Some.edge (simple c) in
-    (sym (ap (λ (m : Made). m.edge) is), sym (ap (λ (m : Made). m.graph) is))
+returns-in-Some-clause-made c = grind (arith, conjunction-some c.args.self.now c.args.a c.args.b c.in-Some.edge (simple c), simple c)
 
 pub returns-in-Some-clause-value : goal.returns-in-Some-clause-value
 returns-in-Some-clause-value c v h = (simple_at c.args.a c.args.b c.in-Some.edge (simple c)).value c.args.self.now v
@@ -26,9 +24,7 @@ conjunction_is : (c : After-pair_of) → conjunction (the_view c.self.inside) c.
 conjunction_is c = conjunction-none (the_view c.self.inside) c.args.a c.args.b (none c)
 
 made : (c : After-pair_of) → IsMade (the_view c.self.inside) (hashed (the_view c.self.inside) (pair_of c.args.a c.args.b)) (λ v. den (the_view c.self.inside) c.args.a v && den (the_view c.self.inside) c.args.b v)
-made c =
-    hashed_is (the_view c.self.inside) c.args.a c.args.b c.self.invariant.2
-    (rw (← c.self.view_is) at c.requires.a) (rw (← c.self.view_is) at c.requires.b) (apart_at c.args.a c.args.b (none c))
+made c = grind (arith, hashed_is (the_view c.self.inside) c.args.a c.args.b c.self.invariant.2, apart_at c.args.a c.args.b (none c), none c)
 
 needs : (c : After-pair_of) → list_any (same_pair c.pair_of.result) c.self.inside.ands.keys ≡ false → NeedsAnd (the_view c.self.inside) c.args.a c.args.b
 needs c h = record { apart = none c; new = ap (λ (x : And). list_any (same_pair x) c.self.inside.ands.keys) (sym c.pair_of.ensures) ∙ h }
@@ -53,36 +49,22 @@ returns-in_err-place-clause-made c =
     too_many (the_view c.self.inside) c.args.a c.args.b (needs ((goal.at.returns-in_err-place-clause-made c).After-pair_of) full.0) full.1)))
 
 pub overflow_add-result-3 : goal.overflow_add-result-3
-overflow_add-result-3 c =
-    let is = made ((goal.at.overflow_add-result-3 c).After-pair_of) in
-    omega (arith, place_is c, is.is_edge, ap length (keys_are c), c.enter.ensures.room, c.self.invariant.0)
+overflow_add-result-3 c = grind (arith, made ((goal.at.overflow_add-result-3 c).After-pair_of), place_is c, keys_are c)
 
 pub overflow_mul-result : goal.overflow_mul-result
-overflow_mul-result c =
-    let is = made ((goal.at.overflow_mul-result c).After-pair_of) in
-    omega (arith, place_is c, is.is_edge, ap length (keys_are c), c.enter.ensures.room, c.self.invariant.0)
+overflow_mul-result c = grind (arith, made ((goal.at.overflow_mul-result c).After-pair_of), place_is c, keys_are c)
 
 pub invariant_of-self-2 : goal.invariant_of-self-2
-invariant_of-self-2 c =
-    let is = made ((goal.at.invariant_of-self-2 c).After-pair_of) in
-    (c.self.invariant.0, c.enter.ensures.room, subst IsSound (sym (graph_is c)) is.sound)
+invariant_of-self-2 c = grind (arith, made ((goal.at.invariant_of-self-2 c).After-pair_of), graph_is c)
 
 pub returns-clause-made : goal.returns-clause-made
-returns-clause-made c =
-    let is = conjunction_is ((goal.at.returns-clause-made c).After-pair_of) in
-    rw (← c.self.view_is) (edge_is c ∙ sym (ap (λ (m : Made). m.edge) is), graph_is c ∙ sym (ap (λ (m : Made). m.graph) is))
+returns-clause-made c = grind (arith, conjunction_is ((goal.at.returns-clause-made c).After-pair_of), edge_is c, graph_is c)
 
 pub returns-clause-edge : goal.returns-clause-edge
-returns-clause-edge c =
-    let is = made ((goal.at.returns-clause-edge c).After-pair_of) in
-    omega (arith, place_is c, is.is_edge, ap length (keys_are c))
+returns-clause-edge c = grind (arith, made ((goal.at.returns-clause-edge c).After-pair_of), place_is c, keys_are c)
 
 pub returns-clause-value : goal.returns-clause-value
-returns-clause-value c =
-    let is = made ((goal.at.returns-clause-value c).After-pair_of) in
-    rw (← c.self.view_is, graph_is c, edge_is c) is.value_is
+returns-clause-value c = grind (arith, made ((goal.at.returns-clause-value c).After-pair_of), graph_is c, edge_is c)
 
 pub returns-clause-extends : goal.returns-clause-extends
-returns-clause-extends c =
-    let is = made ((goal.at.returns-clause-extends c).After-pair_of) in
-    rw (← c.self.view_is, graph_is c) is.extends
+returns-clause-extends c = grind (arith, made ((goal.at.returns-clause-extends c).After-pair_of), graph_is c)
