@@ -1,5 +1,5 @@
 -- Tables of formals: what they have, and where a pair or an input is at fault.
-use Rattle.std.proofs.Common.{◌≡◌, ℕ, ◌+◌, ◌<◌, Bool, true, false, not, List, [], ◌∷◌, ◌++◌, length, get_or, take, drop, refl, sym, ap, ◌∙◌, cond, if◌then◌else◌, Some, None, Ok, Err, is_some, option_map}
+use Rattle.std.proofs.Common.{◌≡◌, ℕ, ◌+◌, ◌<◌, Bool, true, false, not, List, [], ◌∷◌, ◌++◌, length, get_or, take, drop, refl, sym, ap, ◌∙◌, cond, if◌then◌else◌, Some, None, Ok, Err, is_some, option_map, arith}
 use Rattle.flatten.proofs.Common.{drop-item, bytes_eq, Option, option_or, BlifModel, FlatFault, actual_of, is_among, formals, pairs_fault, entry, each_once, resolved, bound}
 use Rattle.flatten.specs.declared.fault.FlatFault.TheVariants.{UnknownFormal, FormalTwice, OpenInput}
 use Rattle.flatten.specs.Instances.{formal_fault, pair_fault, first_open}
@@ -7,8 +7,7 @@ use Rattle.flatten.proofs.Names.{taken}
 use Rattle.flatten.proofs.Libraries.{among_once}
 
 some_by : (b : Bool) (x y : List ℕ) (o p : Option (List ℕ)) → is_some o ≡ is_some p → is_some (cond b (Some x) o) ≡ is_some (cond b (Some y) p)
-some_by true x y o p e = refl
-some_by false x y o p e = e
+some_by b x y o p e = grind arith
 
 -- a table has the formals of its pairs
 pub bound_has : (prefix : List ℕ) (table pairs : List (List ℕ × List ℕ)) (name : List ℕ) → is_some (actual_of (bound prefix table pairs) name) ≡ is_some (actual_of pairs name)
@@ -18,9 +17,7 @@ bound_has prefix table (p ∷ pairs) name =
 
 pub bound_open : (prefix : List ℕ) (table pairs : List (List ℕ × List ℕ)) (names : List (List ℕ)) → first_open (bound prefix table pairs) names ≡ first_open pairs names
 bound_open prefix table pairs [] = refl
-bound_open prefix table pairs (n ∷ names) =
-    ap (λ b. cond (not b) (Some n) (first_open (bound prefix table pairs) names)) (bound_has prefix table pairs n)
-    ∙ ap (λ o. cond (not (is_some (actual_of pairs n))) (Some n) o) (bound_open prefix table pairs names)
+bound_open prefix table pairs (n ∷ names) = grind (arith, bound_has prefix table pairs n, bound_open prefix table pairs names)
 
 pub bound_taken : (prefix : List ℕ) (table pairs : List (List ℕ × List ℕ)) (i : ℕ) (p : List ℕ × List ℕ) → i < length pairs → p ≡ get_or pairs i p → bound prefix table (take (i + 1) pairs) ≡ bound prefix table (take i pairs) ++ (p.0, resolved prefix table p.1) ∷ []
 bound_taken prefix table pairs i p l e = ap (λ ps. bound prefix table ps) (taken pairs i p l e) ∙ bound_onto (take i pairs)
@@ -33,14 +30,10 @@ pub pair_later : (names : List (List ℕ)) (pairs : List (List ℕ × List ℕ))
 pair_later names pairs i p l e h k = rw (drop-item pairs i p l e, h, k, taken pairs i p l e) refl
 
 fault_of : (a b : Bool) (x y fault : FlatFault) (rest : Option FlatFault) → (if not a then Some x else (if b then Some y else None)) ≡ Some fault → (if not a then Some x else (if b then Some y else rest)) ≡ Some fault
-fault_of false b x y fault rest e = e
-fault_of true true x y fault rest e = e
-fault_of true false x y fault rest e = absurd (cc)
+fault_of a b x y fault rest e = grind arith
 
 fits_of : (a b : Bool) (x y : FlatFault) → (if not a then Some x else (if b then Some y else None)) ≡ None → (a ≡ true) × (b ≡ false)
-fits_of false b x y e = absurd (cc)
-fits_of true true x y e = absurd (cc)
-fits_of true false x y e = (refl, refl)
+fits_of a b x y e = grind arith
 
 pub formal_fits : (names : List (List ℕ)) (before : List (List ℕ × List ℕ)) (formal : List ℕ) → formal_fault names before formal ≡ None → (is_among names formal ≡ true) × (is_some (actual_of before formal) ≡ false)
 formal_fits names before formal e = fits_of (is_among names formal) (is_some (actual_of before formal)) (UnknownFormal formal) (FormalTwice formal) e
@@ -52,14 +45,10 @@ module _ (names : List (List ℕ)) (prefix : List ℕ) (table pairs entries : Li
 
   pub pair_refused : (fault : FlatFault) → formal_fault names entries p.0 ≡ Some fault → pair_fault names (take i pairs) (drop i pairs) ≡ Some fault
   pair_refused fault e =
-      ap (λ ps. pair_fault names (take i pairs) ps) (drop-item pairs i p l at)
-      ∙ fault_of (is_among names p.0) (is_some (actual_of (take i pairs) p.0)) (UnknownFormal p.0) (FormalTwice p.0) fault (pair_fault names (take i pairs ++ p ∷ []) (drop (i + 1) pairs))
-      (ap (λ b. if not (is_among names p.0) then Some (UnknownFormal p.0) else (if b then Some (FormalTwice p.0) else None)) (sym same_there) ∙ e)
+      grind (arith, drop-item pairs i p l, fault_of (is_among names p.0) (is_some (actual_of (take i pairs) p.0)) (UnknownFormal p.0) (FormalTwice p.0) fault (pair_fault names (take i pairs ++ p ∷ []) (drop (i + 1) pairs)), same_there)
 
   pub pair_taken : formal_fault names entries p.0 ≡ None → pair_fault names (take (i + 1) pairs) (drop (i + 1) pairs) ≡ pair_fault names (take i pairs) (drop i pairs)
-  pair_taken e =
-      let f = formal_fits names entries p.0 e in
-      sym (pair_later names pairs i p l at f.0 (sym same_there ∙ f.1))
+  pair_taken e = grind (arith, formal_fits names entries p.0 e, pair_later names pairs i p l, same_there)
 
 -- the same by the formals once each
 pub pair_fault_once : (names : List (List ℕ)) (before pairs : List (List ℕ × List ℕ)) → pair_fault (each_once names) before pairs ≡ pair_fault names before pairs
@@ -68,18 +57,10 @@ pair_fault_once names before (p ∷ pairs) = rw (among_once names p.0, pair_faul
 
 -- an instance whose model was chosen, before and behind the look at its pairs
 pub entry_refused : (name : List ℕ) (a b : Bool) (f : ℕ → Option FlatFault) (x : Option ℕ) (fault : FlatFault) → entry name a b (λ i. None) x ≡ Err fault → entry name a b f x ≡ Err fault
-entry_refused name a b f None fault e = e
-entry_refused name true b f (Some j) fault e = e
-entry_refused name false true f (Some j) fault e = e
-entry_refused name false false f (Some j) fault e = absurd (cc)
+entry_refused name a b f x fault e = grind arith
 
 entry_chosen : (name : List ℕ) (a b : Bool) (f : ℕ → Option FlatFault) (x : Option ℕ) (i : ℕ) → entry name a b (λ j. None) x ≡ Ok i → entry name a b f x ≡ elim (f i) [ Some fault ↦ Err fault | None ↦ Ok i ]
-entry_chosen name a b f None i e = absurd (cc)
-entry_chosen name true b f (Some j) i e = absurd (cc)
-entry_chosen name false true f (Some j) i e = absurd (cc)
-entry_chosen name false false f (Some j) i e =
-    let same : j ≡ i = cc in
-    ap (λ k. entry name false false f (Some k)) same
+entry_chosen name a b f x i e = grind arith
 
 pub entry_faulty : (name : List ℕ) (a b : Bool) (f : ℕ → Option FlatFault) (x : Option ℕ) (i : ℕ) (fault : FlatFault) → entry name a b (λ j. None) x ≡ Ok i → f i ≡ Some fault → entry name a b f x ≡ Err fault
 entry_faulty name a b f x i fault e h = rw (entry_chosen name a b f x i e, h) refl
@@ -88,16 +69,11 @@ pub entry_fit : (name : List ℕ) (a b : Bool) (f : ℕ → Option FlatFault) (x
 entry_fit name a b f x i e h = rw (entry_chosen name a b f x i e, h) refl
 
 pub none_there : (o : Option (List ℕ)) → is_some o ≡ false → o ≡ None
-none_there None h = refl
-none_there (Some x) h = absurd (cc)
+none_there o h = grind arith
 
 -- the first fault of the pairs, and then the first open input or clock
 pub pairs_fault_at : (model : BlifModel) (keys : List (List ℕ)) (pairs : List (List ℕ × List ℕ)) (fault : FlatFault) → keys ≡ each_once (formals model) → pair_fault keys [] pairs ≡ Some fault → pairs_fault model pairs ≡ Some fault
-pairs_fault_at model keys pairs fault k e =
-    let f : pair_fault (formals model) [] pairs ≡ Some fault = sym (pair_fault_once (formals model) [] pairs) ∙ ap (λ ks. pair_fault ks [] pairs) (sym k) ∙ e in
-    ap (λ o. option_or o (option_map OpenInput (first_open pairs (model.inputs ++ model.clocks)))) f
+pairs_fault_at model keys pairs fault k e = grind (arith, pair_fault_once (formals model) [] pairs)
 
 pub pairs_fault_open : (model : BlifModel) (keys : List (List ℕ)) (prefix : List ℕ) (table pairs : List (List ℕ × List ℕ)) → keys ≡ each_once (formals model) → pair_fault keys [] pairs ≡ None → pairs_fault model pairs ≡ option_map OpenInput (first_open (bound prefix table pairs) (model.inputs ++ model.clocks))
-pairs_fault_open model keys prefix table pairs k e =
-    let f : pair_fault (formals model) [] pairs ≡ None = sym (pair_fault_once (formals model) [] pairs) ∙ ap (λ ks. pair_fault ks [] pairs) (sym k) ∙ e in
-    ap (λ o. option_or o (option_map OpenInput (first_open pairs (model.inputs ++ model.clocks)))) f ∙ ap (λ o. option_map OpenInput o) (sym (bound_open prefix table pairs (model.inputs ++ model.clocks)))
+pairs_fault_open model keys prefix table pairs k e = grind (arith, pair_fault_once (formals model) [] pairs, bound_open prefix table pairs (model.inputs ++ model.clocks))

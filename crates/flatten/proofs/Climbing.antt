@@ -1,5 +1,5 @@
 -- Tables that are filled on the way down agree with climbing from below.
-use Rattle.std.proofs.Common.{◌≡◌, ℕ, Bool, true, false, List, [], ◌∷◌, ◌++◌, refl, append_assoc, if◌then◌else◌, Some, None}
+use Rattle.std.proofs.Common.{◌≡◌, ℕ, Bool, true, false, List, [], ◌∷◌, ◌++◌, refl, append_assoc, if◌then◌else◌, Some, None, arith}
 use Rattle.flatten.proofs.Common.{append-nil, decimal, bytes_eq, Option, Wire, Instance, actual_of, climb, name_at, resolved, bound}
 use Rattle.flatten.specs.Wires.{printed_at}
 use Rattle.flatten.specs.Paths.{numbers}
@@ -26,13 +26,11 @@ option_at f None = None
 option_at f (Some x) = Some (f x)
 
 some_of : (f : List ℕ → List ℕ) (b : Bool) (x : List ℕ) (o : Option (List ℕ)) → (if b then Some (f x) else option_at f o) ≡ option_at f (if b then Some x else o)
-some_of f true x o = refl
-some_of f false x o = refl
+some_of f b x o = grind arith
 
 actual_bound : (prefix : List ℕ) (table pairs : List (List ℕ × List ℕ)) (name : List ℕ) → actual_of (bound prefix table pairs) name ≡ option_at (λ a. resolved prefix table a) (actual_of pairs name)
 actual_bound prefix table [] name = refl
-actual_bound prefix table (p ∷ pairs) name =
-    rw (actual_bound prefix table pairs name) (some_of (λ a. resolved prefix table a) (bytes_eq name p.0) p.1 (actual_of pairs name))
+actual_bound prefix table (p ∷ pairs) name = grind (arith, actual_bound prefix table pairs name, some_of)
 
 abbrev wire_by : List Instance → ℕ → List ℕ → Option (List ℕ) → Wire
 wire_by up n name (Some actual) = climb up actual
@@ -48,5 +46,4 @@ by_cases m o up name None h = own_name m (o ∷ up) name
 
 pub resolved_is_climbed : ResolvedIsClimbed
 resolved_is_climbed m [] name = refl
-resolved_is_climbed m (o ∷ up) name =
-    rw (actual_bound (prefix_of m up) (table_of m up) o.part.pairs name, resolved) (by_cases m o up name (actual_of o.part.pairs name) (λ a. resolved_is_climbed m up a))
+resolved_is_climbed m (o ∷ up) name = grind (arith, actual_bound (prefix_of m up) (table_of m up) o.part.pairs name, by_cases m o up name (actual_of o.part.pairs name), resolved_is_climbed m up)

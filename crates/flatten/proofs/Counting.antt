@@ -36,33 +36,23 @@ decided_fault (suc room) (opens ∷ es) fault e = decided_fault room es fault e
 
 -- one event
 left_open : (room : ℕ) (es : List Event) → 0 < room → left_by room (opens ∷ es) ≡ left_by (room - 1) es
-left_open zero es h = absurd (omega arith)
-left_open (suc room) es h = let e : room ≡ suc room - 1 = omega arith in ap (λ r. left_by r es) e
+left_open room es h = grind arith
 
 left_line : (m : List ℕ) (path : List Instance) (x : Item) (room : ℕ) (es : List Event) → 0 < room → left_by room (line_at m path x ∷ es) ≡ left_by (room - 1) es
-left_line m path x zero es h = absurd (omega arith)
-left_line m path x (suc room) es h = let e : suc room - 1 ≡ room = omega arith in rw e (by x)
-  where
-    by : (y : Item) → left_by (suc room) (line_at m path y ∷ es) ≡ left_by room es
-    by (Gate g) = refl
-    by y = refl
+left_line m path x room es h = grind arith
 
 no_room : (m : List ℕ) (path : List Instance) (x : Item) (es : List Event) → left_by 0 (line_at m path x ∷ es) ≡ Err TooLarge
-no_room m path (Gate g) es = refl
-no_room m path x es = refl
+no_room m path x es = grind arith
 
 left_fault : (room : ℕ) (fault : FlatFault) (es : List Event) → left_by room (fails fault ∷ es) ≡ Err fault
-left_fault zero fault es = refl
-left_fault (suc room) fault es = refl
+left_fault room fault es = grind arith
 
 within_suc : (a b : ℕ) → nat_lt a (suc b) ≡ nat_le a b
 within_suc a b = grind (arith, common_steps)
 
 module _ (depth : ℕ) (models : List BlifModel) (trail : List ℕ) where
   entered_same : (top : List ℕ) (path : List Instance) (p : PartLine) → AreOpen models top trail path → entered depth models top path p ≡ entered_below depth models trail p
-  entered_same top path p are =
-      ap (λ b. entry p.model b (nat_le depth (length path)) (λ i. pairs_fault (model_at models i) p.pairs) (find_model models p.model)) (sym (are.names p.model))
-      ∙ ap (λ b. entry p.model (list_any (λ i. bytes_eq (model_at models i).name p.model) trail) b (λ i. pairs_fault (model_at models i) p.pairs) (find_model models p.model)) (sym (ap (nat_lt depth) are.many ∙ within_suc depth (length path)))
+  entered_same top path p are = grind arith
 
   -- one model more
   are_open : (top : List ℕ) (path : List Instance) (n : ℕ) (p : PartLine) (i : ℕ) → AreOpen models top trail path → (model_at models i).name ≡ p.model → AreOpen models top (trail ++ (i ∷ [])) (record { number = n; part = p } ∷ path)
@@ -76,35 +66,28 @@ module _ (depth : ℕ) (models : List BlifModel) (trail : List ℕ) where
   }
 
   nothing_behind : (room : ℕ) → Leave depth models trail [] room (Ok room)
-  nothing_behind zero top m path n are = ap (left_by 0) (events_nil depth models top m (depth - length path) path n)
-  nothing_behind (suc room) top m path n are = ap (left_by (suc room)) (events_nil depth models top m (depth - length path) path n)
+  nothing_behind room top m path n are = grind arith
 
   -- a gate or a latch
   line_leaves : (room : ℕ) (x : Item) → IsLine x → 0 < room → LeavesTo depth models trail x room (room - 1)
-  line_leaves room x line some rest answer h top m path n are =
-      ap (left_by room) (events_line depth models top m (depth - length path) path n x rest line) ∙ left_line m path x room (events (depth - length path) depth models top m path n rest) some ∙ h top m path n are
+  line_leaves room x line some rest answer h top m path n are = grind (arith, events_line, left_line m path x room (events (depth - length path) depth models top m path n rest) some)
 
   no_line : (room : ℕ) (x : Item) → IsLine x → room ≡ 0 → FailsBy depth models trail x room TooLarge
-  no_line room x line none rest top m path n are =
-      ap (left_by room) (events_line depth models top m (depth - length path) path n x rest line) ∙ rw none (no_room m path x (events (depth - length path) depth models top m path n rest))
+  no_line room x line none rest top m path n are = grind arith
 
   pub line_passed : (room : ℕ) (item : Item) (r : Result ℕ FlatFault) → IsLine item → OnOk r (0 < room) → IfOk r (λ left. left ≡ room - 1) → IfOk r (λ left. LeavesTo depth models trail item room left)
   line_passed room item (Ok left) line some less = subst (λ (k : ℕ). LeavesTo depth models trail item room k) (sym less) (line_leaves room item line some)
   line_passed room item (Err fault) line some less = tt
 
   pub line_fault : (room : ℕ) (item : Item) (r : Result ℕ FlatFault) → IsLine item → IfErr r (λ fault. (room ≡ 0) × (fault ≡ TooLarge)) → IfErr r (λ fault. (fault ≡ Memory) ⊎ FailsBy depth models trail item room fault)
-  line_fault room item (Ok left) line h = tt
-  line_fault room item (Err fault) line h = inr (subst (λ (f : FlatFault). FailsBy depth models trail item room f) (sym h.1) (no_line room item line h.0))
+  line_fault room item r line h = grind (arith, no_line)
 
   -- an instance that can't be entered
   pub part_refused : (room : ℕ) (p : PartLine) (fault : FlatFault) → entered_below depth models trail p ≡ Err fault → FailsBy depth models trail (Part p) room fault
-  part_refused room p fault e rest top m path n are =
-      ap (left_by room) (events_fault depth models top m (depth - length path) path n p rest fault (entered_same top path p are ∙ e))
-      ∙ left_fault room fault (events (depth - length path) depth models top m path (suc n) rest)
+  part_refused room p fault e rest top m path n are = grind (arith, events_fault, entered_same top path p are, left_fault room fault (events (depth - length path) depth models top m path (suc n) rest))
 
   pub no_part : (room : ℕ) (p : PartLine) (i : ℕ) → entered_below depth models trail p ≡ Ok i → room ≡ 0 → FailsBy depth models trail (Part p) room TooLarge
-  no_part room p i e none rest top m path n are =
-      ap (left_by room) (events_open depth models top m path n p rest i (entered_same top path p are ∙ e)) ∙ rw none refl
+  no_part room p i e none rest top m path n are = grind arith
 
   -- one that is entered, where this is the answer of what comes inside
   part_entered : (room : ℕ) (p : PartLine) (i : ℕ) (answer : Result ℕ FlatFault) → entered_below depth models trail p ≡ Ok i → 0 < room → Leave depth models (trail ++ (i ∷ [])) (model_at models i).body (room - 1) answer
@@ -119,16 +102,14 @@ module _ (depth : ℕ) (models : List BlifModel) (trail : List ℕ) where
       ∙ ap (λ r. left_behind r (events (depth - length path) depth models top m path (suc n) rest)) (below top m (record { number = n; part = p } ∷ path) 1 (are_open top path n p i are named))
 
   pub part_leaves : (room left : ℕ) (p : PartLine) (i : ℕ) → entered_below depth models trail p ≡ Ok i → 0 < room → Leave depth models (trail ++ (i ∷ [])) (model_at models i).body (room - 1) (Ok left) → LeavesTo depth models trail (Part p) room left
-  part_leaves room left p i e some below rest answer h top m path n are =
-      part_entered room p i (Ok left) e some below rest top m path n are ∙ h top m path (suc n) are
+  part_leaves room left p i e some below rest answer h top m path n are = grind (arith, part_entered room p i (Ok left) e some below rest top m path n are)
 
   pub part_fails : (room : ℕ) (p : PartLine) (i : ℕ) (fault : FlatFault) → entered_below depth models trail p ≡ Ok i → 0 < room → Leave depth models (trail ++ (i ∷ [])) (model_at models i).body (room - 1) (Err fault) → FailsBy depth models trail (Part p) room fault
   part_fails room p i fault e some below = part_entered room p i (Err fault) e some below
 
   -- the levels and the body of the model that is entered, as the code has them
   pub inside_is : (room less : ℕ) (i : ℕ) (trail_inside : List ℕ) (body : List Item) (answer : Result ℕ FlatFault) → trail_inside ≡ trail ++ (i ∷ []) → body ≡ (model_at models i).body → less ≡ room - 1 → Leave depth models trail_inside body less answer → Leave depth models (trail ++ (i ∷ [])) (model_at models i).body (room - 1) answer
-  inside_is room less i trail_inside body answer e f g h =
-      rw (e, f, g) at h
+  inside_is room less i trail_inside body answer e f g h = grind arith
 
   -- the next item of a body
   pub next_leaves : (room left : ℕ) (body : List Item) (i : ℕ) (item : Item) (same : List ℕ) (answer : Result ℕ FlatFault) → i < length body → item ≡ get_or body i item → same ≡ trail → LeavesTo depth models same item room left → Leave depth models trail (drop (i + 1) body) left answer → Leave depth models trail (drop i body) room answer
@@ -136,12 +117,10 @@ module _ (depth : ℕ) (models : List BlifModel) (trail : List ℕ) where
       rw (drop-item body i item l at) ((rw e at h) (drop (i + 1) body) answer later)
 
   pub next_fails : (room : ℕ) (body : List Item) (i : ℕ) (item : Item) (same : List ℕ) (fault : FlatFault) → i < length body → item ≡ get_or body i item → same ≡ trail → FailsBy depth models same item room fault → Leave depth models trail (drop i body) room (Err fault)
-  next_fails room body i item same fault l at e h =
-      rw (drop-item body i item l at) ((rw e at h) (drop (i + 1) body))
+  next_fails room body i item same fault l at e h = grind (arith, drop-item body i item l)
 
   pub none_left : (room : ℕ) (body : List Item) (i : ℕ) → length body ≤ i → Leave depth models trail (drop i body) room (Ok room)
-  none_left room body i l =
-      rw (drop_all i body l) (nothing_behind room)
+  none_left room body i l = grind (arith, drop_all i body l, nothing_behind room)
 
 -- the top alone is open
 top_alone : (models : List BlifModel) (i : ℕ) → AreOpen models (model_at models i).name (i ∷ []) []
@@ -153,7 +132,4 @@ fault_of_walk depth limit models i trail body fault e f h =
     let m = mark_of models in
     let none : depth - 0 ≡ depth = omega arith in
     let are = subst (λ (ts : List ℕ). AreOpen models top ts []) (sym e) (top_alone models i) in
-    decided_fault limit (events depth depth models top m [] 1 (model_at models i).body) fault
-    (ap (λ more. left_by limit (events more depth models top m [] 1 (model_at models i).body)) (sym none)
-    ∙ ap (λ items. left_by limit (events (depth - 0) depth models top m [] 1 items)) (sym f)
-    ∙ h top m [] 1 are)
+    grind (arith, decided_fault limit (events depth depth models top m [] 1 (model_at models i).body) fault)

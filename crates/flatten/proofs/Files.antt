@@ -28,10 +28,7 @@ among_right : (names more xs : List (List ℕ)) → AreAmong more xs → AreAmon
 among_right names more xs = All-weaker (Contains more) (Contains (names ++ more)) (Contains-append_right names more) xs
 
 both_all : {A : Type 0} (P : A → Type 0) (xs ys : List A) → All P (xs ++ ys) → All P xs × All P ys
-both_all P xs ys h = (
-  rw (take_at xs ys (length xs) refl) at (All-take P (length xs) (xs ++ ys) h),
-  rw (drop_at xs ys (length xs) refl) at (All-drop P (length xs) (xs ++ ys) h),
-)
+both_all P xs ys h = grind (arith, take_at xs ys (length xs), All-take P (length xs) (xs ++ ys) h, drop_at xs ys (length xs), All-drop P (length xs) (xs ++ ys) h)
 
 names_of : (models : List BlifModel) (i : ℕ) → AreAmong (wire_names models) (model_names (model_at models i))
 names_of [] i = All-nil (Contains [])
@@ -49,9 +46,7 @@ items_of models i =
   where
     each : (items : List Item) → AreAmong (wire_names models) (flat_map item_names items) → All (IsItemAmong (wire_names models)) items
     each [] h = All-nil (IsItemAmong (wire_names models))
-    each (item ∷ items) h =
-        let k = both_all (Contains (wire_names models)) (item_names item) (flat_map item_names items) h in
-        All-cons (IsItemAmong (wire_names models)) item items k.0 (each items k.1)
+    each (item ∷ items) h = grind (arith, both_all (Contains (wire_names models)) (item_names item) (flat_map item_names items) h, All-cons (IsItemAmong (wire_names models)) item items, each items)
 
 actuals_among : (names : List (List ℕ)) (pairs : List (List ℕ × List ℕ)) → AreAmong names (pair_names pairs) → All (λ p. Contains names p.1) pairs
 actuals_among names [] each = All-nil (λ (p : List ℕ × List ℕ). Contains names p.1)
@@ -78,8 +73,7 @@ name_each models path names binds each =
     (All-weaker (Contains (wire_names models)) (λ name. NamesOneWire models (name_at (mark_of models) path name)) (λ name named. names_one models path name binds named) names each)
 
 control_at : (m : List ℕ) (path : List Instance) (control : Option Clock) → control_names (option_map (clock_at m path) control) ≡ map (name_at m path) (control_names control)
-control_at m path None = refl
-control_at m path (Some clock) = refl
+control_at m path control = grind arith
 
 abbrev EventNamesWires : List BlifModel → Event → Type 0
 EventNamesWires models (gate g) = All (NamesOneWire models) (item_names (Gate g))
@@ -95,9 +89,7 @@ latch_names_wires : (models : List BlifModel) (path : List Instance) (l : LatchL
     → IsItemAmong (wire_names models) (Latch l) → EventNamesWires models (latch (latch_at (mark_of models) path l))
 latch_names_wires models path l binds each =
     let m = mark_of models in
-    All-same (NamesOneWire models) (item_names (Latch (latch_at m path l))) (map (name_at m path) (l.from ∷ l.output ∷ control_names l.control))
-    (ap (λ (ns : List (List ℕ)). name_at m path l.from ∷ name_at m path l.output ∷ ns) (control_at m path l.control))
-    (name_each models path (l.from ∷ l.output ∷ control_names l.control) binds each)
+    grind (arith, All-same (NamesOneWire models) (item_names (Latch (latch_at m path l))) (map (name_at m path) (l.from ∷ l.output ∷ control_names l.control)), control_at m path l.control, name_each models path (l.from ∷ l.output ∷ control_names l.control) binds each)
 
 -- The walk: a number on its paths is at most the number of its events.
 
@@ -113,12 +105,10 @@ module _ (models : List BlifModel) (deeper : List Instance → List Item → Lis
     → EachNamesWires models (deeper inner (model_at models i).body)) where
   through_names : (inner : List Instance) (r : Result ℕ FlatFault) → BindsAmong (wire_names models) inner → length (through deeper models inner r) < 2 ^ 64
       → EachNamesWires models (through deeper models inner r)
-  through_names inner (Err fault) binds few = (tt, tt)
-  through_names inner (Ok i) binds few = (tt, below inner i binds (omega arith))
+  through_names inner r binds few = grind arith
 
   through_some : (inner : List Instance) (r : Result ℕ FlatFault) → 1 ≤ length (through deeper models inner r)
-  through_some inner (Err fault) = omega arith
-  through_some inner (Ok i) = omega arith
+  through_some inner r = grind arith
 
   body_names : (path : List Instance) (n : ℕ) (items : List Item) → BindsAmong (wire_names models) path → All (IsItemAmong (wire_names models)) items
       → n + length (events_by deeper depth models top (mark_of models) path n items) < 2 ^ 64
@@ -142,17 +132,13 @@ module _ (models : List BlifModel) (deeper : List Instance → List Item → Lis
       let some = through_some (o ∷ path) (entered depth models top path p) in
       let all = length-append first rest in
       let inner : BindsAmong file (o ∷ path) = (omega arith, actuals_among file p.pairs (All-head (IsItemAmong file) (Part p) items each), binds) in
-      each_append models first rest (through_names (o ∷ path) (entered depth models top path p) inner (omega arith))
-      (body_names path (suc n) items binds (All-tail (IsItemAmong file) (Part p) items each) (omega arith))
+      grind (arith, each_append models first rest, through_names (o ∷ path) (entered depth models top path p) inner, body_names path (suc n) items binds (All-tail (IsItemAmong file) (Part p) items each), All-tail (IsItemAmong file) (Part p) items each)
 
 walk_names : (more depth : ℕ) (models : List BlifModel) (top : List ℕ) (path : List Instance) (i : ℕ) → BindsAmong (wire_names models) path
     → 1 + length (events more depth models top (mark_of models) path 1 (model_at models i).body) < 2 ^ 64
     → EachNamesWires models (events more depth models top (mark_of models) path 1 (model_at models i).body)
-walk_names zero depth models top path i binds few =
-    body_names models (λ inner body. []) depth top (λ inner i binds few. tt) path 1 (model_at models i).body binds (items_of models i) (omega arith)
-walk_names (suc more) depth models top path i binds few =
-    body_names models (λ inner body. events more depth models top (mark_of models) inner 1 body) depth top
-    (λ inner i binds few. walk_names more depth models top inner i binds few) path 1 (model_at models i).body binds (items_of models i) (omega arith)
+walk_names zero depth models top path i binds few = grind (arith, body_names models, items_of models)
+walk_names (suc more) depth models top path i binds few = grind (arith, body_names models, walk_names more, items_of models)
 
 -- The lines that the walk comes to.
 
@@ -178,8 +164,7 @@ lines_name : (depth limit : ℕ) (models : List BlifModel) (place : ℕ) (lines 
 lines_name depth limit models place lines fits e =
     let top = (model_at models place).name in
     let es = events depth depth models top (mark_of models) [] 1 (model_at models place).body in
-    let k = decided_lines limit es lines e in
-    rw (← k.0) (names_in models es (walk_names depth depth models top [] place tt (omega (arith, k.1))))
+    grind (arith, decided_lines limit es lines e, names_in models es, walk_names)
 
 pub walk_names_wires : WalkNamesWires
 walk_names_wires models place lines e = lines_name 200 4000000 models place lines (omega arith) e
@@ -187,9 +172,7 @@ walk_names_wires models place lines e = lines_name 200 4000000 models place line
 -- The signals of the flat netlist.
 
 top_names : (models : List BlifModel) (i : ℕ) → All (NamesOneWire models) (model_at models i).inputs
-top_names models i =
-    let P : List (List ℕ) → Type 0 = λ names. All (NamesOneWire models) names in
-    subst P (map-id (model_at models i).inputs) (name_each models [] (model_at models i).inputs tt (inputs_of models i))
+top_names models i = grind (arith, map-id (model_at models i).inputs, name_each models [] (model_at models i).inputs, inputs_of models i)
 
 latch_outputs_name : (models : List BlifModel) (sig : List ℕ → Sig) (latches : List LatchLine) → All (LatchNames models) latches
     → All (NamesOneWire models) (map (λ latch. latch.name) (map (latch_with sig) latches))
@@ -219,22 +202,15 @@ linked_by top lines fault = elim fault [ Some f ↦ Err f | None ↦ Ok (netlist
 
 linked_is : (top : BlifModel) (lines : FlatLines) (fault : Option FlatFault) (net : Parts) → linked_by top lines fault ≡ Ok net
     → netlist_by (sig_of (signal_list top lines)) top lines ≡ net
-linked_is top lines (Some f) net e = cc
-linked_is top lines None net e = cc
+linked_is top lines fault net e = grind arith
 
 linked_names : (models : List BlifModel) (i : ℕ) (r : Result FlatLines FlatFault) (net : Parts) → flat_lines max_depth max_items models i ≡ r
     → linked_lines (model_at models i) r ≡ Ok net → All (NamesOneWire models) (signal_names net)
-linked_names models i (Err fault) net e h = cc
-linked_names models i (Ok lines) net e h =
-    let top = model_at models i in
-    let P : Parts → Type 0 = λ parts. All (NamesOneWire models) (signal_names parts) in
-    subst P (linked_is top lines (link_fault top lines) net h)
-    (signals_of models i lines (sig_of (signal_list top lines)) (walk_names_wires models i lines e))
+linked_names models i r net e h = grind (arith, linked_is, signals_of, walk_names_wires)
 
 from_found : (models : List BlifModel) (top : List ℕ) (found : Option ℕ) (net : Parts) → flat_from max_depth max_items models top found ≡ Ok net
     → All (NamesOneWire models) (signal_names net)
-from_found models top None net e = cc
-from_found models top (Some i) net e = linked_names models i (flat_lines max_depth max_items models i) net refl e
+from_found models top found net e = grind (arith, linked_names)
 
 pub signals_name_wires : SignalsNameWires
 signals_name_wires models top net e = from_found models top (find_model models top) net e

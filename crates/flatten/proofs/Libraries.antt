@@ -12,30 +12,21 @@ use Rattle.blif_read.specs.Find.{has_name}
 use Rattle.flatten.proofs.Names.{bytes_sym, taken}
 
 pub fold_taken : (old names : List (List ℕ)) (i : ℕ) (name : List ℕ) → i < length names → name ≡ get_or names i name → fold (insert_key bytes_eq) old (take (i + 1) names) ≡ insert_key bytes_eq (fold (insert_key bytes_eq) old (take i names)) name
-fold_taken old names i name l e =
-    ap (λ xs. fold (insert_key bytes_eq) old xs) (taken names i name l e) ∙ fold-append (insert_key bytes_eq) old (take i names) (name ∷ [])
+fold_taken old names i name l e = grind (arith, taken names i name l e, fold-append (insert_key bytes_eq) old (take i names) (name ∷ []))
 
 pub among_push : (names : List (List ℕ)) (x n : List ℕ) → is_among (names ++ x ∷ []) n ≡ (is_among names n || bytes_eq n x)
 among_push names x n = list_any-append (bytes_eq n) names (x ∷ []) ∙ ap (λ b. is_among names n || b) (or-false (bytes_eq n x))
 
 or_there : (b a : Bool) → (b ≡ true → a ≡ true) → a ≡ (a || b)
-or_there true a h = h refl ∙ sym (ap (λ c. c || true) (h refl))
-or_there false a h = sym (or-false a)
+or_there b a h = grind arith
 
 pub among_inserted : (names : List (List ℕ)) (x n : List ℕ) → is_among (insert_key bytes_eq names x) n ≡ (is_among names n || bytes_eq n x)
-among_inserted names x n =
-    elim (cases_Bool (is_among names x)) [
-      | inl e ↦ ap (λ b. is_among (if b then names else names ++ x ∷ []) n) e ∙ or_there (bytes_eq n x) (is_among names n) (λ h. ap (λ y. is_among names y) (bytes_eq-true n x h) ∙ e)
-      | inr e ↦ ap (λ b. is_among (if b then names else names ++ x ∷ []) n) e ∙ among_push names x n
-    ]
+among_inserted names x n = grind (arith, cases_Bool (is_among names x), or_there (bytes_eq n x) (is_among names n), bytes_eq-true n x, among_push names x n)
 
 -- what is gathered is what there was and what came
 pub among_gathered : (old names : List (List ℕ)) (n : List ℕ) → is_among (fold (insert_key bytes_eq) old names) n ≡ (is_among old n || is_among names n)
 among_gathered old [] n = sym (or-false (is_among old n))
-among_gathered old (x ∷ names) n =
-    among_gathered (insert_key bytes_eq old x) names n
-    ∙ ap (λ b. b || is_among names n) (among_inserted old x n)
-    ∙ or_assoc (is_among old n) (bytes_eq n x) (is_among names n)
+among_gathered old (x ∷ names) n = grind (arith, among_gathered (insert_key bytes_eq old x) names n, among_inserted old x n, or_assoc (is_among old n) (bytes_eq n x) (is_among names n))
 
 pub among_once : (names : List (List ℕ)) (n : List ℕ) → is_among (each_once names) n ≡ is_among names n
 among_once names n = among_gathered [] names n
@@ -43,11 +34,7 @@ among_once names n = among_gathered [] names n
 -- names that are new and differ are all gathered
 pub fresh_gathered : (old names : List (List ℕ)) → twice_after old names ≡ None → fold (insert_key bytes_eq) old names ≡ old ++ names
 fresh_gathered old [] h = sym (append-nil old)
-fresh_gathered old (x ∷ names) h =
-    elim (cases_Bool (is_among old x)) [
-      | inl e ↦ absurd (let k : Some x ≡ None = rw e at h in cc)
-      | inr e ↦ ap (λ b. fold (insert_key bytes_eq) (if b then old else old ++ x ∷ []) names) e ∙ fresh_gathered (old ++ x ∷ []) names (rw e at h) ∙ append_assoc old (x ∷ []) names
-    ]
+fresh_gathered old (x ∷ names) h = grind (arith, cases_Bool (is_among old x), fresh_gathered (old ++ x ∷ []) names, append_assoc old (x ∷ []) names)
 
 pub distinct_fresh : (old names : List (List ℕ)) → AllByRecursion (λ y. is_among old y ≡ false) names → IsDistinct bytes_eq names → twice_after old names ≡ None
 distinct_fresh old [] new apart = refl
@@ -81,15 +68,11 @@ pub formals_at : {S : Type 0} (keys : S → List (List ℕ)) (sets : List S) (mo
 formals_at keys sets [] i set e l h = absurd (omega arith)
 formals_at keys [] (m ∷ models) i set e l h = absurd (cc)
 formals_at keys (s ∷ sets) (m ∷ models) zero set e l h = ap keys h ∙ (let k : keys s ≡ each_once (formals m) = cc in k)
-formals_at keys (s ∷ sets) (m ∷ models) (suc i) set e l h =
-    formals_at keys sets models i set (let k : map keys sets ≡ map (λ (model : BlifModel). each_once (formals model)) models = cc in k) (omega arith) h
+formals_at keys (s ∷ sets) (m ∷ models) (suc i) set e l h = grind (arith, formals_at keys sets models i set)
 
 -- one more model
 pub names_taken : (models : List BlifModel) (i : ℕ) (x : BlifModel) → i < length models → x ≡ get_or models i x → fold (insert_key bytes_eq) [] (map (λ model. model.name) (take (i + 1) models)) ≡ insert_key bytes_eq (fold (insert_key bytes_eq) [] (map (λ model. model.name) (take i models))) x.name
-names_taken models i x l e =
-    ap (λ ms. fold (insert_key bytes_eq) [] (map (λ (m : BlifModel). m.name) ms)) (taken models i x l e)
-    ∙ ap (λ ns. fold (insert_key bytes_eq) [] ns) (map-append (λ (m : BlifModel). m.name) (take i models) (x ∷ []))
-    ∙ fold-append (insert_key bytes_eq) [] (map (λ (m : BlifModel). m.name) (take i models)) (x.name ∷ [])
+names_taken models i x l e = grind (arith, taken models i x l e, map-append, fold-append (insert_key bytes_eq) [])
 
 -- models whose names differ
 pub names_apart : (models : List BlifModel) → AllPairs (λ (a b : BlifModel). a.name ≢ b.name) models → IsDistinct bytes_eq (map (λ model. model.name) models)

@@ -1,5 +1,5 @@
 -- Equality of names, and one more item of a list.
-use Rattle.std.proofs.Common.{◌≡◌, ℕ, ◌+◌, ◌<◌, true, List, ◌∷◌, [], ◌++◌, length, get_or, take, refl, sym, ap, ◌∙◌, Bool, false, ◌||◌}
+use Rattle.std.proofs.Common.{◌≡◌, ℕ, ◌+◌, ◌<◌, true, List, ◌∷◌, [], ◌++◌, length, get_or, take, refl, sym, ap, ◌∙◌, Bool, false, ◌||◌, arith}
 use Rattle.flatten.proofs.Common.{bytes_eq, bytes_eq-true}
 use Rattle.std.proofs.lemmas.List.{take_more}
 use Rattle.std.proofs.lemmas.Slice.Eq.{bytes_eq-Decides}
@@ -9,16 +9,10 @@ pub bytes_refl : (xs : List ℕ) → bytes_eq xs xs ≡ true
 bytes_refl xs = (bytes_eq-Decides xs xs).1 refl
 
 pub bytes_sym : (xs ys : List ℕ) → bytes_eq xs ys ≡ bytes_eq ys xs
-bytes_sym xs ys =
-    same_truth (bytes_eq xs ys) (bytes_eq ys xs)
-    (λ h. (bytes_eq-Decides ys xs).1 (sym (bytes_eq-true xs ys h)))
-    (λ h. (bytes_eq-Decides xs ys).1 (sym (bytes_eq-true ys xs h)))
+bytes_sym xs ys = grind (arith, same_truth (bytes_eq xs ys) (bytes_eq ys xs), bytes_eq-Decides ys xs, bytes_eq-true xs ys, bytes_eq-Decides xs ys, bytes_eq-true ys xs)
 
 pub taken : {A : Type 0} (xs : List A) (i : ℕ) (x : A) → i < length xs → x ≡ get_or xs i x → take (i + 1) xs ≡ take i xs ++ x ∷ []
 taken xs i x l e = take_more xs i x l ∙ ap (λ y. take i xs ++ y ∷ []) (sym e)
 
 pub or_open : (a b : Bool) → (a || (b || false)) ≡ (b || a)
-or_open true true = refl
-or_open true false = refl
-or_open false true = refl
-or_open false false = refl
+or_open a b = grind arith

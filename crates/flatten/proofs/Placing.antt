@@ -21,25 +21,15 @@ module _ {X : Type 0} (p : X → Bool) where
 
   pub place_some : (xs : List X) → list_any p xs ≡ true → position_or_len p xs < length xs
   place_some [] h = absurd (cc)
-  place_some (x ∷ xs) h =
-      elim (cases_Bool (p x)) [
-        | inl e ↦ omega (arith, step_yes x xs e)
-        | inr e ↦ omega (arith, step_no x xs e, place_some xs (rw e at h))
-      ]
+  place_some (x ∷ xs) h = grind (arith, cases_Bool (p x), step_yes x xs, step_no x xs, place_some xs)
 
   pub place_front : (xs ys : List X) → list_any p xs ≡ true → position_or_len p (xs ++ ys) ≡ position_or_len p xs
   place_front [] ys h = absurd (cc)
-  place_front (x ∷ xs) ys h =
-      elim (cases_Bool (p x)) [
-        | inl e ↦ step_yes x (xs ++ ys) e ∙ sym (step_yes x xs e)
-        | inr e ↦ step_no x (xs ++ ys) e ∙ ap (λ n. 1 + n) (place_front xs ys (rw e at h)) ∙ sym (step_no x xs e)
-      ]
+  place_front (x ∷ xs) ys h = grind (arith, cases_Bool (p x), step_yes x (xs ++ ys), step_yes x xs, step_no x (xs ++ ys), place_front xs ys, step_no x xs)
 
   pub place_behind : (xs ys : List X) → list_any p xs ≡ false → position_or_len p (xs ++ ys) ≡ length xs + position_or_len p ys
   place_behind [] ys h = omega arith
-  place_behind (x ∷ xs) ys h =
-      let both = or_parts (p x) (list_any p xs) h in
-      omega (arith, step_no x (xs ++ ys) both.0, place_behind xs ys both.1)
+  place_behind (x ∷ xs) ys h = grind (arith, or_parts (p x) (list_any p xs) h, step_no x (xs ++ ys), place_behind xs ys)
 
 found_at : {X : Type 0} (p : X → Bool) (xs : List X) → position_or_len p xs < length xs → position p xs ≡ Some (position_or_len p xs)
 found_at p xs h = ap (λ b. if b then Some (position_or_len p xs) else None) (lt-ltb (position_or_len p xs) (length xs) h)
@@ -48,14 +38,10 @@ place_input : (a b k : ℕ) → k < a → sig_of_place a b k ≡ Some (signal k)
 place_input a b k h = ap (λ t. if t then Some (signal k) else (if nat_lt k (a + b) then None else Some (signal (k - b)))) (lt-ltb k a h)
 
 place_clock : (a b k : ℕ) → a ≤ k → k < a + b → sig_of_place a b k ≡ None
-place_clock a b k h i =
-    ap (λ t. if t then Some (signal k) else (if nat_lt k (a + b) then None else Some (signal (k - b)))) (le-ltb k a h)
-    ∙ ap (λ t. if t then None else Some (signal (k - b))) (lt-ltb k (a + b) i)
+place_clock a b k h i = grind arith
 
 place_driven : (a b k : ℕ) → a + b ≤ k → sig_of_place a b k ≡ Some (signal (k - b))
-place_driven a b k h =
-    ap (λ t. if t then Some (signal k) else (if nat_lt k (a + b) then None else Some (signal (k - b)))) (le-ltb k a (omega arith))
-    ∙ ap (λ t. if t then None else Some (signal (k - b))) (le-ltb k (a + b) h)
+place_driven a b k h = grind arith
 
 -- the signal of a name among inputs I, clocks C and other drivers R
 module _ (I C R : List (List ℕ)) (n : List ℕ) where
@@ -69,76 +55,36 @@ module _ (I C R : List (List ℕ)) (n : List ℕ) where
   there h = found_at (bytes_eq n) (I ++ (C ++ R)) (place_some (bytes_eq n) (I ++ (C ++ R)) h)
 
   pub at_input : is_among I n ≡ true → at ≡ Some (sig_of (I ++ R) n)
-  at_input h =
-      let e = there (among_all ∙ ap (λ b. b || (is_among C n || is_among R n)) h) in
-      let f = place_front (bytes_eq n) I (C ++ R) h in
-      let g = place_front (bytes_eq n) I R h in
-      ap (λ o. option_and_then (sig_of_place (length I) (length C)) o) e
-      ∙ ap (λ k. sig_of_place (length I) (length C) k) f
-      ∙ place_input (length I) (length C) (position_or_len (bytes_eq n) I) (place_some (bytes_eq n) I h)
-      ∙ ap (λ k. Some (signal k)) (sym g)
+  at_input h = grind (arith, there, among_all, place_front (bytes_eq n) I (C ++ R) h, place_front (bytes_eq n) I R h, place_input (length I) (length C) (position_or_len (bytes_eq n) I) (place_some (bytes_eq n) I h), place_some (bytes_eq n) I h)
 
   pub at_clock : is_among I n ≡ false → is_among C n ≡ true → at ≡ None
-  at_clock h c =
-      let e = there (among_all ∙ ap (λ b. b || (is_among C n || is_among R n)) h ∙ ap (λ b. b || is_among R n) c) in
-      let f = place_behind (bytes_eq n) I (C ++ R) h ∙ ap (λ k. length I + k) (place_front (bytes_eq n) C R c) in
-      let l = place_some (bytes_eq n) C c in
-      ap (λ o. option_and_then (sig_of_place (length I) (length C)) o) e
-      ∙ ap (λ k. sig_of_place (length I) (length C) k) f
-      ∙ place_clock (length I) (length C) (length I + position_or_len (bytes_eq n) C) (omega arith) (omega (arith, l))
+  at_clock h c = grind (arith, there, among_all, place_behind (bytes_eq n) I (C ++ R) h, place_front (bytes_eq n) C R c, place_some (bytes_eq n) C c, place_clock (length I) (length C) (length I + position_or_len (bytes_eq n) C))
 
   pub at_driven : is_among I n ≡ false → is_among C n ≡ false → is_among R n ≡ true → at ≡ Some (sig_of (I ++ R) n)
   at_driven h c r =
-      let e = there (among_all ∙ ap (λ b. b || (is_among C n || is_among R n)) h ∙ ap (λ b. b || is_among R n) c ∙ r) in
-      let f = place_behind (bytes_eq n) I (C ++ R) h ∙ ap (λ k. length I + k) (place_behind (bytes_eq n) C R c) in
-      let g = place_behind (bytes_eq n) I R h in
       let k = length I + (length C + position_or_len (bytes_eq n) R) in
-      ap (λ o. option_and_then (sig_of_place (length I) (length C)) o) e
-      ∙ ap (λ j. sig_of_place (length I) (length C) j) f
-      ∙ place_driven (length I) (length C) k (omega arith)
-      ∙ ap (λ j. Some (signal j)) (let s : k - length C ≡ position_or_len (bytes_eq n) (I ++ R) = omega (arith, g) in s)
+      grind (arith, there, among_all, place_behind (bytes_eq n) I (C ++ R) h, place_behind (bytes_eq n) C R c, place_behind (bytes_eq n) I R h, place_driven (length I) (length C) k)
 
   pub at_none : is_among I n ≡ false → is_among C n ≡ false → at ≡ Some (sig_of (I ++ R) n) ⊎ (is_among (I ++ (C ++ R)) n ≡ false)
-  at_none h c =
-      elim (cases_Bool (is_among R n)) [
-        | inl e ↦ inl (at_driven h c e)
-        | inr e ↦ inr (rw among_all (rw (h, c, e) refl))
-      ]
+  at_none h c = grind (arith, cases_Bool (is_among R n), at_driven h c, among_all)
 
 -- own clocks are no inputs
 filtered : (I xs : List (List ℕ)) (n : List ℕ) → is_among (filter (λ x. not (is_among I x)) xs) n ≡ true → is_among I n ≡ false
 filtered I [] n h = absurd (cc)
-filtered I (x ∷ xs) n h = by (is_among I x) (bytes_eq n x) refl refl (λ k. filtered I xs n k)
-  where
-    rest_of : List (List ℕ)
-    rest_of = filter (λ y. not (is_among I y)) xs
-
-    by : (a b : Bool) → is_among I x ≡ a → bytes_eq n x ≡ b → (is_among (filter (λ y. not (is_among I y)) xs) n ≡ true → is_among I n ≡ false) → is_among I n ≡ false
-    by true b e f rest = rest (sym (ap (λ t. is_among (cond (not t) (x ∷ filter (λ y. not (is_among I y)) xs) (filter (λ y. not (is_among I y)) xs)) n) e) ∙ h)
-    by false true e f rest = ap (λ y. is_among I y) (bytes_eq-true n x f) ∙ e
-    by false false e f rest =
-        rest (sym (ap (λ t. is_among (cond (not t) (x ∷ filter (λ y. not (is_among I y)) xs) (filter (λ y. not (is_among I y)) xs)) n) e ∙ ap (λ t. t || is_among (filter (λ y. not (is_among I y)) xs) n) f) ∙ h)
+filtered I (x ∷ xs) n h = grind (arith, filtered I xs n, bytes_eq-true n x)
 
 pub clock_no_input : (top : BlifModel) (n : List ℕ) → is_among (own_clocks top) n ≡ true → is_among top.inputs n ≡ false
-clock_no_input top n h =
-    filtered top.inputs top.clocks n (sym (among_once (filter (λ x. not (is_among top.inputs x)) top.clocks) n) ∙ h)
+clock_no_input top n h = grind (arith, filtered top.inputs top.clocks n, among_once)
 
 pub first_of : {X : Type 0} (p : X → Bool) (x : X) (xs : List X) → find p (x ∷ xs) ≡ None → (p x ≡ false) × (find p xs ≡ None)
-first_of p x xs h =
-    elim (cases_Bool (p x)) [
-      | inl e ↦ absurd (let k : Some x ≡ None = rw e at h in cc)
-      | inr e ↦ (e, rw e at h)
-    ]
+first_of p x xs h = grind arith
 
 pub both_none : {X : Type 0} (p : X → Bool) (xs ys : List X) → find p (xs ++ ys) ≡ None → (find p xs ≡ None) × (find p ys ≡ None)
 both_none p xs ys h = option_or-neither (find p xs) (find p ys) (sym (find-append p xs ys) ∙ h)
 
 module _ (top : BlifModel) (lines : FlatLines) (table : DriverTable) (of : IsDriversOf top lines table) where
   at_table : (n : List ℕ) → sig_at table n ≡ option_and_then (sig_of_place (length top.inputs) (length (own_clocks top))) (position (bytes_eq n) (drivers top lines))
-  at_table n =
-      ap (λ ks. option_and_then (sig_of_place table.inputs table.clocks) (position (bytes_eq n) ks)) of.names
-      ∙ ap (λ k. option_and_then (sig_of_place k table.clocks) (position (bytes_eq n) (drivers top lines))) of.inputs
-      ∙ ap (λ k. option_and_then (sig_of_place (length top.inputs) k) (position (bytes_eq n) (drivers top lines))) of.clocks
+  at_table n = grind arith
 
   abbrev missing : List ℕ → Bool
   missing name = not (is_among (drivers top lines) name)
@@ -157,48 +103,27 @@ module _ (top : BlifModel) (lines : FlatLines) (table : DriverTable) (of : IsDri
       driven = not-false (is_among (drivers top lines) n) d
 
   unread_is : (n : List ℕ) → missing n ≡ false → is_unread table n ≡ is_among (own_clocks top) n
-  unread_is n d =
-      elim (cases_Bool (is_among (own_clocks top) n)) [
-        | inl e ↦ ap (λ o. not (is_some o)) (sig_clock n e) ∙ sym e
-        | inr e ↦ ap (λ o. not (is_some o)) (sig_found n d e) ∙ sym e
-      ]
+  unread_is n d = grind (arith, cases_Bool (is_among (own_clocks top) n), sig_clock n, sig_found n d)
 
   -- the first clock that is read, where all that is read is driven
   pub find_unread : (names : List (List ℕ)) → find missing names ≡ None → find (is_unread table) names ≡ find (is_among (own_clocks top)) names
   find_unread [] h = refl
-  find_unread (x ∷ names) h =
-      let f = first_of missing x names h in
-      ap (λ b. cond b (Some x) (find (is_unread table) names)) (unread_is x f.0) ∙ ap (λ o. cond (is_among (own_clocks top) x) (Some x) o) (find_unread names f.1)
+  find_unread (x ∷ names) h = grind (arith, first_of missing x names h, unread_is x, find_unread names)
 
   sig_same : (n : List ℕ) → missing n ≡ false → is_unread table n ≡ false → sig_or table n ≡ sig_of (signal_list top lines) n
   sig_same n d r = ap (λ o. unwrap_or o (signal 0)) (sig_found n d (sym (unread_is n d) ∙ r))
 
   pub sigs_same : (names : List (List ℕ)) → find missing names ≡ None → find (is_unread table) names ≡ None → map (sig_or table) names ≡ map (sig_of (signal_list top lines)) names
   sigs_same [] h r = refl
-  sigs_same (x ∷ names) h r =
-      let f = first_of missing x names h in
-      let g = first_of (is_unread table) x names r in
-      let a = sig_same x f.0 g.0 in
-      let b = sigs_same names f.1 g.1 in
-      cc
+  sigs_same (x ∷ names) h r = grind (arith, first_of missing x names h, first_of (is_unread table) x names r, sig_same x, sigs_same names)
 
   latches_same : (latches : List LatchLine) → find missing (map (λ l. l.from) latches) ≡ None → find (is_unread table) (map (λ l. l.from) latches) ≡ None → map (latch_with (sig_or table)) latches ≡ map (latch_with (sig_of (signal_list top lines))) latches
   latches_same [] h r = refl
-  latches_same (l ∷ latches) h r =
-      let f = first_of missing l.from (map (λ (x : LatchLine). x.from) latches) h in
-      let g = first_of (is_unread table) l.from (map (λ (x : LatchLine). x.from) latches) r in
-      let a = sig_same l.from f.0 g.0 in
-      let b = latches_same latches f.1 g.1 in
-      cc
+  latches_same (l ∷ latches) h r = grind (arith, first_of missing l.from, first_of (is_unread table) l.from, sig_same l.from, latches_same latches)
 
   gates_same : (gates : List GateLine) → find missing (flat_map (λ g. g.pins) gates) ≡ None → find (is_unread table) (flat_map (λ g. g.pins) gates) ≡ None → map (gate_with (sig_or table)) gates ≡ map (gate_with (sig_of (signal_list top lines))) gates
   gates_same [] h r = refl
-  gates_same (x ∷ gates) h r =
-      let f = both_none missing x.pins (flat_map (λ (g : GateLine). g.pins) gates) h in
-      let g = both_none (is_unread table) x.pins (flat_map (λ (y : GateLine). y.pins) gates) r in
-      let a = sigs_same x.pins f.0 g.0 in
-      let b = gates_same gates f.1 g.1 in
-      cc
+  gates_same (x ∷ gates) h r = grind (arith, both_none missing x.pins, both_none (is_unread table) x.pins, sigs_same x.pins, gates_same gates)
 
   pub parts_same : find missing (reads top lines) ≡ None → find (is_unread table) (reads top lines) ≡ None → netlist_by (sig_or table) top lines ≡ netlist_by (sig_of (signal_list top lines)) top lines
   parts_same h r =
@@ -215,19 +140,15 @@ module _ (top : BlifModel) (lines : FlatLines) (table : DriverTable) (of : IsDri
   undriven_is = ap (λ (keys : List (List ℕ)). option_map Undriven (find (λ name. not (is_among keys name)) (reads top lines))) of.names
 
   linked_fault : (o : Option FlatFault) (fault : FlatFault) → o ≡ Some fault → ◌≡◌ {A = Result Parts FlatFault} (elim o [ Some f ↦ Err f | None ↦ Ok (netlist_by (sig_of (signal_list top lines)) top lines) ]) (Err fault)
-  linked_fault (Some f) fault h = cc
-  linked_fault None fault h = absurd (cc)
+  linked_fault o fault h = grind arith
 
   linked_none : (o : Option FlatFault) → o ≡ None → ◌≡◌ {A = Result Parts FlatFault} (elim o [ Some f ↦ Err f | None ↦ Ok (netlist_by (sig_of (signal_list top lines)) top lines) ]) (Ok (netlist_by (sig_of (signal_list top lines)) top lines))
-  linked_none (Some f) h = absurd (cc)
-  linked_none None h = refl
+  linked_none o h = grind arith
 
   -- the answer, once the drivers are without a fault
   module _ (once : option_or (declared_twice top) (driven_twice top lines) ≡ None) where
     behind_drivers : (o : Option FlatFault) → undriven_among table (reads top lines) ≡ o → link_fault top lines ≡ option_or (option_or o (bad_clock top lines)) (clock_read top lines)
-    behind_drivers o e =
-        ap (λ d. option_or d (option_or (option_or (undriven top lines) (bad_clock top lines)) (clock_read top lines))) once
-        ∙ ap (λ u. option_or (option_or u (bad_clock top lines)) (clock_read top lines)) (sym undriven_is ∙ e)
+    behind_drivers o e = grind arith
 
     pub linked_undriven : (fault : FlatFault) → undriven_among table (reads top lines) ≡ Some fault → linked top lines ≡ Err fault
     linked_undriven fault e = linked_fault (link_fault top lines) fault (behind_drivers (Some fault) e)
@@ -238,17 +159,14 @@ module _ (top : BlifModel) (lines : FlatLines) (table : DriverTable) (of : IsDri
       all_driven = option_map-nothing Undriven (find missing (reads top lines)) (sym undriven_is ∙ read.driven)
 
       fault_is : link_fault top lines ≡ option_or (bad_clock top lines) (option_map ClockRead clock)
-      fault_is =
-          behind_drivers None read.driven
-          ∙ ap (λ o. option_or (bad_clock top lines) (option_map ClockRead o)) (sym (find_unread (reads top lines) all_driven) ∙ sym read.clock)
+      fault_is = grind (arith, behind_drivers None read.driven, find_unread (reads top lines) all_driven, all_driven)
 
       pub linked_clock : (fault : FlatFault) → option_or (bad_clock top lines) (option_map ClockRead clock) ≡ Some fault → linked top lines ≡ Err fault
       linked_clock fault e = linked_fault (link_fault top lines) fault (fault_is ∙ e)
 
       pub linked_parts : (parts : Parts) → parts ≡ netlist_by (sig_or table) top lines → option_or (bad_clock top lines) (option_map ClockRead clock) ≡ None → linked top lines ≡ Ok parts
       linked_parts parts is fits =
-          let unread : find (is_unread table) (reads top lines) ≡ None = sym read.clock ∙ option_map-nothing ClockRead clock (option_or-neither (bad_clock top lines) (option_map ClockRead clock) fits).1 in
-          linked_none (link_fault top lines) (fault_is ∙ fits) ∙ ap (λ x. Ok x) (sym (is ∙ parts_same all_driven unread))
+          grind (arith, option_map-nothing ClockRead clock (option_or-neither (bad_clock top lines) (option_map ClockRead clock) fits).1, option_or-neither (bad_clock top lines) (option_map ClockRead clock), linked_none (link_fault top lines), fault_is, parts_same all_driven, all_driven)
 
 -- the numbers of the signals of a table fit
 pub has_signals : (top : BlifModel) (lines : FlatLines) (table : DriverTable) → IsDriversOf top lines table → length top.inputs ≤ 4000000000 → length lines.latches + length lines.gates ≤ 4000000 → HasSignals table

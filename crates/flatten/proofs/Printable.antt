@@ -1,5 +1,5 @@
 -- What the walk prints may stand in a BLIF text, and each gate has as many pins as its cover.
-use Rattle.std.proofs.Common.{ℕ, suc, ◌+◌, ◌<◌, List, [], ◌∷◌, ◌++◌, length, ◌∙◌, All, Some, None, IfSome}
+use Rattle.std.proofs.Common.{ℕ, suc, ◌+◌, ◌<◌, List, [], ◌∷◌, ◌++◌, length, ◌∙◌, All, Some, None, IfSome, arith}
 use Rattle.flatten.proofs.Common.{length-map, All-nil, All-cons, All-head, All-append, All-push, decimal, bytes_eq, Option, longest_run_of, tildes, mark_of, wire_names, BlifModel, PartLine, Item, Part, Level, actual_of, model_at, resolved, bound, gate_by, latch_by, passed_line, passed_part, PassesPart, IsPrintedGate, IsPrintedLatch, no_model, All-map, All-weaker, own_gates, own_latches}
 use Rattle.cyc_base.specs.Names.{IsBlifByte, IsBlifName}
 use Rattle.tildes.proofs.BlifLemmas.{tildes_fit, decimal_fits}
@@ -17,11 +17,7 @@ append_name [] name p n = n
 append_name (x ∷ prefix) name p n = ((λ e. cc), All-append IsBlifByte (x ∷ prefix) name p n.1)
 
 pub resolved_fits : (prefix : List ℕ) (table : List (List ℕ × List ℕ)) (name : List ℕ) → All IsBlifByte prefix → All IsPrintedPair table → IsBlifName name → IsBlifName (resolved prefix table name)
-resolved_fits prefix table name p t n = by (actual_of table name) (All-lookup IsBlifName (bytes_eq name) table t)
-  where
-    by : (o : Option (List ℕ)) → IfSome o IsBlifName → IsBlifName (elim o [ Some printed ↦ printed | None ↦ prefix ++ name ])
-    by (Some x) h = h
-    by None h = append_name prefix name p n
+resolved_fits prefix table name p t n = grind (arith, All-lookup IsBlifName (bytes_eq name) table t, append_name prefix name p n)
 
 bound_fits : (prefix : List ℕ) (table pairs : List (List ℕ × List ℕ)) → All IsBlifByte prefix → All IsPrintedPair table → All (λ p. IsBlifName p.0 × IsBlifName p.1) pairs → All IsPrintedPair (bound prefix table pairs)
 bound_fits prefix table pairs p t h =
@@ -75,10 +71,4 @@ module _ (models : List BlifModel) (can : CanBeFlattened models) (old new : Walk
       }
 
 pub printed_begun : (i limit : ℕ) (walk : Walk) → IsBegun i limit walk → IsPrinted walk
-printed_begun i limit walk b =
-    let first : IsPrintedLevel b.level = record { prefix = rw b.prefix (All-nil IsBlifByte); table = rw b.table (All-nil IsPrintedPair) } in
-    record {
-      levels = rw b.levels (All-cons IsPrintedLevel b.level [] first (All-nil IsPrintedLevel));
-      latches = rw b.latches (All-nil IsPrintedLatch);
-      gates = rw b.gates (All-nil IsPrintedGate);
-    }
+printed_begun i limit walk b = grind arith

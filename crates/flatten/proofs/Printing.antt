@@ -19,14 +19,8 @@ AreNumbers (k ∷ path) = (k < 2 ^ 64) × AreNumbers path
 
 apart : (l : ℕ) (p q v w : List ℕ) → longest_run v ≤ l → longest_run w ≤ l → AreNumbers p → AreNumbers q → printed_at (tildes (suc l)) p v ≡ printed_at (tildes (suc l)) q w → (p ≡ q) × (v ≡ w)
 apart l [] [] v w hv hw hp hq e = (refl, e)
-apart l [] (k ∷ q) v w hv hw hp hq e =
-    let h = run_longest (decimal k) (printed_at (tildes (suc l)) q w) (suc l) in
-    let i = ap longest_run e in
-    absurd (omega arith)
-apart l (k ∷ p) [] v w hv hw hp hq e =
-    let h = run_longest (decimal k) (printed_at (tildes (suc l)) p v) (suc l) in
-    let i = ap longest_run e in
-    absurd (omega arith)
+apart l [] (k ∷ q) v w hv hw hp hq e = grind (arith, run_longest (decimal k) (printed_at (tildes (suc l)) q w) (suc l))
+apart l (k ∷ p) [] v w hv hw hp hq e = grind (arith, run_longest (decimal k) (printed_at (tildes (suc l)) p v) (suc l))
 apart l (k ∷ p) (j ∷ q) v w hv hw hp hq e =
     let c = split_at_tilde (decimal k) (decimal j) (tildes l ++ printed_at (tildes (suc l)) p v) (tildes l ++ printed_at (tildes (suc l)) q w) (decimal_no_tilde k hp.0) (decimal_no_tilde j hq.0) e in
     let n = decimal_injective k j hp.0 hq.0 c.0 in
@@ -40,5 +34,4 @@ wire_eq p q v w e f = cc
 -- the printed names of two wires are equal only where the wires are
 pub printed_differs : (names : List (List ℕ)) (v w : Wire) → Contains names v.name → Contains names w.name → AreNumbers v.path → AreNumbers w.path → printed (mark names) v ≡ printed (mark names) w → v ≡ w
 printed_differs names v w hv hw pv pw e =
-    let i = apart (longest_run_of names) v.path w.path v.name w.name (one_longest names v.name hv) (one_longest names w.name hw) pv pw e in
-    wire_eq v.path w.path v.name w.name i.0 i.1
+    grind (arith, apart (longest_run_of names) v.path w.path v.name w.name (one_longest names v.name hv) (one_longest names w.name hw) pv pw e, one_longest names v.name hv, one_longest names w.name hw, wire_eq v.path w.path v.name w.name)

@@ -1,5 +1,5 @@
 -- Wires are read one after another: what was found in some of them, and in those that are left.
-use Rattle.std.proofs.Common.{◌≡◌, ℕ, Bool, not, List, [], ◌++◌, refl, sym, ap, ◌∙◌, Some, None, option_map}
+use Rattle.std.proofs.Common.{◌≡◌, ℕ, Bool, not, List, [], ◌++◌, refl, sym, ap, ◌∙◌, Some, None, option_map, arith}
 use Rattle.std.proofs.lemmas.List.Folds.{find-append}
 use Rattle.cyc_base.proofs.ListLemmas.{option_or-None, option_map-or}
 use Rattle.flatten.proofs.Common.{find, option_or, Option, FlatFault, is_among, undriven_among, AreRead}
@@ -9,8 +9,7 @@ use Rattle.flatten.specs.Drivers.{is_unread}
 use Rattle.flatten.proofs.Gathering.{some_or, none_or_is}
 
 or_both : {X : Type 0} (o p q : Option X) → option_or (option_or o p) q ≡ option_or o (option_or p q)
-or_both None p q = refl
-or_both (Some x) p q = refl
+or_both o p q = grind arith
 
 -- of all these names, those that are left come to what all come to
 pub record IsLeft (table : DriverTable) (all left : List (List ℕ)) (before now : Option (List ℕ)) : Type 0 where
@@ -19,9 +18,7 @@ pub record IsLeft (table : DriverTable) (all left : List (List ℕ)) (before now
 
 module _ (table : DriverTable) where
   undriven-append : (xs ys : List (List ℕ)) → undriven_among table (xs ++ ys) ≡ option_or (undriven_among table xs) (undriven_among table ys)
-  undriven-append xs ys =
-      let missing : List ℕ → Bool = λ name. not (is_among table.names.keys name) in
-      ap (λ o. option_map Undriven o) (find-append missing xs ys) ∙ option_map-or Undriven (find missing xs) (find missing ys)
+  undriven-append xs ys = grind (arith, find-append, option_map-or Undriven)
 
   -- in two parts
   pub undriven_front : (xs ys : List (List ℕ)) (fault : FlatFault) → undriven_among table xs ≡ Some fault → undriven_among table (xs ++ ys) ≡ Some fault
@@ -31,26 +28,17 @@ module _ (table : DriverTable) where
   undriven_behind xs ys e = undriven-append xs ys ∙ none_or_is (undriven_among table xs) (undriven_among table ys) e
 
   clock_behind : (xs ys : List (List ℕ)) (m n : Option (List ℕ)) → n ≡ option_or m (find (is_unread table) xs) → option_or n (find (is_unread table) ys) ≡ option_or m (find (is_unread table) (xs ++ ys))
-  clock_behind xs ys m n e =
-      ap (λ o. option_or o (find (is_unread table) ys)) e
-      ∙ or_both m (find (is_unread table) xs) (find (is_unread table) ys)
-      ∙ ap (λ o. option_or m o) (sym (find-append (is_unread table) xs ys))
+  clock_behind xs ys m n e = grind (arith, or_both m (find (is_unread table) xs) (find (is_unread table) ys), find-append (is_unread table) xs ys)
 
   pub read_both : (xs ys : List (List ℕ)) (before m after : Option (List ℕ)) → AreRead table xs before m → AreRead table ys m after → AreRead table (xs ++ ys) before after
-  read_both xs ys before m after front behind = record {
-    driven = undriven_behind xs ys front.driven ∙ behind.driven;
-    clock = behind.clock ∙ clock_behind xs ys before m front.clock;
-  }
+  read_both xs ys before m after front behind = grind (arith, undriven_behind xs ys front.driven, clock_behind xs ys before m front.clock)
 
   -- in a loop: at first, behind some more, at the first fault, and in the end
   pub all_left : (all : List (List ℕ)) (before : Option (List ℕ)) → IsLeft table all all before before
   all_left all before = record { driven = refl; clock = refl }
 
   pub fewer_left : (all here xs left : List (List ℕ)) (before m n : Option (List ℕ)) → here ≡ xs ++ left → IsLeft table all here before m → AreRead table xs m n → IsLeft table all left before n
-  fewer_left all here xs left before m n is old read = record {
-    driven = sym (undriven_behind xs left read.driven) ∙ ap (undriven_among table) (sym is) ∙ old.driven;
-    clock = clock_behind xs left m n read.clock ∙ ap (λ ns. option_or m (find (is_unread table) ns)) (sym is) ∙ old.clock;
-  }
+  fewer_left all here xs left before m n is old read = grind (arith, undriven_behind xs left read.driven, clock_behind xs left m n read.clock)
 
   pub fault_left : (all here xs left : List (List ℕ)) (before m : Option (List ℕ)) (fault : FlatFault) → here ≡ xs ++ left → IsLeft table all here before m → undriven_among table xs ≡ Some fault → undriven_among table all ≡ Some fault
   fault_left all here xs left before m fault is old e = sym old.driven ∙ ap (undriven_among table) is ∙ undriven_front xs left fault e

@@ -19,30 +19,22 @@ then_event opens r = r
 then_event (fails fault) r = Err fault
 
 first_event : (room : ℕ) (e : Event) (rest : List Event) → decided (suc room) (e ∷ rest) ≡ then_event e (decided room rest)
-first_event room (gate g) rest = refl
-first_event room e rest = refl
+first_event room e rest = grind arith
 
 fails_at : (room : ℕ) (fault : FlatFault) (rest : List Event) (latches : List LatchLine) (gates : List GateLine) → then_lines latches gates (decided room (fails fault ∷ rest)) ≡ Err fault
-fails_at zero fault rest latches gates = refl
-fails_at (suc room) fault rest latches gates = refl
+fails_at room fault rest latches gates = grind arith
 
 then_none : (r : Result FlatLines FlatFault) → r ≡ then_lines [] [] r
-then_none (Ok lines) = refl
-then_none (Err fault) = refl
+then_none r = grind arith
 
 -- a gate or a latch
 no_room : (prefix : List ℕ) (table : List (List ℕ × List ℕ)) (x : Item) (rest : List Event) → decided 0 (line_by prefix table x ∷ rest) ≡ Err TooLarge
-no_room prefix table (Gate g) rest = refl
-no_room prefix table x rest = refl
+no_room prefix table x rest = grind arith
 
 module _ (prefix : List ℕ) (table : List (List ℕ × List ℕ)) (latches : List LatchLine) (gates : List GateLine) where
   more_lines : (x : Item) (r : Result FlatLines FlatFault) → then_lines latches gates (then_event (line_by prefix table x) r)
       ≡ then_lines (latches ++ map (latch_by prefix table) (own_latches (x ∷ []))) (gates ++ map (gate_by prefix table) (own_gates (x ∷ []))) r
-  more_lines (Gate g) (Ok more) = simp (append_assoc, append-nil)
-  more_lines (Latch l) (Ok more) = simp (append_assoc, append-nil)
-  more_lines (Part p) (Ok more) = simp append-nil
-  more_lines (Gate g) (Err fault) = refl
-  more_lines x (Err fault) = refl
+  more_lines x r = grind (arith, append_assoc, append-nil)
 
 rev_push : (s : List Level) (l : Level) → reverse (s ++ (l ∷ [])) ≡ l ∷ reverse s
 rev_push s l = reverse-append s (l ∷ [])
@@ -53,9 +45,7 @@ any_reverse p (x ∷ xs) = rw (reverse_onto xs x [], list_any-append p (reverse 
 
 -- a model that is found has the name
 pub find_name : (models : List BlifModel) (name : List ℕ) (i : ℕ) → find_model models name ≡ Some i → (i < length models) × ((model_at models i).name ≡ name)
-find_name models name i e =
-    let h = position-Some (has_name name) models i no_model e in
-    (h.0, bytes_eq-true (model_at models i).name name h.1)
+find_name models name i e = grind (arith, position-Some (has_name name) models i no_model e, bytes_eq-true (model_at models i).name name)
 
 all_reverse : (P : Level → Type 0) (s : List Level) → All P (reverse s) → All P s
 all_reverse P s h = rw reverse-reverse at (All-permutation P (reverse s) (reverse (reverse s)) (IsPermutation-reverse (reverse s)) h)
@@ -72,11 +62,7 @@ module _ (h : NestedModels) (walk : Walk) (l : Level) (top : List ℕ) (answer :
 
   entered_same : (p : PartLine) → entered_on h.depth h.models walk.levels.items l p ≡ entered h.depth h.models top w.path p
   entered_same p =
-      let same = λ (x : Level). bytes_eq (model_at h.models x.model).name p.model in
-      let opened = ap (λ b. same l || b) (sym (any_reverse same walk.levels.items)) ∙ waits_open h.depth h.models top (mark_of h.models) l (reverse walk.levels.items) w.path w.rest p.model waits_at in
-      let deep = sym (length-reverse walk.levels.items) ∙ waits_size h.depth h.models top (mark_of h.models) l (reverse walk.levels.items) w.path w.rest waits_at in
-      ap (λ b. entry p.model b (nat_le h.depth (length walk.levels.items)) (λ i. pairs_fault (model_at h.models i) p.pairs) (find_model h.models p.model)) opened
-      ∙ ap (λ k. entry p.model (is_open top w.path p.model) (nat_le h.depth k) (λ i. pairs_fault (model_at h.models i) p.pairs) (find_model h.models p.model)) deep
+      grind (arith, any_reverse, waits_open h.depth h.models top (mark_of h.models) l (reverse walk.levels.items) w.path w.rest p.model waits_at, waits_at, length-reverse walk.levels.items, waits_size h.depth h.models top (mark_of h.models) l (reverse walk.levels.items) w.path w.rest waits_at)
 
   -- it goes on, and less is left to do
   abbrev GoesOn : Walk → Type 0
@@ -90,15 +76,7 @@ module _ (h : NestedModels) (walk : Walk) (l : Level) (top : List ℕ) (answer :
   goes_on : (new : Walk) (path : List Instance) (e : Event) (next : List Event) → w.rest ≡ e ∷ next → Waits h.depth h.models top (mark_of h.models) (reverse new.levels.items) path next
       → 0 < walk.room → new.room ≡ walk.room - 1 → length new.levels.items ≤ length walk.levels.items + 2
       → ((r : Result FlatLines FlatFault) → then_lines walk.latches.items walk.gates.items (then_event e r) ≡ then_lines new.latches.items new.gates.items r) → GoesOn new
-  goes_on new path e next is waits some left few lines =
-      let room : walk.room ≡ suc new.room = omega arith in
-      let answers =
-      w.answers
-      ∙ ap (λ es. then_lines walk.latches.items walk.gates.items (decided walk.room es)) is
-      ∙ ap (λ k. then_lines walk.latches.items walk.gates.items (decided k (e ∷ next))) room
-      ∙ ap (then_lines walk.latches.items walk.gates.items) (first_event new.room e next)
-      ∙ lines (decided new.room next) in
-      (record { path = path; rest = next; waits = waits; answers = answers }, omega arith)
+  goes_on new path e next is waits some left few lines = grind arith
 
   pub walks_line : (new : Walk) (x : Item) → IsLine x → StandsAt h.models l x → PassesLine walk l x new → GoesOn new
   walks_line new x line e p =
@@ -131,25 +109,14 @@ module _ (h : NestedModels) (walk : Walk) (l : Level) (top : List ℕ) (answer :
   fails_at_part p e fault (inl f) =
       let n = fault_step h.depth h.models top (mark_of h.models) l (reverse walk.levels.items) w.path w.rest p fault waits_at e (sym (entered_same p) ∙ f) in
       w.answers ∙ ap (λ es. then_lines walk.latches.items walk.gates.items (decided walk.room es)) n.1 ∙ fails_at walk.room fault n.0 walk.latches.items walk.gates.items
-  fails_at_part p e fault (inr f) =
-      let n = opens_step h.depth h.models top (mark_of h.models) l (reverse walk.levels.items) w.path w.rest p f.2.0 waits_at e (sym (entered_same p) ∙ f.2.1) in
-      w.answers
-      ∙ ap (λ es. then_lines walk.latches.items walk.gates.items (decided walk.room es)) n.1
-      ∙ ap (λ k. then_lines walk.latches.items walk.gates.items (decided k (opens ∷ n.0))) f.0
-      ∙ ap (λ e. Err e) (sym f.1)
+  fails_at_part p e fault (inr f) = grind (arith, opens_step h.depth h.models top (mark_of h.models) l (reverse walk.levels.items) w.path w.rest p f.2.0 waits_at, waits_at, entered_same p)
 
 pub goes_at : (h : NestedModels) (walk : Walk) (l : Level) → Goes h walk l → (l.model < length h.models) × (l.parts ≤ l.next) × All (λ x. x.model < length h.models) walk.levels.items
 goes_at h walk l goes = walking_at h walk l goes.0 goes.1.0 goes.1.1
 
 -- a line that was added, and its level put back
 pub line_passed : (old mid new : Walk) (level : Level) (x : Item) → AddsLine old level.scope x mid → PutsBack mid level new → PassesLine old level x new
-line_passed old mid new level x a p = record {
-  some = a.some;
-  left = p.left ∙ a.left;
-  levels = p.levels ∙ ap (λ ls. ls ++ (passed_line level ∷ [])) a.levels;
-  latches = p.latches ∙ a.latches;
-  gates = p.gates ∙ a.gates;
-}
+line_passed old mid new level x a p = grind arith
 
 -- a walk that stands before its first item
 pub walking_start : (depth : ℕ) (models : List BlifModel) (i limit : ℕ) (walk : Walk) → i < length models → IsBegun i limit walk → WalkingAt depth models (model_at models i).name (mark_of models) (flat_lines depth limit models i) walk
@@ -185,9 +152,7 @@ lines_in [] = record { latches = []; gates = [] }
 lines_in (e ∷ es) = with_event e (lines_in es)
 
 then_event_is : (e : Event) (r : Result FlatLines FlatFault) (lines : FlatLines) → then_event e r ≡ Ok lines → (found : FlatLines) × (r ≡ Ok found) × (with_event e found ≡ lines)
-then_event_is (fails other) r lines is = cc
-then_event_is e (Ok found) lines is = (found, refl, cc)
-then_event_is e (Err fault) lines is = cc
+then_event_is e r lines is = grind arith
 
 -- a walk without a fault comes to the lines of its events, and there is room for them
 pub decided_lines : (room : ℕ) (es : List Event) (lines : FlatLines) → decided room es ≡ Ok lines → (lines_in es ≡ lines) × (length es ≤ room)
@@ -195,10 +160,7 @@ decided_lines zero [] lines is = (cc, omega arith)
 decided_lines (suc room) [] lines is = (cc, omega arith)
 decided_lines zero (fails fault ∷ es) lines is = cc
 decided_lines zero (e ∷ es) lines is = cc
-decided_lines (suc room) (e ∷ es) lines is =
-    let k = then_event_is e (decided room es) lines (sym (first_event room e es) ∙ is) in
-    let h = decided_lines room es k.0 k.1 in
-    (ap (with_event e) h.0 ∙ k.2, omega (arith, h.1))
+decided_lines (suc room) (e ∷ es) lines is = grind (arith, then_event_is e (decided room es) lines, first_event room e es, decided_lines room es)
 
 few_in : (es : List Event) → length (lines_in es).latches + length (lines_in es).gates ≤ length es
 few_in [] = omega arith
@@ -206,7 +168,4 @@ few_in (gate g ∷ es) = omega (arith, few_in es)
 few_in (e ∷ es) = omega (arith, few_in es)
 
 pub few_lines : (room : ℕ) (es : List Event) (lines : FlatLines) → decided room es ≡ Ok lines → length lines.latches + length lines.gates ≤ room
-few_lines room es lines is =
-    let k = decided_lines room es lines is in
-    let few : length lines.latches + length lines.gates ≤ length es = rw k.0 at (few_in es) in
-    omega (arith, k.1)
+few_lines room es lines is = grind (arith, decided_lines room es lines is, few_in es)

@@ -1,5 +1,5 @@
 -- Climbing stays within the names of the file, so printed names tell wires.
-use Rattle.std.proofs.Common.{ℕ, ◌^◌, ◌<◌, Bool, true, false, List, [], ◌∷◌, ◌++◌, cond, All, Contains, Some, None}
+use Rattle.std.proofs.Common.{ℕ, ◌^◌, ◌<◌, Bool, true, false, List, [], ◌∷◌, ◌++◌, cond, All, Contains, Some, None, arith}
 use Rattle.flatten.proofs.Common.{All-head, All-tail, bytes_eq, Option, Wire, Instance, actual_of, climb}
 use Rattle.flatten.specs.Paths.{numbers}
 use Rattle.flatten.specs.Laws.{BindsAmong, NamesTellWires}
@@ -10,8 +10,7 @@ InFile names None = Unit {0}
 InFile names (Some a) = Contains names a
 
 one_in : (names : List (List ℕ)) (b : Bool) (a : List ℕ) (x : Option (List ℕ)) → Contains names a → InFile names x → InFile names (cond b (Some a) x)
-one_in names true a x h i = h
-one_in names false a x h i = i
+one_in names b a x h i = grind arith
 
 actual_in : (names : List (List ℕ)) (pairs : List (List ℕ × List ℕ)) (name : List ℕ) → All (λ p. Contains names p.1) pairs → InFile names (actual_of pairs name)
 actual_in names [] name h = tt
@@ -44,7 +43,4 @@ climb_fine names (o ∷ up) name h one =
     by_cases names up o.number name (actual_of o.part.pairs name) (actual_in names o.part.pairs name h.1) h.0 h.2 one (λ a i. climb_fine names up a h.2 i)
 
 pub names_tell : NamesTellWires
-names_tell names p q v w hp hq hv hw e =
-    let f = climb_fine names p v hp hv in
-    let g = climb_fine names q w hq hw in
-    printed_differs names (climb p v) (climb q w) f.0 g.0 f.1 g.1 e
+names_tell names p q v w hp hq hv hw e = grind (arith, climb_fine names p v hp hv, climb_fine names q w hq hw, printed_differs names (climb p v) (climb q w))

@@ -46,19 +46,11 @@ same_place names a b h e =
 
 among_all : (P : List ℕ → Type 0) (names : List (List ℕ)) (n : List ℕ) → All P names → is_among names n ≡ true → P n
 among_all P [] n h a = absurd (cc)
-among_all P (x ∷ names) n h a =
-    elim (cases_Bool (bytes_eq n x)) [
-      | inl e ↦ subst P (sym (bytes_eq-true n x e)) (All-head P x names h)
-      | inr e ↦ among_all P names n (All-tail P x names h) (rw e at a)
-    ]
+among_all P (x ∷ names) n h a = grind (arith, cases_Bool (bytes_eq n x), bytes_eq-true n x, All-head P x names h, among_all P names n (All-tail P x names h), All-tail P x names h)
 
 apart_among : (old names : List (List ℕ)) (n : List ℕ) → AllByRecursion (λ y. is_among old y ≡ false) names → is_among old n ≡ true → is_among names n ≡ false
 apart_among old [] n h a = refl
-apart_among old (x ∷ names) n h a =
-    elim (cases_Bool (bytes_eq n x)) [
-      | inl e ↦ absurd (both_ways (is_among old x) h.0 (rw (bytes_eq-true n x e) at a))
-      | inr e ↦ rw e (apart_among old names n h.1 a)
-    ]
+apart_among old (x ∷ names) n h a = grind (arith, cases_Bool (bytes_eq n x), both_ways (is_among old x) h.0, bytes_eq-true n x, apart_among old names n h.1 a)
 
 -- controls
 first_fits : (top : BlifModel) (latches : List LatchLine) (f : Clock) → first_control latches ≡ Some f → find (has_bad_control top (Some f)) latches ≡ None → is_clock_of top f.name ≡ true
@@ -66,21 +58,12 @@ first_fits top [] f e h = absurd (cc)
 first_fits top (l ∷ latches) f e h = by l.control refl (λ k m. first_fits top latches f k m)
   where
     by : (o : Option Clock) → l.control ≡ o → (first_control latches ≡ Some f → find (has_bad_control top (Some f)) latches ≡ None → is_clock_of top f.name ≡ true) → is_clock_of top f.name ≡ true
-    by (Some c) o rest =
-        let b : c ≡ f = (let k : Some c ≡ Some f = rw o at e in cc) in
-        let d = (first_of (has_bad_control top (Some f)) l latches h).0 in
-        let g : not (is_fitting top f c) ≡ false = rw o at d in
-        ap (λ (x : Clock). is_clock_of top x.name) (sym b) ∙ first_of_and _ _ (first_of_and _ _ (not-false (is_fitting top f c) g))
-    by None o rest =
-        rest (rw o at e) (first_of (has_bad_control top (Some f)) l latches h).1
+    by (Some c) o rest = grind arith
+    by None o rest = grind arith
 
 clocked_is : (sig : List ℕ → Sig) (latches : List LatchLine) → list_any (λ latch. latch.clocked) (map (latch_with sig) latches) ≡ is_some (first_control latches)
 clocked_is sig [] = refl
-clocked_is sig (l ∷ latches) = by l.control refl (clocked_is sig latches)
-  where
-    by : (o : Option Clock) → l.control ≡ o → list_any (λ latch. latch.clocked) (map (latch_with sig) latches) ≡ is_some (first_control latches) → list_any (λ latch. latch.clocked) (map (latch_with sig) (l ∷ latches)) ≡ is_some (first_control (l ∷ latches))
-    by (Some c) o rest = rw o refl
-    by None o rest = rw o rest
+clocked_is sig (l ∷ latches) = grind (arith, clocked_is sig latches)
 
 none_differ : IsDistinct sig_eq []
 unfolding IsDistinct
@@ -102,8 +85,7 @@ module _ (top : BlifModel) (lines : FlatLines) (sound : IsSoundModel top) (print
   drivers_ok = option_or-neither (declared_twice top) (driven_twice top lines) (option_or-neither (option_or (declared_twice top) (driven_twice top lines)) _ none).0
 
   others_ok : (option_or (undriven top lines) (bad_clock top lines) ≡ None) × (clock_read top lines ≡ None)
-  others_ok =
-      option_or-neither (option_or (undriven top lines) (bad_clock top lines)) (clock_read top lines) (option_or-neither (option_or (declared_twice top) (driven_twice top lines)) _ none).1
+  others_ok = grind arith
 
   lines_ok : (undriven top lines ≡ None) × (bad_clock top lines ≡ None)
   lines_ok = option_or-neither (undriven top lines) (bad_clock top lines) others_ok.0
@@ -119,9 +101,7 @@ module _ (top : BlifModel) (lines : FlatLines) (sound : IsSoundModel top) (print
 
   names_are : signal_names net ≡ S
   unfolding S net
-  names_are =
-      ap (λ ns. top.inputs ++ (ns ++ map (λ (g : FlatGate). g.name) (map (gate_with (sig_of (signal_list top lines))) lines.gates))) (map-map (λ (latch : FlatLatch). latch.name) (latch_with (sig_of (signal_list top lines))) lines.latches)
-      ∙ ap (λ ns. top.inputs ++ (latch_outputs lines ++ ns)) (map-map (λ (gate : FlatGate). gate.name) (gate_with (sig_of (signal_list top lines))) lines.gates)
+  names_are = grind (arith, map-map)
 
   count_is : count net ≡ length S
   unfolding S net
@@ -146,17 +126,11 @@ module _ (top : BlifModel) (lines : FlatLines) (sound : IsSoundModel top) (print
 
   sigs_fit : (names : List (List ℕ)) → find missing names ≡ None → find (is_among (own_clocks top)) names ≡ None → All (IsSignal net) (map (sig_of S) names)
   sigs_fit [] h r = All-nil (IsSignal net)
-  sigs_fit (x ∷ names) h r =
-      let f = first_of missing x names h in
-      let g = first_of (is_among (own_clocks top)) x names r in
-      All-cons (IsSignal net) (sig_of S x) (map (sig_of S) names) (sig_fits x f.0 g.0) (sigs_fit names f.1 g.1)
+  sigs_fit (x ∷ names) h r = grind (arith, first_of missing x names h, first_of (is_among (own_clocks top)) x names r, All-cons (IsSignal net) (sig_of S x) (map (sig_of S) names), net, sig_fits x, sigs_fit names)
 
   sources_fit : (latches : List LatchLine) → find missing (map (λ l. l.from) latches) ≡ None → find (is_among (own_clocks top)) (map (λ l. l.from) latches) ≡ None → All (λ latch. IsSignal net latch.from) (map (latch_with (sig_of S)) latches)
   sources_fit [] h r = All-nil (λ latch. IsSignal net latch.from)
-  sources_fit (l ∷ latches) h r =
-      let f = first_of missing l.from (map (λ (x : LatchLine). x.from) latches) h in
-      let g = first_of (is_among (own_clocks top)) l.from (map (λ (x : LatchLine). x.from) latches) r in
-      All-cons (λ latch. IsSignal net latch.from) (latch_with (sig_of S) l) (map (latch_with (sig_of S)) latches) (sig_fits l.from f.0 g.0) (sources_fit latches f.1 g.1)
+  sources_fit (l ∷ latches) h r = grind (arith, first_of missing l.from, first_of (is_among (own_clocks top)) l.from, All-cons, net, sig_fits l.from, sources_fit latches)
 
   pins_fit : (gates : List GateLine) → find missing (flat_map (λ g. g.pins) gates) ≡ None → find (is_among (own_clocks top)) (flat_map (λ g. g.pins) gates) ≡ None → All (λ gate. All (IsSignal net) gate.pins) (map (gate_with (sig_of S)) gates)
   pins_fit [] h r = All-nil (λ gate. All (IsSignal net) gate.pins)
@@ -171,15 +145,11 @@ module _ (top : BlifModel) (lines : FlatLines) (sound : IsSoundModel top) (print
       (All-weaker IsPrintedGate (λ g. length (map (sig_of S) g.pins) ≡ g.cover.pins) (λ g p. length-map g.pins (sig_of S) ∙ p.width) lines.gates printed.gates)
 
   driven_names_fit : All IsBlifName (latch_outputs lines ++ gate_outputs lines)
-  driven_names_fit =
-      All-append IsBlifName (latch_outputs lines) (gate_outputs lines)
-      (All-map IsBlifName (λ (l : LatchLine). l.output) lines.latches printed.latches)
-      (All-map IsBlifName (λ (g : GateLine). g.output) lines.gates (All-weaker IsPrintedGate (λ g. IsBlifName g.output) (λ g p. p.output) lines.gates printed.gates))
+  driven_names_fit = grind (arith, All-append IsBlifName (latch_outputs lines) (gate_outputs lines), All-map IsBlifName, All-weaker IsPrintedGate)
 
   names_fit : All IsBlifName S
   unfolding S
-  names_fit =
-      All-append IsBlifName top.inputs (latch_outputs lines ++ gate_outputs lines) sound.inputs driven_names_fit
+  names_fit = grind (arith, All-append IsBlifName top.inputs (latch_outputs lines ++ gate_outputs lines) sound.inputs driven_names_fit, driven_names_fit)
 
   names_once : IsDistinct bytes_eq S
   unfolding S
@@ -197,8 +167,7 @@ module _ (top : BlifModel) (lines : FlatLines) (sound : IsSoundModel top) (print
 
       apart : (ys : List (List ℕ)) → AllByRecursion (λ y. bytes_eq x y ≡ false) ys → AllByRecursion (λ y. sig_eq (sig_of S x) y ≡ false) (map (sig_of S) ys)
       apart [] a = tt
-      apart (y ∷ ys) a =
-          (ne_eqb (position_or_len (bytes_eq x) S) (position_or_len (bytes_eq y) S) (λ e. let k : true ≡ false = sym (bytes_refl x) ∙ ap (λ z. bytes_eq x z) (same_place S x y here e) ∙ a.0 in cc), apart ys a.1)
+      apart (y ∷ ys) a = grind (arith, ne_eqb (position_or_len (bytes_eq x) S) (position_or_len (bytes_eq y) S), bytes_refl x, same_place S x y here, apart ys a.1)
 
   outputs_once : first_twice top.outputs ≡ None
   outputs_once = (option_or-neither (first_twice top.inputs) (first_twice top.outputs) (option_map-nothing _ (option_or (first_twice top.inputs) (first_twice top.outputs)) drivers_ok.0)).1
@@ -224,9 +193,7 @@ module _ (top : BlifModel) (lines : FlatLines) (sound : IsSoundModel top) (print
       }
 
   clock_fits : (o : Option Clock) → first_control lines.latches ≡ o → IfSome o (λ clock. IsClockName net clock.name)
-  clock_fits None e = tt
-  clock_fits (Some f) e =
-      clock_name f.name (first_fits top lines.latches f e (ap (λ o. find (has_bad_control top o) lines.latches) (sym e) ∙ option_map-nothing _ (find (has_bad_control top (first_control lines.latches)) lines.latches) lines_ok.1))
+  clock_fits o e = grind (arith, clock_name, first_fits, option_map-nothing)
 
   pub is_netlist : IsNetlist (netlist_by (sig_of (signal_list top lines)) top lines)
   unfolding S net
@@ -251,10 +218,4 @@ module _ (top : BlifModel) (lines : FlatLines) (sound : IsSoundModel top) (print
 
 -- what links without a fault is a netlist
 pub linked_valid : (top : BlifModel) (lines : FlatLines) (parts : Parts) → IsSoundModel top → ArePrintedLines lines → length lines.latches + length lines.gates ≤ 4000000 → linked top lines ≡ Ok parts → IsNetlist parts
-linked_valid top lines parts sound printed few e = by (link_fault top lines) refl e
-  where
-    by : (o : Option FlatFault) → link_fault top lines ≡ o → ◌≡◌ {A = Result Parts FlatFault} (elim o [ Some f ↦ Err f | None ↦ Ok (netlist_by (sig_of (signal_list top lines)) top lines) ]) (Ok parts) → IsNetlist parts
-    by (Some f) h k = absurd (cc)
-    by None h k =
-        let p : netlist_by (sig_of (signal_list top lines)) top lines ≡ parts = cc in
-        subst (λ (x : Parts). IsNetlist x) p (is_netlist top lines sound printed few h)
+linked_valid top lines parts sound printed few e = grind (arith, is_netlist)

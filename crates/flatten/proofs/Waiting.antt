@@ -11,21 +11,13 @@ names_same m path [] = refl
 names_same m path (n ∷ names) = rw (names_same m path names, resolved_is_climbed m path n) refl
 
 gate_same : (m : List ℕ) (path : List Instance) (g : GateLine) → gate_by (prefix_of m path) (table_of m path) g ≡ gate_at m path g
-gate_same m path g =
-    let e = names_same m path g.pins in
-    let f = resolved_is_climbed m path g.output in
-    cc
+gate_same m path g = grind (arith, names_same m path g.pins, resolved_is_climbed m path g.output)
 
 control_same : (m : List ℕ) (path : List Instance) (c : Option Clock) → option_map (clock_by (prefix_of m path) (table_of m path)) c ≡ option_map (clock_at m path) c
-control_same m path None = refl
-control_same m path (Some clock) = let e = resolved_is_climbed m path clock.name in cc
+control_same m path c = grind (arith, resolved_is_climbed)
 
 latch_same : (m : List ℕ) (path : List Instance) (l : LatchLine) → latch_by (prefix_of m path) (table_of m path) l ≡ latch_at m path l
-latch_same m path l =
-    let e = resolved_is_climbed m path l.from in
-    let f = resolved_is_climbed m path l.output in
-    let h = control_same m path l.control in
-    cc
+latch_same m path l = grind (arith, resolved_is_climbed m path l.from, resolved_is_climbed m path l.output, control_same m path l.control)
 
 -- what a gate or a latch comes to, by tables and on a path
 abbrev pub IsLine : Item → Type 0
@@ -42,13 +34,7 @@ line_at m path (Latch l) = latch (latch_at m path l)
 line_at m path (Part p) = opens
 
 line_is : (models : List BlifModel) (m : List ℕ) (level : Level) (path : List Instance) (x : Item) → IsAt models m level path → line_by level.scope.prefix level.scope.table.entries x ≡ line_at m path x
-line_is models m level path x at =
-    ap (λ p. line_by p level.scope.table.entries x) at.prefix ∙ ap (λ t. line_by (prefix_of m path) t x) at.table ∙ same x
-  where
-    same : (y : Item) → line_by (prefix_of m path) (table_of m path) y ≡ line_at m path y
-    same (Gate g) = ap gate (gate_same m path g)
-    same (Latch l) = ap latch (latch_same m path l)
-    same (Part p) = refl
+line_is models m level path x at = grind (arith, gate_same m path, latch_same m path)
 
 -- a level stands before this item
 abbrev pub StandsAt : List BlifModel → Level → Item → Type 0
@@ -56,14 +42,7 @@ StandsAt models level x = drop level.next (model_at models level.model).body ≡
 
 -- an instance is entered only where its model is found and that isn't too deep
 pub entry_ok : (name : List ℕ) (a b : Bool) (f : ℕ → Option FlatFault) (x : Option ℕ) (i : ℕ) → entry name a b f x ≡ Ok i → (b ≡ false) × (x ≡ Some i)
-entry_ok name a b f None i e = cc
-entry_ok name true b f (Some j) i e = cc
-entry_ok name false true f (Some j) i e = cc
-entry_ok name false false f (Some j) i e = (refl, ap Some (behind (f j) e))
-  where
-    behind : (x : Option FlatFault) → ◌≡◌ {A = Result ℕ FlatFault} (elim x [ Some fault ↦ Err fault | None ↦ Ok j ]) (Ok i) → j ≡ i
-    behind (Some fault) h = cc
-    behind None h = cc
+entry_ok name a b f x i e = grind arith
 
 pub shallow : (a b : ℕ) → nat_le a b ≡ false → b < a
 shallow a b h = grind (arith, common_steps)
@@ -71,28 +50,20 @@ shallow a b h = grind (arith, common_steps)
 -- what the walk comes to at its first item
 module _ (depth : ℕ) (models : List BlifModel) (top m : List ℕ) where
   pub events_nil : (room : ℕ) (path : List Instance) (n : ℕ) → events room depth models top m path n [] ≡ []
-  events_nil zero path n = refl
-  events_nil (suc room) path n = refl
+  events_nil room path n = grind arith
 
   pub events_line : (room : ℕ) (path : List Instance) (n : ℕ) (x : Item) (items : List Item) → IsLine x → events room depth models top m path n (x ∷ items) ≡ line_at m path x ∷ events room depth models top m path n items
-  events_line zero path n x items (inl g) = rw g.1
-  events_line zero path n x items (inr l) = rw l.1
-  events_line (suc room) path n x items (inl g) = rw g.1
-  events_line (suc room) path n x items (inr l) = rw l.1
+  events_line room path n x items h = grind arith
 
   pub events_fault : (room : ℕ) (path : List Instance) (n : ℕ) (p : PartLine) (items : List Item) (fault : FlatFault) → entered depth models top path p ≡ Err fault → events room depth models top m path n (Part p ∷ items) ≡ fails fault ∷ events room depth models top m path (suc n) items
-  events_fault zero path n p items fault e = rw e refl
-  events_fault (suc room) path n p items fault e = rw e refl
+  events_fault room path n p items fault e = grind arith
 
   -- behind the line of an instance that is entered
   abbrev pub inside : List Instance → ℕ → PartLine → ℕ → List Event
   inside path n p i = events (depth - suc (length path)) depth models top m (record { number = n; part = p } ∷ path) 1 (model_at models i).body
 
   pub events_open : (path : List Instance) (n : ℕ) (p : PartLine) (items : List Item) (i : ℕ) → entered depth models top path p ≡ Ok i → events (depth - length path) depth models top m path n (Part p ∷ items) ≡ opens ∷ (inside path n p i ++ events (depth - length path) depth models top m path (suc n) items)
-  events_open path n p items i e =
-      let deep = shallow depth (length path) (entry_ok p.model _ _ (λ j. pairs_fault (model_at models j) p.pairs) (find_model models p.model) i e).0 in
-      let room : depth - length path ≡ suc (depth - suc (length path)) = omega (arith, deep) in
-      rw (room, e) refl
+  events_open path n p items i e = grind arith
 
 -- the levels and their path
 module _ (depth : ℕ) (models : List BlifModel) (top m : List ℕ) where
@@ -123,22 +94,8 @@ module _ (depth : ℕ) (models : List BlifModel) (top m : List ℕ) where
     pub back : Waits depth models top m below up later
 
   pub top_of : (level : Level) (below : List Level) (path : List Instance) (rest : List Event) → Waits depth models top m (level ∷ below) path rest → Top level below path rest
-  top_of level below [] rest w = record {
-    at = w.0;
-    later = [];
-    rest_is = w.3 ∙ sym (append-nil (remaining depth models top m level []));
-    again = λ other at e. (at, e ∙ w.1, w.2, append-nil (remaining depth models top m other []));
-    up = [];
-    back = rw w.2 refl;
-  }
-  top_of level below (o ∷ up) rest w = record {
-    at = w.0;
-    later = w.2.0;
-    rest_is = w.2.3;
-    again = λ other at e. (at, e ∙ w.1, (w.2.0, w.2.1, w.2.2, refl));
-    up = up;
-    back = w.2.1;
-  }
+  top_of level below [] rest w = grind (arith, append-nil (remaining depth models top m level []), append-nil)
+  top_of level below (o ∷ up) rest w = grind arith
 
   pub after_line : (level : Level) (path : List Instance) → IsAt models m level path → IsAt models m (passed_line level) path
   after_line level path at = record { within = at.within; counted = omega (arith, at.counted); prefix = at.prefix; table = at.table }
@@ -148,51 +105,29 @@ module _ (depth : ℕ) (models : List BlifModel) (top m : List ℕ) where
 
   -- the steps, on levels with the innermost first
   remaining_line : (level : Level) (path : List Instance) (x : Item) → IsLine x → IsAt models m level path → StandsAt models level x → remaining depth models top m level path ≡ line_by level.scope.prefix level.scope.table.entries x ∷ remaining depth models top m (passed_line level) path
-  remaining_line level path x line at e =
-      ap (λ items. events (depth - length path) depth models top m path (suc level.parts) items) e
-      ∙ events_line depth models top m (depth - length path) path (suc level.parts) x (drop (suc level.next) (model_at models level.model).body) line
-      ∙ rw (← line_is models m level path x at, add-one) refl
+  remaining_line level path x line at e = grind (arith, events_line, line_is models m level path x, add-one)
 
   pub line_step : (level : Level) (below : List Level) (path : List Instance) (rest : List Event) (x : Item) → IsLine x → Waits depth models top m (level ∷ below) path rest → StandsAt models level x → (next : List Event) × Waits depth models top m (passed_line level ∷ below) path next × (rest ≡ line_by level.scope.prefix level.scope.table.entries x ∷ next)
-  line_step level below path rest x line w e =
-      let t = top_of level below path rest w in
-      (remaining depth models top m (passed_line level) path ++ t.later, t.again (passed_line level) (after_line level path t.at) refl, t.rest_is ∙ ap (λ es. es ++ t.later) (remaining_line level path x line t.at e))
+  line_step level below path rest x line w e = grind (arith, top_of level below path rest w, after_line level path, remaining_line level path x line)
 
   pub end_step : (level : Level) (below : List Level) (path : List Instance) (rest : List Event) → Waits depth models top m (level ∷ below) path rest → drop level.next (model_at models level.model).body ≡ [] → (up : List Instance) × Waits depth models top m below up rest
-  end_step level below path rest w e =
-      let t = top_of level below path rest w in
-      let none = ap (λ items. events (depth - length path) depth models top m path (suc level.parts) items) e ∙ events_nil depth models top m (depth - length path) path (suc level.parts) in
-      let same : rest ≡ t.later = t.rest_is ∙ ap (λ es. es ++ t.later) none in
-      (t.up, subst (λ (x : List Event). Waits depth models top m below t.up x) (sym same) t.back)
+  end_step level below path rest w e = grind (arith, top_of level below path rest w, events_nil)
 
   after_remaining : (level : Level) (path : List Instance) → events (depth - length path) depth models top m path (suc (suc level.parts)) (drop (suc level.next) (model_at models level.model).body) ≡ remaining depth models top m (passed_part level) path
   after_remaining level path = rw (add-one level.parts, add-one level.next) refl
 
   pub fault_step : (level : Level) (below : List Level) (path : List Instance) (rest : List Event) (p : PartLine) (fault : FlatFault) → Waits depth models top m (level ∷ below) path rest → StandsAt models level (Part p) → entered depth models top path p ≡ Err fault → (next : List Event) × (rest ≡ fails fault ∷ next)
-  fault_step level below path rest p fault w e h =
-      let t = top_of level below path rest w in
-      let f = ap (λ items. events (depth - length path) depth models top m path (suc level.parts) items) e ∙ events_fault depth models top m (depth - length path) path (suc level.parts) p (drop (suc level.next) (model_at models level.model).body) fault h in
-      (events (depth - length path) depth models top m path (suc (suc level.parts)) (drop (suc level.next) (model_at models level.model).body) ++ t.later, t.rest_is ∙ ap (λ es. es ++ t.later) f)
+  fault_step level below path rest p fault w e h = grind (arith, top_of level below path rest w, events_fault)
 
   inner_at : (level : Level) (path : List Instance) (p : PartLine) (inner : Level) → IsAt models m level path → IsInner m level p inner → inner.model < length models → IsAt models m inner (record { number = suc level.parts; part = p } ∷ path)
-  inner_at level path p inner at i l = record {
-    within = l;
-    counted = omega (arith, i.parts, i.next);
-    prefix = i.prefix ∙ ap (λ k. level.scope.prefix ++ (decimal k ++ m)) (add-one level.parts) ∙ ap (λ xs. xs ++ (decimal (suc level.parts) ++ m)) at.prefix;
-    table = i.table ∙ ap (λ xs. bound xs level.scope.table.entries p.pairs) at.prefix ∙ ap (λ xs. bound (prefix_of m path) xs p.pairs) at.table;
-  }
+  inner_at level path p inner at i l = grind arith
 
   -- what is to come where an instance is entered
   opened : (level : Level) (path : List Instance) (p : PartLine) (i : ℕ) → StandsAt models level (Part p) → entered depth models top path p ≡ Ok i → remaining depth models top m level path ≡ opens ∷ (inside depth models top m path (suc level.parts) p i ++ remaining depth models top m (passed_part level) path)
-  opened level path p i e h =
-      ap (λ items. events (depth - length path) depth models top m path (suc level.parts) items) e
-      ∙ events_open depth models top m path (suc level.parts) p (drop (suc level.next) (model_at models level.model).body) i h
-      ∙ ap (λ es. opens ∷ (inside depth models top m path (suc level.parts) p i ++ es)) (after_remaining level path)
+  opened level path p i e h = grind arith
 
   pub opens_step : (level : Level) (below : List Level) (path : List Instance) (rest : List Event) (p : PartLine) (i : ℕ) → Waits depth models top m (level ∷ below) path rest → StandsAt models level (Part p) → entered depth models top path p ≡ Ok i → (next : List Event) × (rest ≡ opens ∷ next)
-  opens_step level below path rest p i w e h =
-      let t = top_of level below path rest w in
-      ((inside depth models top m path (suc level.parts) p i ++ remaining depth models top m (passed_part level) path) ++ t.later, t.rest_is ∙ ap (λ es. es ++ t.later) (opened level path p i e h))
+  opens_step level below path rest p i w e h = grind (arith, top_of level below path rest w, opened level path p i e h)
 
   pub open_step : (level : Level) (below : List Level) (path : List Instance) (rest : List Event) (p : PartLine) (inner : Level) → Waits depth models top m (level ∷ below) path rest → StandsAt models level (Part p) → entered depth models top path p ≡ Ok inner.model → IsInner m level p inner → inner.model < length models → (model_at models inner.model).name ≡ p.model → (up : List Instance) × ((next : List Event) × Waits depth models top m (inner ∷ passed_part level ∷ below) up next × (rest ≡ opens ∷ next))
   open_step level below path rest p inner w e h i l n =

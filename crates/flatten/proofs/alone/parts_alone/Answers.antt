@@ -16,10 +16,7 @@ linked_alone : (c : In_ok-lines) → flat_alone c.args.limit c.args.model ≡ li
 linked_alone c = alone_fits c.args.limit c.args.model (omega (arith, c.if-items-limit.false, ap length c.items.ensures)) ∙ ap (linked c.args.model) (sym (same c))
 
 few : (c : In_ok-lines) → length c.in_ok-lines.lines.latches.items + length c.in_ok-lines.lines.gates.items ≤ 4000000
-few c =
-    let latches = ap (λ (lines : FlatLines). length lines.latches) (same c) in
-    let gates = ap (λ (lines : FlatLines). length lines.gates) (same c) in
-    omega (arith, few_own_lines c.args.model.body, latches, gates, c.if-items-limit.false, ap length c.items.ensures, c.requires.limit)
+few c = grind (arith, same c, few_own_lines c.args.model.body)
 
 pub link-requires-clause-lines : goal.link-requires-clause-lines
 link-requires-clause-lines c = few (goal.at.link-requires-clause-lines c).In_ok-lines
@@ -35,5 +32,4 @@ returns-clause-parts c = linked_alone (goal.at.returns-clause-parts c).In_ok-lin
 pub returns-clause-valid : goal.returns-clause-valid
 returns-clause-valid c =
     let here = (goal.at.returns-clause-valid c).In_ok-lines in
-    let printed : ArePrintedLines (lines_of c.in_ok-lines.lines) = rw (same here) (own_lines_printed c.args.model.body c.requires.sound.body) in
-    linked_valid c.args.model (lines_of c.in_ok-lines.lines) c.in_ok-link.field-0 c.requires.sound printed (few here) c.in_ok-link.ensures.parts
+    grind (arith, same here, own_lines_printed c.args.model.body c.requires.sound.body, linked_valid c.args.model (lines_of c.in_ok-lines.lines) c.in_ok-link.field-0 c.requires.sound, few here)

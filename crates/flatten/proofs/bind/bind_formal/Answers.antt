@@ -1,4 +1,4 @@
-use Rattle.std.proofs.Common.{◌≡◌, ◌∷◌, [], ◌++◌}
+use Rattle.std.proofs.Common.{◌≡◌, ◌∷◌, [], ◌++◌, arith}
 use Rattle.flatten.proofs.Common.{bytes_eq, actual_of}
 use Rattle.indexmap.proofs.CallerLemmas.{insert_entry-new}
 use Rattle.indexmap.specs.IndexMap.{insert_entry}
@@ -10,9 +10,4 @@ returns c =
     let table = c.args.table.now in
     let formal = c.args.formal.now in
     let printed = c.in_ok-printed.printed in
-    let f : insert_entry bytes_eq table.entries formal printed ≡ table.entries ++ (formal, printed) ∷ [] =
-    insert_entry-new bytes_eq table formal printed (none_there (actual_of table.entries formal) c.requires) in
-    let e = c.in_ok-insert.ensures.entries in
-    let x = c.in_ok-printed.ensures in
-    let y = c.in_ok-copy.ensures in
-    cc
+    grind (arith, insert_entry-new bytes_eq table formal printed (none_there (actual_of table.entries formal) c.requires), none_there (actual_of table.entries formal) c.requires)

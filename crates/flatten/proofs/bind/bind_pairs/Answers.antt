@@ -4,8 +4,7 @@ use Rattle.flatten.proofs.Results.{handed_on}
 use Rattle.flatten.proofs.bind.bind_pairs.Goals as goal
 
 pub bind_formal-requires : goal.bind_formal-requires
-bind_formal-requires c =
-    (formal_fits c.args.formals.now.keys c.loop-formal.table.entries c.loop-formal-item.result.0 c.in_ok-check_formal.ensures.fits).1
+bind_formal-requires c = grind arith
 
 pub returns-in_err-check_formal-clause-fault : goal.returns-in_err-check_formal-clause-fault
 returns-in_err-check_formal-clause-fault c =
@@ -21,13 +20,4 @@ loop-formal-preserved c =
     let pairs = c.args.pairs.now in
     let i = c.loop-formal.formal-index in
     let p = c.loop-formal-item.result in
-    let l : i < length pairs = omega arith in
-    let b = bound_taken c.args.scope.now.prefix c.args.scope.now.table.entries pairs i p l c.loop-formal-item.is in
-    let e = c.in_ok-bind_formal.ensures in
-    let t = c.loop-formal.invariant.table in
-    record {
-      table = cc;
-      fault =
-          pair_taken c.args.formals.now.keys c.args.scope.now.prefix c.args.scope.now.table.entries pairs c.loop-formal.table.entries i p l c.loop-formal-item.is t c.in_ok-check_formal.ensures.fits
-          ∙ c.loop-formal.invariant.fault;
-    }
+    grind (arith, bound_taken c.args.scope.now.prefix c.args.scope.now.table.entries pairs i p, pair_taken c.args.formals.now.keys c.args.scope.now.prefix c.args.scope.now.table.entries pairs c.loop-formal.table.entries i p)

@@ -1,4 +1,4 @@
-use Rattle.std.proofs.Common.{◌≡◌, nat_le, length, ◌∙◌, refl}
+use Rattle.std.proofs.Common.{◌≡◌, nat_le, length, ◌∙◌, refl, arith}
 use Rattle.flatten.proofs.Common.{model_at, find_model, pairs_fault, entry}
 use Rattle.flatten.specs.Levels.{entered_on}
 use Rattle.flatten.proofs.Binding.{entry_refused, entry_faulty, entry_fit}
@@ -18,13 +18,7 @@ returns-in_err-model-clause-fault c =
     (λ e. tested (goal.at.returns-in_err-model-clause-fault c).After-choose ∙ entry_refused c.args.part.now.model _ _ _ _ c.in_err-model.field-0.0 e)
 
 pub returns-in_err-table-clause-fault : goal.returns-in_err-table-clause-fault
-returns-in_err-table-clause-fault c =
-    handed_on _ c.from_residual-in_err-table.result _ c.from_residual-in_err-table.ensures.1 c.in_err-table.ensures.fault
-    (λ e.
-    tested (goal.at.returns-in_err-table-clause-fault c).After-choose
-    ∙ entry_faulty c.args.part.now.model _ _ _ _ c.in_ok-model.model c.in_err-table.field-0.0 c.in_ok-model.ensures.model (rw c.items.ensures at e))
+returns-in_err-table-clause-fault c = grind arith
 
 pub returns-clause-model : goal.returns-clause-model
-returns-clause-model c =
-    tested (goal.at.returns-clause-model c).After-choose
-    ∙ entry_fit c.args.part.now.model _ _ _ _ c.in_ok-model.model c.in_ok-model.ensures.model (rw c.items.ensures at c.in_ok-table.ensures.fits)
+returns-clause-model c = grind arith

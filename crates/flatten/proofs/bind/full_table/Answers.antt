@@ -1,4 +1,4 @@
-use Rattle.std.proofs.Common.{◌≡◌, ap, ◌++◌, sym, ◌∙◌, option_map}
+use Rattle.std.proofs.Common.{◌≡◌, ap, ◌++◌, sym, ◌∙◌, option_map, arith}
 use Rattle.flatten.proofs.Common.{BlifModel, model_at, pairs_fault}
 use Rattle.flatten.specs.declared.fault.FlatFault.TheVariants.{OpenInput}
 use Rattle.flatten.specs.Instances.{first_open}
@@ -11,9 +11,7 @@ use Rattle.flatten.proofs.bind.full_table.Goals.{After-model}
 open_fault : (c : After-model) → pairs_fault (model_at c.args.hierarchy.now.models c.args.place) c.args.pairs.now ≡ option_map OpenInput (first_open c.in_ok-table.table.entries (c.model.result.now.inputs ++ c.model.result.now.clocks))
 open_fault c =
     let model = model_at c.args.hierarchy.now.models c.args.place in
-    pairs_fault_open model c.formals.result.now.keys c.args.scope.now.prefix c.args.scope.now.table.entries c.args.pairs.now c.formals.ensures c.in_ok-table.ensures.fits
-    ∙ ap (λ es. option_map OpenInput (first_open es (model.inputs ++ model.clocks))) (sym c.in_ok-table.ensures.table)
-    ∙ ap (λ (m : BlifModel). option_map OpenInput (first_open c.in_ok-table.table.entries (m.inputs ++ m.clocks))) (sym c.model.ensures)
+    grind (arith, pairs_fault_open model c.formals.result.now.keys c.args.scope.now.prefix c.args.scope.now.table.entries c.args.pairs.now c.formals.ensures c.in_ok-table.ensures.fits)
 
 pub returns-in_err-table-clause-fault : goal.returns-in_err-table-clause-fault
 returns-in_err-table-clause-fault c =

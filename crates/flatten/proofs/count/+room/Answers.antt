@@ -1,4 +1,4 @@
-use Rattle.std.proofs.Common.{inr, ap, sym, ◌∙◌, Ok, Err}
+use Rattle.std.proofs.Common.{inr, ap, sym, ◌∙◌, Ok, Err, arith}
 use Rattle.flatten.proofs.Common.{BlifModel}
 use Rattle.flatten.specs.Counting.{entered_below}
 use Rattle.flatten.proofs.Counting.{inside_is, next_leaves, next_fails, none_left, line_passed, line_fault, part_refused, no_part, part_leaves, part_fails}
@@ -27,8 +27,7 @@ room_behind_item-returns-in-Gate-clause-left t c =
     line_passed c.args.hierarchy.now.depth c.args.hierarchy.now.models c.args.trail.now.items c.args.room c.args.item.now c.one_less.result c.in-Gate.is c.one_less.ensures.less c.one_less.ensures.by_one
 
 pub room_behind_item-returns-in-Gate-clause-fault : goal.room_behind_item-returns-in-Gate-clause-fault
-room_behind_item-returns-in-Gate-clause-fault t c =
-    line_fault c.args.hierarchy.now.depth c.args.hierarchy.now.models c.args.trail.now.items c.args.room c.args.item.now c.one_less.result c.in-Gate.is c.one_less.ensures.fault
+room_behind_item-returns-in-Gate-clause-fault t c = grind (arith, line_fault c.args.hierarchy.now.depth c.args.hierarchy.now.models c.args.trail.now.items c.args.room c.args.item.now c.one_less.result c.in-Gate.is c.one_less.ensures.fault)
 
 pub room_behind_part-returns-in_err-model-clause-fault : goal.room_behind_part-returns-in_err-model-clause-fault
 room_behind_part-returns-in_err-model-clause-fault t c =

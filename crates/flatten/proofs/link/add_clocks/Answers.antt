@@ -11,11 +11,7 @@ pub returns-clause-all : goal.returns-clause-all
 returns-clause-all c = gathered (goal.at.returns-clause-all c).In_ok-add_all
 
 pub overflow_sub-result : goal.overflow_sub-result
-overflow_sub-result c =
-    let all = ap length (gathered (goal.at.overflow_sub-result c).In_ok-add_all) in
-    omega (arith, all, ap length c.requires, length-append c.args.top.now.inputs (own_clocks c.args.top.now), c.len.ensures.len, c.len-inputs.ensures.len)
+overflow_sub-result c = grind (arith, gathered (goal.at.overflow_sub-result c).In_ok-add_all, length-append c.args.top.now.inputs (own_clocks c.args.top.now))
 
 pub returns-clause-count : goal.returns-clause-count
-returns-clause-count c =
-    let all = ap length (gathered (goal.at.returns-clause-count c).In_ok-add_all) in
-    omega (arith, all, ap length c.requires, length-append c.args.top.now.inputs (own_clocks c.args.top.now), c.len.ensures.len, c.len-inputs.ensures.len)
+returns-clause-count c = grind (arith, gathered (goal.at.returns-clause-count c).In_ok-add_all, length-append c.args.top.now.inputs (own_clocks c.args.top.now))

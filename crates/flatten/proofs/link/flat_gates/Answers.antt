@@ -1,4 +1,4 @@
-use Rattle.std.proofs.Common.{◌++◌, [], ◌∷◌, ℕ, List, map, subst, sym, ap, ◌∙◌, append_assoc}
+use Rattle.std.proofs.Common.{◌++◌, [], ◌∷◌, ℕ, List, map, subst, sym, ap, ◌∙◌, append_assoc, arith}
 use Rattle.flatten.proofs.Common.{flat_map, GateLine, gate_with, sig_or}
 use Rattle.flatten.proofs.Reading.{IsLeft, fewer_left, fault_left, none_left}
 use Rattle.flatten.proofs.Results.{handed_on}
@@ -19,19 +19,7 @@ loop-gate-preserved c =
     let gate = c.in-Some.gate in
     let rest = c.next.new.self in
     let before = c.loop-gate.flat.items in
-    record {
-      flat =
-          ap (λ gates. gates ++ map (gate_with (sig_or d)) rest) (c.in_ok-push.ensures.items ∙ ap (λ g. before ++ g ∷ []) c.in_ok-flat_gate.ensures.gate)
-          ∙ append_assoc before (gate_with (sig_or d) gate ∷ []) (map (gate_with (sig_or d)) rest)
-          ∙ ap (λ gates. before ++ map (gate_with (sig_or d)) gates) (sym c.in-Some.ensures.steps)
-          ∙ c.loop-gate.invariant.flat;
-      left =
-          fewer_left d (pins c.args.gates.items) (pins c.loop-gate.gate-iterator) gate.pins (pins rest)
-          c.args.clock.now c.loop-gate.clock c.flat_gate.new.clock (ap pins c.in-Some.ensures.steps) c.loop-gate.invariant.left c.in_ok-flat_gate.ensures.read;
-    }
+    grind (arith, append_assoc before (gate_with (sig_or d) gate ∷ []) (map (gate_with (sig_or d)) rest), fewer_left d (pins c.args.gates.items) (pins c.loop-gate.gate-iterator) gate.pins (pins rest) c.args.clock.now c.loop-gate.clock c.flat_gate.new.clock)
 
 pub returns-clause-read : goal.returns-clause-read
-returns-clause-read c =
-    let d = c.args.drivers.now in
-    none_left d (pins c.args.gates.items) c.args.clock.now c.loop-gate.clock
-    (subst (λ (gates : List GateLine). IsLeft d (pins c.args.gates.items) (pins gates) c.args.clock.now c.loop-gate.clock) c.in-None.ensures.steps.0 c.loop-gate.invariant.left)
+returns-clause-read c = grind arith

@@ -1,3 +1,4 @@
+use Rattle.std.proofs.Common.{arith}
 use Rattle.flatten.proofs.Common.{lines_of}
 use Rattle.flatten.proofs.Placing.{linked_undriven, linked_clock, linked_parts, has_signals}
 use Rattle.flatten.proofs.Results.{handed_on}
@@ -21,6 +22,4 @@ returns-in_err-check_clocks-clause-fault c =
 pub returns-clause-parts : goal.returns-clause-parts
 returns-clause-parts c =
     let read = rw (c.deref.ensures.value, c.into_lines-latches.ensures) at c.in_ok-parts.ensures.read in
-    linked_parts c.args.top.now (lines_of c.args.lines) c.in_ok-drivers.drivers c.in_ok-drivers.ensures.drivers c.in_ok-drivers.ensures.once c.parts_of.new.clock read c.in_ok-parts.parts
-    (rw (c.deref.ensures.value, c.into_lines-latches.ensures) at c.in_ok-parts.ensures.parts)
-    (rw (c.deref-2.ensures.value, c.into_lines-latches.ensures) at c.in_ok-check_clocks.ensures.fits)
+    grind (arith, linked_parts c.args.top.now (lines_of c.args.lines) c.in_ok-drivers.drivers c.in_ok-drivers.ensures.drivers c.in_ok-drivers.ensures.once c.parts_of.new.clock read c.in_ok-parts.parts)

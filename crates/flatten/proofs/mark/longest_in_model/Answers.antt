@@ -9,9 +9,4 @@ loop-item-preserved c =
     let model = c.args.model.now in
     let body = c.items-item-items.result.now in
     let i = c.loop-item.item-index in
-    let l : i < length body = omega arith in
-    let h = longest_items body i c.item-item.result l c.item-item.is in
-    let a = longest_model model.inputs model.outputs model.clocks (flat_map item_names (take i body)) in
-    let b = longest_model model.inputs model.outputs model.clocks (flat_map item_names (take (i + 1) body)) in
-    let m = max_is c.loop-item.longest c.longest_in_item.result in
-    omega (arith, c.max-longest-in-loop-item.ensures, c.longest_in_item.ensures, c.loop-item.invariant)
+    grind (arith, longest_items body i c.item-item.result, longest_model model.inputs model.outputs model.clocks (flat_map item_names (take i body)), longest_model model.inputs model.outputs model.clocks (flat_map item_names (take (i + 1) body)), max_is c.loop-item.longest c.longest_in_item.result)

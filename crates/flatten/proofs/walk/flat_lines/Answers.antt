@@ -8,10 +8,7 @@ use Rattle.flatten.specs.Printable.{IsPrintedLevel}
 use Rattle.flatten.proofs.walk.flat_lines.Goals as goal
 
 pub loop-level-init : goal.loop-level-init
-loop-level-init c = record {
-  walks = walking_start c.args.hierarchy.now.depth c.args.hierarchy.now.models c.args.top c.args.limit _ c.requires.top c.in_ok-walk.ensures;
-  printed = printed_begun c.args.top c.args.limit c.in_ok-walk.walk c.in_ok-walk.ensures;
-}
+loop-level-init c = grind (arith, walking_start c.args.hierarchy.now.depth c.args.hierarchy.now.models c.args.top c.args.limit _ c.requires.top c.in_ok-walk.ensures, printed_begun c.args.top c.args.limit c.in_ok-walk.walk c.in_ok-walk.ensures)
 
 pub loop-level-preserved : goal.loop-level-preserved
 loop-level-preserved c =
@@ -19,15 +16,7 @@ loop-level-preserved c =
     let answer = flat_lines c.args.hierarchy.now.depth c.args.limit c.args.hierarchy.now.models c.args.top in
     let w = rw c.in-Some.ensures.items at c.loop-level.invariant.walks in
     let p = All-but_last IsPrintedLevel c.pop.new.self.items c.in-Some.level (rw c.in-Some.ensures.items at c.loop-level.invariant.printed.levels) in
-    record {
-      walks = (c.in_ok-step.ensures.on top answer w).0;
-      printed =
-          c.in_ok-step.ensures.prints c.laws.ensures p.1 (record {
-            levels = p.0;
-            latches = c.loop-level.invariant.printed.latches;
-            gates = c.loop-level.invariant.printed.gates;
-          });
-    }
+    grind arith
 
 pub loop-level-smaller : goal.loop-level-smaller
 loop-level-smaller c =
