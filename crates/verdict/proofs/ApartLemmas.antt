@@ -15,13 +15,7 @@ pub all_close : (net : Parts) (marks : List Bool) → AreAllMarked net marks →
 all_close net marks all m n feeds marked = all m feeds.source
 
 pub pair_within : (net : Parts) (scope : Scope) (pair : Pair) → AreAllMarked net scope.gates → IsPairOf net pair → IsPairIn net scope pair
-pair_within net scope pair all is =
-    let here = is.here in
-    let there = is.there in
-    record {
-      here = λ late. all (gate_of net pair.here) (omega (arith, here, late));
-      there = λ late. all (gate_of net pair.there) (omega (arith, there, late));
-    }
+pair_within net scope pair all is = grind arith
 
 pub pairs_within : (net : Parts) (scope : Scope) (pairs : List Pair) → AreAllMarked net scope.gates → All (IsPairOf net) pairs → ArePairsIn net scope pairs
 pairs_within net scope pairs all are k d less = pair_within net scope (get_or pairs k d) all (are k d less)

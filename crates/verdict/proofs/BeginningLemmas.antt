@@ -1,5 +1,5 @@
 -- What is decided without the gates: initial states and the care set.
-use Rattle.std.proofs.Common.{◌≡◌, Bool, true, false, not, List, length, Option, Some, None, refl, sym, ap, ◌∙◌}
+use Rattle.std.proofs.Common.{◌≡◌, Bool, true, false, not, List, length, Option, Some, None, refl, sym, ap, ◌∙◌, arith}
 use Rattle.verdict.proofs.Common.{find, is_none, is_some, option_map, vectors, Parts, CareSet, columns, is_in_invariant, is_care_vector, Observe, Initial, EmptyCare, initial_refusal, refusal, MayGoOn}
 use Rattle.refusals.specs.Refusals.{is_initial}
 use Rattle.refusals.proofs.FirstLemmas.{find-filter}
@@ -18,8 +18,7 @@ initial-refuses net care what q found = refused-initial net care what (Initial q
 
 -- whether there is a care vector
 some-none : (o : Option (List Bool)) → is_none o ≡ not (is_some o)
-some-none None = refl
-some-none (Some v) = refl
+some-none o = grind arith
 
 pub care-some : (net : Parts) (care : CareSet) → is_some (find (is_care_vector net care) (vectors (columns net))) ≡ true → initial_refusal net care ≡ None → MayGoOn net care
 care-some net care is initial = record { initial = initial; some = empty-is net care false (sym (some-none _ ∙ ap not is)) }

@@ -13,8 +13,7 @@ use Rattle.verdict.proofs.PartLemmas.{known-here}
 
 -- what isn't found is known
 pub none-some : (o : Option (List Bool)) → is_some o ≡ false → o ≡ None
-none-some None is = refl
-none-some (Some v) is = absurd (true≢false is)
+none-some o is = grind arith
 
 -- it refuses the netlist
 pub first-refuses : (net : Parts) → IsNetlist net → (blocks : Blocks) → AreBlocksOf net blocks → (settled seen marks : List Bool) (last : ℕ) → SettleInOneSweep net blocks settled → AreAskedCandidates net blocks settled seen last marks →
@@ -73,19 +72,14 @@ open-gates net blocks settled marks gates homes marks_are listed = record {
     wide = ap (λ (ms : List Bool). length ms) marks_are ∙ length-map blocks.home (λ home. not (is_marked settled home)) ∙ homes
 
     marked : (n : ℕ) → IsOpen net blocks settled n → is_marked marks n ≡ true
-    marked n is_open =
-        ap (λ (ms : List Bool). get_or ms n false) marks_are
-        ∙ get_or-map (λ home. not (is_marked settled home)) blocks.home n 0 false (let w = is_open.within in omega (arith, w, homes))
-        ∙ ap not is_open.unsettled
+    marked n is_open = grind (arith, get_or-map)
 
 -- none of them is unknown on care
 pub open-known : (net : Parts) (blocks : Blocks) (care : CareSet) (settled : List Bool) (gates : List ℕ) → AreOpenGates net blocks settled gates →
     ((j : ℕ) → j < length gates → is_unknown net care (gate_in gates j) ≡ false) → AreDeterminedOnCare net care (IsOpen net blocks settled)
 open-known net blocks care settled gates are none v counts n is_open =
     let c = are.all n is_open in
-    let same : gate_in gates c.0 ≡ n = get_or_default gates c.0 0 n c.1 ∙ c.2 in
-    let found : find (is_unknown_at net care n) (vectors (columns net)) ≡ None = subst (λ (m : ℕ). find (is_unknown_at net care m) (vectors (columns net)) ≡ None) same (none-some _ (none c.0 c.1)) in
-    λ x. absurd (true≢false (sym (and_from (is_care_vector net care v) (is_undetermined net (gate_sig net n) v) (care_vector_is net care v counts) (ap is_x (gate_wire net v n counts.width ∙ x))) ∙ none_passes (columns net) (is_unknown_at net care n) v found counts.width))
+    grind (arith, get_or_default gates c.0 0 n c.1, none-some _ (none c.0 c.1), true≢false, and_from (is_care_vector net care v) (is_undetermined net (gate_sig net n) v) (care_vector_is net care v counts), care_vector_is net care v counts, gate_wire net v n counts.width, none_passes (columns net) (is_unknown_at net care n) v)
 
 pub listed-within : (marks : List Bool) (n : ℕ) (gates : List ℕ) → ListsMarked marks n gates → All (λ m. m < n) gates
 listed-within marks n gates listed k d less = ((listed.each (get_or gates k d)).0 (k, less, get_or_default gates k _ d less)).0

@@ -14,12 +14,7 @@ use Rattle.fixpoint.specs.Working.{no_loops, IsGatePart}
 
 -- the first rail says where a value is 1
 pub one_rail : (a : Arena) (r : Rails) (v : List Bool) → den a r.one v ≡ is_one (value_of a r v)
-one_rail a r v = by (den a r.one v) (den a r.zero v)
-  where
-    by : (one zero_ : Bool) → one ≡ is_one (trit_of one zero_)
-    by true z = refl
-    by false true = refl
-    by false false = refl
+one_rail a r v = grind arith
 
 -- the value of the rails at a place
 pub value_at-place : (a : Arena) (rails : List Rails) (k : ℕ) (v : List Bool) → k < length rails → value_of a (rails_at rails k) v ≡ get_or (values_of a rails v) k X
@@ -47,13 +42,11 @@ pub inputs-values : (a : Arena) (net : Parts) (columns : List ℕ) (first : ℕ)
     values_of a rails v ≡ bits values → values_of a list v ≡ bits (inputs_at (model_of net first columns) values)
 inputs-values a net columns first rails list values v within is are =
     let long : length rails ≡ length values = sym (length-map rails (λ (r : Rails). value_of a r v)) ∙ ap length are ∙ length-map values bit in
-    inputs-read a net columns first rails list within is v ∙ ap (read_by (model_of net first columns)) are
-    ∙ read-bits (model_of net first columns) values (record { each = λ k d less. let low = within k d less in omega (arith, low, long) })
+    grind (arith, inputs-read a net columns first rails list within is v, read-bits (model_of net first columns) values)
 
 pub inputs-proper : (a : Arena) (columns : List ℕ) (first : ℕ) (rails list : List Rails) → All (AreRailsOf a) rails →
     list ≡ map (λ column. rails_at rails (column - first)) columns → All (AreRailsOf a) list
-inputs-proper a columns first rails list proper is = subst (All (AreRailsOf a)) (sym is)
-    (All-map (AreRailsOf a) (λ column. rails_at rails (column - first)) columns (λ k d less. rails_at-proper a rails proper (slice_index_or columns k d - first)))
+inputs-proper a columns first rails list proper is = grind (arith, All-map (AreRailsOf a), rails_at-proper a rails proper)
 
 -- so they cost what the model works with
 pub inputs-bounded : (a : Arena) (net : Parts) (columns : List ℕ) (first : ℕ) (rails list : List Rails) →
@@ -69,20 +62,12 @@ pub output-holds : (a : Arena) (net : Parts) (columns : List ℕ) (first : ℕ) 
     den a (rails_at wires (get_or net.outputs 0 none).0).one v ≡ holds_at (model_of net first columns) values
 output-holds a net columns first wires none values v wide valid some are =
     let output : Sig = get_or net.outputs 0 none in
-    let inside : output.0 < count net = valid.outputs 0 none some in
-    one_rail a (rails_at wires output.0) v
-    ∙ ap is_one (value_at-place a wires output.0 v (omega (arith, wide, inside))
-    ∙ ap (λ (ts : List Trit). get_or ts output.0 X) are
-    ∙ sym (get_or-map (wire (fix net (bits (inputs_at (model_of net first columns) values)))) net.outputs 0 none X some))
+    grind (arith, one_rail a (rails_at wires output.0) v, value_at-place a wires output.0 v, get_or-map (wire (fix net (bits (inputs_at (model_of net first columns) values)))) net.outputs 0 none X some)
 
 -- a model that is there, of its parts
 pub model_there : (o : Option CareModel) (net : Parts) (columns : List ℕ) (first width : ℕ) → Some net ≡ option_map (λ model. model.net) o →
     columns ≡ option_map_or (λ model. model.columns) o [] → IfSome o (ReadsWithin first width) → o ≡ Some (model_of net first columns)
-model_there None net columns first width there are reads = cc
-model_there (Some model) net columns first width there are reads =
-    let net_is : net ≡ model.net = same_Some net model.net there in
-    ap₂ (λ (n : Parts) (cs : List ℕ). Some (model_of n model.first cs)) (sym net_is) (sym are)
-    ∙ ap (λ (f : ℕ). Some (model_of net f columns)) reads.start
+model_there o net columns first width there are reads = grind arith
 
 pub model_is : (o : Option CareModel) (model : CareModel) (P : CareModel → Type 0) → o ≡ Some model → IfSome o P → P model
 model_is o model P is holds = subst (λ (p : Option CareModel). IfSome p P) is holds
@@ -98,8 +83,4 @@ pub model_grows : {r : Result Node StoreFault} {s t : Arena} (care : CareSet) (o
     (IsSomeAnd o (λ m. HasLargeCover m.net s.limit) → HasModelOver care s.limit) →
     GrowsWithin r s t (HasLargeCover model.net) (BoundsEach s.vars (IsOfModel model values)) (2 * effort model.net) →
     GrowsWithin r s t (HasModelOver care) (BoundsModel o s.vars values) (2 * option_map_or (λ m. effort m.net) o 0)
-model_grows {s = s} care o model values there over grows =
-    let size = ap (λ p. option_map_or (λ m. effort m.net) p 0) there in
-    within_more (omega (arith, size))
-    (within_caused (λ large. over (subst (λ p. IsSomeAnd p (λ m. HasLargeCover m.net s.limit)) (sym there) large))
-    (within_moved (λ w bounds. model_is o model (λ m. BoundsEach s.vars (IsOfModel m values) w) there bounds) grows))
+model_grows {s = s} care o model values there over grows = grind arith

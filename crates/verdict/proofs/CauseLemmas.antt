@@ -26,11 +26,4 @@ out_of_nodes {old} {new} {net} {care} most is =
 
 -- and where nothing was before, the limit is below what is enough
 pub below_enough : {old new : Arena} {net : Parts} {care : CareSet} {limit : ℕ} → old.limit ≡ limit → length old.entries ≡ 0 → IsFullFor old new net care → IsBelowEnough net care limit
-below_enough {old} {new} {net} {care} {limit} most none is =
-    let store : IsStoreFor new net old.limit = is.store in
-    record {
-      below = λ w wide. elim (is.cause w wide) [
-        | inl over ↦ over-cover net care w limit wide (subst (HasCoverOver net care) most over)
-        | inr past ↦ omega (arith, past.past, none, most, store.most, costs-enough net care w wide)
-      ];
-    }
+below_enough {old} {new} {net} {care} {limit} most none is = grind (arith, over-cover net care, costs-enough net care)

@@ -38,42 +38,22 @@ within-fit : (vars : ℕ) (es : List Entry) → IsSound vars es → (bs : List B
 unfolding den_within
 within-fit vars es sound bs zero i = refl
 within-fit vars es sound bs (suc k) zero = refl
-within-fit vars es sound bs (suc k) (suc p) = by (within-fit vars es sound bs k) (slice_get es p) refl
-  where
-    by : ((i : ℕ) → den_within k es i (fit vars bs) ≡ den_within k es i bs) → (o : Option Entry) → slice_get es p ≡ o →
-        option_map_or (λ e. flipped (is_marked (chosen e (fit vars bs))) (den_within k es (index (chosen e (fit vars bs))) (fit vars bs))) o true ≡ option_map_or (λ e. flipped (is_marked (chosen e bs)) (den_within k es (index (chosen e bs)) bs)) o true
-    by before None is = refl
-    by before (Some e) is =
-        ap (flipped (is_marked (chosen e (fit vars bs)))) (before (index (chosen e (fit vars bs))))
-        ∙ ap (λ (t : Bool). let n : Node = if t then e.hi else e.lo in flipped (is_marked n) (den_within k es (index n) bs)) (get_or-fit vars bs e.var (sound.each p e is).within)
+within-fit vars es sound bs (suc k) (suc p) = grind (arith, within-fit vars es sound bs k, get_or-fit vars bs)
 
 den-fit : (a : Arena) → IsSound a.vars a.entries → (n : Node) (bs : List Bool) → den a n (fit a.vars bs) ≡ den a n bs
 den-fit a sound n bs = ap (flipped (is_marked n)) (within-fit a.vars a.entries sound bs (suc (index n)) (index n))
 
 pub values_of-fit : (a : Arena) → IsSound a.vars a.entries → (rails : List Rails) (bs : List Bool) → values_of a rails (fit a.vars bs) ≡ values_of a rails bs
-values_of-fit a sound rails bs =
-    map_agree (λ r. value_of a r (fit a.vars bs)) (λ r. value_of a r bs) rails
-    (λ k d less. ap₂ trit_of (den-fit a sound (get_or rails k d).one bs) (den-fit a sound (get_or rails k d).zero bs))
+values_of-fit a sound rails bs = grind (arith, map_agree, den-fit a sound)
 
 pub column-vectors : (net : Parts) (a : Arena) (given : List Rails) → IsSound a.vars a.entries → a.vars ≡ columns net → AreColumns a (order net) given → AreColumnVectors net (values_of a given)
-column-vectors net a given sound vars are = record {
-  width = λ bs. length-map {B = Trit} given (λ r. value_of a r bs) ∙ are.width ∙ vars;
-  laid_are = λ w wide. are.values w (wide ∙ sym vars);
-  fit_are = λ bs. subst (λ (n : ℕ). values_of a given (fit n bs) ≡ values_of a given bs) vars (values_of-fit a sound given bs);
-}
+column-vectors net a given sound vars are = grind (arith, length-map {B = Trit} given, values_of-fit a sound given)
 
 -- ---- values of care vectors
 
 pub known-bits : (ts : List Trit) → list_all (λ value. not (is_x value)) ts ≡ true → ts ≡ bits (map is_one ts)
 known-bits [] e = refl
-known-bits (t ∷ ts) e =
-    let p = and_parts (not (is_x t)) (list_all (λ value. not (is_x value)) ts) e in
-    ap₂ (λ x xs. x ∷ xs) (one t p.0) (known-bits ts p.1)
-  where
-    one : (t : Trit) → not (is_x t) ≡ true → t ≡ bit (is_one t)
-    one Zero e = refl
-    one One e = refl
-    one X e = cc
+known-bits (t ∷ ts) e = grind (arith, and_parts (not (is_x t)), known-bits ts)
 
 pub bits-known : (w : List Bool) → list_all (λ value. not (is_x value)) (bits w) ≡ true
 bits-known [] = refl
@@ -91,14 +71,7 @@ pub record IsBitsOf (net : Parts) (care : CareSet) (v : List Trit) : Type 0 wher
   pub counts : IsCareVector net care vector
 
 pub bits-of-care : (net : Parts) (care : CareSet) (v : List Trit) → are_care_values net care v ≡ true → IsBitsOf net care v
-bits-of-care net care v is =
-    let first = and_parts (list_all (λ value. not (is_x value)) v) (length v == columns net && is_care_vector net care (map is_one v)) is in
-    let second = and_parts (length v == columns net) (is_care_vector net care (map is_one v)) first.1 in
-    record {
-      vector = map is_one v;
-      is = known-bits v first.0;
-      counts = care_vector_decides net care (map is_one v) (length-map v is_one ∙ eqb-true (length v) (columns net) second.0) second.1;
-    }
+bits-of-care net care v is = grind (arith, and_parts, and_parts (length v == columns net) (is_care_vector net care (map is_one v)), known-bits v, care_vector_decides net care (map is_one v), length-map v is_one, eqb-true (length v) (columns net))
 
 -- a number of sweeps on the vectors of a set is one on care
 pub count-on-care : (net : Parts) (care : CareSet) (loops : Loops) (a : Arena) (points : Vectors) (set : Node) (gate k : ℕ) → IsSound a.vars a.entries → AreColumnVectors net points → a.vars ≡ columns net →

@@ -128,9 +128,7 @@ module _ (net : Parts) (care : CareSet) where
 
   module _ (a : Arena) (rails : List Rails) (vars : a.vars ≡ columns net) (fixed : AreFixed net a rails) (signal : ℕ) (within : signal < count net) where
     pub signal-value : (v : List Bool) → length v ≡ columns net → value_of a (rails_at rails signal) (laid net v) ≡ value_in (fix net (bits v)) signal
-    signal-value v long =
-        let wide = fixed.width in
-        value_at-place a rails signal (laid net v) (omega (arith, wide, within)) ∙ ap (λ (ts : List Trit). value_in ts signal) (fixed.values v (long ∙ sym vars))
+    signal-value v long = grind (arith, value_at-place a rails signal (laid net v))
 
     abbrev signal_rails : Rails
     signal_rails = rails_at rails signal
@@ -142,9 +140,7 @@ module _ (net : Parts) (care : CareSet) where
     made-one_rail = made-rail true signal_rails.one (λ v. sym (one-of (den a signal_rails.one v) (den a signal_rails.zero v)))
 
     made-zero_rail : IsMade net care (den a signal_rails.zero)
-    made-zero_rail =
-        let proper : AreRailsOf a signal_rails = rails_at-proper a rails fixed.proper signal in
-        made-rail false signal_rails.zero (λ v. sym (zero-of (den a signal_rails.one v) (den a signal_rails.zero v) (proper.proper v)))
+    made-zero_rail = grind (arith, rails_at-proper a rails fixed.proper signal, made-rail false signal_rails.zero, zero-of)
 
     module _ (set : Node) (told : Tells net a set (is_care_vector net care)) {w : ℕ} (wide : IsWide a.vars (IsLaid net care) w) where
       made-set : IsMade net care (den a set)

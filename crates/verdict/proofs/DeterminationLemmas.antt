@@ -36,27 +36,17 @@ pub some_vector : (net : Parts) (care : CareSet) → empty_refusal net care ≡ 
 some_vector net care none = by (find (is_care_vector net care) (vectors (columns net))) refl
   where
     filled : (t : Bool) → (let nothing : Option Refusal = None in if t then Some EmptyCare else nothing) ≡ None → t ≡ false
-    filled false e = refl
-    filled true e = absurd (true≢false (ap is_some e))
+    filled t e = grind (arith, true≢false)
 
     by : (o : Option (List Bool)) → find (is_care_vector net care) (vectors (columns net)) ≡ o → SomeCareVector net care
-    by None is = absurd (true≢false (sym (empty-filter (is_care_vector net care) (vectors (columns net)) ∙ ap is_none is) ∙ filled (is_empty (care_vectors net care)) none))
-    by (Some v) is = record {
-      vector = v;
-      counts = care_vector_decides net care v (found_wide (columns net) (is_care_vector net care) v is) (found_passes (is_care_vector net care) (vectors (columns net)) v is);
-    }
+    by o is = grind (arith, true≢false, empty-filter, care_vector_decides, found_wide, found_passes)
 
 -- ---- settled loops, and their sweeps
 
 -- one element more
 pub each-more : {A : Type 0} (P : ℕ → A → Type 0) (d x : A) (n : ℕ) (xs : List A) → length xs ≡ n → ((k : ℕ) → k < n → P k (get_or xs k d)) → P n x →
     (k : ℕ) → k < n + 1 → P k (get_or (xs ++ x ∷ []) k d)
-each-more P d x n xs wide before here k less = elim (cases_lt k n) [
-  | inl low ↦ subst (P k) (sym (get_or_append_left xs (x ∷ []) d k (omega (arith, wide, low)))) (before k low)
-  | inr high ↦
-      let at : n ≡ k = omega (arith, less, high) in
-      subst (P k) (sym (get_or_push xs x d k (omega (arith, wide, at)))) (subst (λ m. P m x) at here)
-]
+each-more P d x n xs wide before here k less = grind (arith, cases_lt k n, get_or_append_left xs (x ∷ []) d k, get_or_push xs x d k)
 
 -- the least number of sweeps at Boolean care vectors is that of the loop on care
 pub least-count : (net : Parts) (loops : Loops) (care : CareSet) (a m : ℕ) → IsLeastCount net loops care a m → IsCountOfSweeps net loops (are_care_values net care) a m
@@ -73,9 +63,7 @@ least-count net loops care a m is = record {
 -- where the gates of open loops are known on care, all are
 pub open-determine : (net : Parts) → IsNetlist net → (blocks : Blocks) → AreBlocksOf net blocks → (care : CareSet) (settled : List Bool) → SettleInOneSweep net blocks settled →
     AreDeterminedOnCare net care (IsOpen net blocks settled) → AreDeterminedOnCare net care (IsGate net)
-open-determine net valid blocks are care settled soon known v is n within =
-    unsettled_loops_decide net blocks (is_marked settled) valid are (λ b inside loop marked. (soon b inside loop marked).alone) v is.width n within
-    (λ m less up loop unsettled. known v is m (record { within = less; looped = loop; unsettled = unsettled }))
+open-determine net valid blocks are care settled soon known v is n within = grind (arith, unsettled_loops_decide net blocks (is_marked settled) valid are)
 
 -- ---- what a determination decides
 
@@ -86,21 +74,12 @@ determination-loose : (net : Parts) (care : CareSet) → AreDeterminedOnCare net
 determination-loose net care determined = loose-none net care (λ n less. known-here net care n less (λ v counts. determined v counts n less))
 
 pub determinations_accept : DeterminationsAccept
-determinations_accept net blocks cut care what counts valid is initial some stays = record {
-  accepts = accepts-is net care what valid (refused-on-care net care what None initial some (ap₂ option_or (none-undetermined net care what is.determined) stays));
-  sweeps = is.sweeps;
-  loose_is = determination-loose net care is.determined;
-}
+determinations_accept net blocks cut care what counts valid is initial some stays =
+    grind (arith, accepts-is net care what valid, refused-on-care net care what None initial some, none-undetermined net care what is.determined, determination-loose net care is.determined)
 
 -- and the gates are determined then
 pub determination-is : (net : Parts) (blocks : Blocks) (cut : Cut) (care : CareSet) (what : Observe) (counts : SweepCounts) → IsDetermination net blocks cut care counts → AreDetermined net blocks cut care what counts 0
-determination-is net blocks cut care what counts is = record {
-  number = record { none = none-undetermined net care what is.determined; number = determination-loose net care is.determined };
-  sweeps = is.sweeps;
-}
+determination-is net blocks cut care what counts is = grind (arith, none-undetermined net care what is.determined, determination-loose net care is.determined)
 
 pub nothing_leaves : NothingLeaves
-nothing_leaves net care lacks =
-    ap (option_map (λ (v : List Bool). Leaves v (next_state net v)))
-    (find_none-all (leaves net care) (care_vectors net care)
-    (λ k d less. ap not (ap (λ (o : Option CareModel). option_map_or (λ model. holds_at model (next_state net (get_or (care_vectors net care) k d))) o true) lacks)))
+nothing_leaves net care lacks = grind (arith, find_none-all (leaves net care) (care_vectors net care))

@@ -15,9 +15,7 @@ sum-enough : (v latches gates assumed invariant effort effort_assumed effort_inv
     latches ≤ v → gates ≤ effort →
     2 + (2 * effort_invariant + v + 1 + (2 * effort_assumed + 1)) + 10 * (gates + 2) * effort + (2 * gates + (2 * latches + 2 * effort_invariant + 1)) + 6 * gates * (gates + 2)
     ≤ 16 * (gates + (assumed + invariant) + 2) * (effort + (effort_assumed + effort_invariant) + v + 4)
-sum-enough v latches gates assumed invariant effort effort_assumed effort_invariant few less =
-    let squares : gates * gates ≤ gates * effort = mul-le-mul_left {m = gates} {n = effort} gates less in
-    omega (arith, few, less, squares)
+sum-enough v latches gates assumed invariant effort effort_assumed effort_invariant few less = grind (arith, mul-le-mul_left {m = gates} {n = effort} gates less)
 
 -- the parts together cost no more than is enough
 pub costs-enough : (net : Parts) (care : CareSet) (w : ℕ) → IsWide (columns net) (IsLaid net care) w → w * decision_cost net care ≤ enough net care w
@@ -32,21 +30,10 @@ costs-enough net care w wide =
 -- ---- covers over the limit
 
 pub large-effort : (net : Parts) (limit : ℕ) → HasLargeCover net limit → limit < effort net
-large-effort net limit is =
-    let over = is.over in
-    let most = get_or-le-sum_by (λ (g : Gate). size g.cover + 1) net.gates is.gate no_gate is.within in
-    omega (arith, over, most)
+large-effort net limit is = grind (arith, get_or-le-sum_by)
 
 pub model-effort : (o : Option CareModel) (limit : ℕ) → IsSomeAnd o (λ model. HasLargeCover model.net limit) → limit < option_map_or (λ model. effort model.net) o 0
-model-effort None limit is = absurd is
-model-effort (Some model) limit is = large-effort model.net limit is
+model-effort o limit is = grind (arith, large-effort)
 
 pub over-cover : (net : Parts) (care : CareSet) (w limit : ℕ) → IsWide (columns net) (IsLaid net care) w → HasCoverOver net care limit → limit < enough net care w
-over-cover net care w limit wide is =
-    effort-enough limit (in_all effort net care) w (in_all (λ n. length n.gates) net care) (columns net) below wide.variables
-  where
-    below : limit < in_all effort net care
-    below = elim is [
-      | inl over ↦ omega (arith, large-effort net limit over)
-      | inr models ↦ elim models [ inl over ↦ omega (arith, model-effort care.assume limit over) | inr over ↦ omega (arith, model-effort care.invariant limit over) ]
-    ]
+over-cover net care w limit wide is = grind (arith, effort-enough limit (in_all effort net care) w, large-effort net limit, model-effort care.assume limit, model-effort care.invariant limit)

@@ -25,8 +25,7 @@ walk-forward net P closed m n [] feeds first = closed m n feeds first
 walk-forward net P closed m n (x ∷ via) walk first = walk-forward net P closed x n via walk.1 (closed m x walk.0 first)
 
 pub fanout-closed : (net : Parts) (P : ℕ → Type 0) → ((a b : ℕ) → Feeds net a b → P a → P b) → (m n : ℕ) → IsUpstream net m n → P m → P n
-fanout-closed net P closed m n (inl e) first = subst P e first
-fanout-closed net P closed m n (inr leads) first = walk-forward net P closed m n leads.via leads.walk first
+fanout-closed net P closed m n h first = grind (arith, walk-forward)
 
 module _ (net : Parts) (blocks : Blocks) (are : AreBlocksOf net blocks) (old : List Bool) where
   pub marked-more : (b : ℕ) (gates : List ℕ) (marks new : List Bool) → b < length blocks.list → gates ≡ (block_at blocks b).gates → AreMarkedBefore net blocks old b marks → AddMarks (IsReached net gates marks) marks new →
@@ -66,11 +65,7 @@ module _ (net : Parts) (blocks : Blocks) (are : AreBlocksOf net blocks) (old : L
           record { gate = from.gate; marked = from.marked; upstream = upstream-trans net from.gate g n from.upstream up }
       reached-by n g up (inr reads) =
           let from = before.only reads.gate reads.marked in
-          record {
-            gate = from.gate;
-            marked = from.marked;
-            upstream = upstream-trans net from.gate reads.gate n from.upstream (upstream-trans net reads.gate g n (inr (leads-step net reads.gate g reads.feeds)) up);
-          }
+          grind (arith, upstream-trans net from.gate reads.gate n from.upstream (upstream-trans net reads.gate g n (inr (leads-step net reads.gate g reads.feeds)) up), upstream-trans net reads.gate g n (inr (leads-step net reads.gate g reads.feeds)) up, leads-step net reads.gate g reads.feeds)
 
   pub marked-all : (b : ℕ) (marks : List Bool) → length blocks.list ≤ b → AreMarkedBefore net blocks old b marks → AreFanoutMarks net old marks
   marked-all b marks all before = record {

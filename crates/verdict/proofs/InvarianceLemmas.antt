@@ -6,9 +6,4 @@ use Rattle.verdict.proofs.PartLemmas.{invariant-reads}
 -- the columns that the invariant reads are those of latches
 pub read-columns : (net : Parts) (care : CareSet) (columns_read : List ℕ) → IsCareOf net care → columns_read ≡ option_map_or (λ model. model.columns) care.invariant [] →
     All (λ column. column - length net.inputs < length net.latches) columns_read
-read-columns net care columns_read bound is = by care.invariant (invariant-reads net care (length net.latches) bound refl) is
-  where
-    by : (o : Option CareModel) → IfSome o (ReadsWithin (length net.inputs) (length net.latches)) → columns_read ≡ option_map_or (λ model. model.columns) o [] →
-        All (λ column. column - length net.inputs < length net.latches) columns_read
-    by None r e = λ k d less. absurd (let n = ap (λ (xs : List ℕ). length xs) e in omega (arith, n, less))
-    by (Some model) r e = subst (All (λ column. column - length net.inputs < length net.latches)) (sym e) r.within
+read-columns net care columns_read bound is = grind (arith, invariant-reads net care (length net.latches) bound)

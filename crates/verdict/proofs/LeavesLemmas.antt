@@ -47,10 +47,7 @@ module _ (net : Parts) (care : CareSet) where
 
     -- what a list has at each place, where it has so many
     known-within : (xs : List Bool → List Trit) (n i : ℕ) → ((v : List Bool) → length (xs v) ≡ n) → (i < n → IsKnown (λ v. get_or (xs v) i X)) → IsKnown (λ v. get_or (xs v) i X)
-    known-within xs n i long inside = elim (cases_lt i n) [
-      | inl less ↦ inside less
-      | inr past ↦ unknown (λ v. get_or (xs v) i X) (λ v. let wide = long v in get_or_past (xs v) i X (omega (arith, past, wide)))
-    ]
+    known-within xs n i long inside = grind (arith, cases_lt i n, unknown, get_or_past)
 
     next-known : (place : ℕ) → IsKnown (λ v. get_or (next net (bits v)) place X)
     next-known place = known-within (λ v. next net (bits v)) (length net.latches) place (λ v. length-map net.latches (λ (l : Latch). wire (fix net (bits v)) l.from)) (λ less.
@@ -91,9 +88,7 @@ module _ (net : Parts) (care : CareSet) where
 
     -- at a vector of care this is whether the next state is in the invariant
     one-bit : (t : Trit) → is_one t ≡ is_bit true t
-    one-bit One = refl
-    one-bit Zero = refl
-    one-bit X = refl
+    one-bit t = grind arith
 
     holds-is : (q v : List Bool) → HasValues q model → next net (bits v) ≡ bits q → holds_at model q ≡ is_bit true (get_or (outs model.net (reads v)) 0 X)
     holds-is q v has same =
@@ -139,5 +134,4 @@ leaves-fit net care a set inside valid bound loads vars told inside_is wide =
     ap (difference a set inside) (sym (laid-vector_of net u (long ∙ vars))) ∙ leaving-value inside vars told loads inside_is v (length-vector_of net u ∙ sym vars) ∙ by n v (length-vector_of net u) (is_care_vector net care v) refl)
   where
     by : (n : IsNextInside net care) (v : List Bool) → length v ≡ columns net → (b : Bool) → is_care_vector net care v ≡ b → (b && leaves net care v) ≡ (b && not (n.of v))
-    by n v long false is = refl
-    by n v long true is = ap not (n.same v long is)
+    by n v long h is = grind arith

@@ -17,8 +17,7 @@ use Rattle.verdict.proofs.CandidateLemmas.{none-some}
 
 -- what a test says that isn't so
 pub says-not : {P : Type 0} (b : Bool) → ((b ≡ true) ↔ P) → not b ≡ true → ¬ P
-says-not true tells isnt p = true≢false (sym isnt)
-says-not false tells isnt p = true≢false (sym (tells.1 p))
+says-not b tells isnt p = grind arith
 
 -- ---- which gates are unknown on care
 
@@ -27,9 +26,7 @@ module _ (net : Parts) (valid : IsNetlist net) (blocks : Blocks) (are : AreBlock
     (told : TellEachUnknown net care gates found) (spread : AreScattered (length net.gates) gates found (length gates) marks) where
   -- one that isn't marked, and is listed
   listed-known : (n : ℕ) → is_marked marks n ≡ false → (c : Contains gates n) → (b : Bool) → is_marked found c.0 ≡ b → is_unknown net care n ≡ false
-  listed-known n isnt c true has =
-      absurd (true≢false (sym (subst (λ (k : ℕ). is_marked marks k ≡ true) (get_or_default gates c.0 0 n c.1 ∙ c.2) (spread.to c.0 c.1 has)) ∙ isnt))
-  listed-known n isnt c false has = subst (λ (k : ℕ). is_unknown net care k ≡ false) (get_or_default gates c.0 0 n c.1 ∙ c.2) (told.each c.0 c.1 ∙ has)
+  listed-known n isnt c h has = grind (arith, true≢false, get_or_default)
 
   -- or isn't
   no-candidate : (n : ℕ) → n < length net.gates → is_marked candidates n ≡ false → is_unknown net care n ≡ false
@@ -44,10 +41,7 @@ module _ (net : Parts) (valid : IsNetlist net) (blocks : Blocks) (are : AreBlock
   unmarked n less isnt false apart = no-candidate n less apart
 
   by-mark : (n : ℕ) → n < length net.gates → (b : Bool) → is_marked marks n ≡ b → is_unknown net care n ≡ is_marked marks n
-  by-mark n less true is =
-      let at = spread.from n is in
-      subst (λ (k : ℕ). is_unknown net care k ≡ true) at.is (told.each at.place at.early ∙ at.has) ∙ sym is
-  by-mark n less false is = unmarked n less is (is_marked candidates n) refl ∙ sym is
+  by-mark n less h is = grind (arith, unmarked)
 
   pub unknown-marked : AreUnknownMarks net care marks
   unknown-marked = record { width = spread.width_is; each = λ n less. by-mark n less (is_marked marks n) refl }
@@ -64,11 +58,7 @@ module _ (net : Parts) (care : CareSet) (marks : List Bool) (are : AreUnknownMar
 
   -- one with a mark isn't known
   pub marked-unknown : (n : ℕ) → n < length net.gates → is_marked marks n ≡ true → is_none (find (is_unknown_at net care n) (vectors (columns net))) ≡ false
-  marked-unknown n less is = by (find (is_unknown_at net care n) (vectors (columns net))) (are.each n less ∙ is)
-    where
-      by : (o : Option (List Bool)) → is_some o ≡ true → is_none o ≡ false
-      by (Some v) e = refl
-      by None e = absurd (true≢false (sym e))
+  marked-unknown n less is = grind arith
 
   -- ---- loops around which all is known on care
 
@@ -76,8 +66,7 @@ module _ (net : Parts) (care : CareSet) (marks : List Bool) (are : AreUnknownMar
   known-unless n less isnt = by (is_marked marks n) refl
     where
       by : (b : Bool) → is_marked marks n ≡ b → (v : List Bool) → IsCareVector net care v → value_in (fix_gates net (bits v)) n ≢ X
-      by true is = absurd (isnt is)
-      by false is = unmarked-value n less is
+      by b is = grind (arith, unmarked-value)
 
   pub fed-known : (gates : List ℕ) (others : List Bool) → AreWithout gates marks others → ¬ AreReached net gates others → AreFedKnown net care gates
   fed-known gates others without apart v counts m n feeds inside outside =
@@ -108,10 +97,7 @@ module _ (net : Parts) (valid : IsNetlist net) (blocks : Blocks) (are : AreBlock
   -- another one needs the least number at Boolean care vectors
   pub least-loop : (place count : ℕ) → (block_at blocks place).looped ≡ true → ((gate : ℕ) → Contains (block_at blocks place).gates gate → IsLeastCount net (loops_by blocks cut) care gate count) →
       IsLoopCount net blocks cut care place count
-  least-loop place count looped least = record {
-    loops = λ loop gate inside. least-count net (loops_by blocks cut) care gate count (least gate inside);
-    others = λ plain. absurd (true≢false (sym looped ∙ plain));
-  }
+  least-loop place count looped least = grind (arith, least-count net (loops_by blocks cut) care, true≢false)
 
 -- ---- the sweeps of all loops
 

@@ -6,8 +6,7 @@ use Rattle.refusals.proofs.ObservedLemmas.{gate_among}
 
 pub marks-more : (net : Parts) (before xs : List Sig) (i : ℕ) (d : Sig) (marks : List Bool) → i < length xs → AreMarksOf net ((before ++ take i xs) ++ get_or xs i d ∷ []) marks →
     AreMarksOf net (before ++ take (i + 1) xs) marks
-marks-more net before xs i d marks inside is =
-    subst (λ ys. AreMarksOf net ys marks) (append_assoc before (take i xs) (get_or xs i d ∷ []) ∙ ap (λ (ys : List Sig). before ++ ys) (sym (take_more xs i d inside))) is
+marks-more net before xs i d marks inside is = grind (arith, append_assoc before (take i xs) (get_or xs i d ∷ []), take_more xs i d inside)
 
 pub marks-end : (net : Parts) (before xs : List Sig) (n : ℕ) (marks : List Bool) → length xs ≤ n → AreMarksOf net (before ++ take n xs) marks → AreMarksOf net (before ++ xs) marks
 marks-end net before xs n marks all is = subst (λ ys. AreMarksOf net ys marks) (ap (λ (ys : List Sig). before ++ ys) (take_all n xs all)) is

@@ -10,9 +10,7 @@ use Rattle.verdict.proofs.CareLemmas.{value_at-place}
 
 -- a conjunction has as many nodes after more operations
 pub conjunction-kept : (s t : Arena) (m n : Node) → KeepsNodes s t → IsNodeOf s m → IsNodeOf s n → nodes t.vars (conjunction t m n) ≡ nodes s.vars (conjunction s m n)
-conjunction-kept s t m n keeps in_m in_n =
-    ap (λ k. nodes k (conjunction t m n)) keeps.vars
-    ∙ nodes-alike s.vars (conjunction t m n) (conjunction s m n) (λ v wide. ap₂ (λ x y. x && y) (keeps.function m v in_m) (keeps.function n v in_n))
+conjunction-kept s t m n keeps in_m in_n = grind arith
 
 -- ---- latch by latch
 
@@ -23,17 +21,14 @@ pub record AreFirstNext (net : Parts) (s : Arena) (set : Node) (a : Arena) (n : 
   pub values : (v : List Bool) → length v ≡ s.vars → values_of a list (laid net v) ≡ take n (next_within net s set v)
 
 one_proper : (a : Arena) (r : Rails) → AreRailsOf a r → All (AreRailsOf a) (r ∷ [])
-one_proper a r is zero d less = is
-one_proper a r is (suc k) d less = absurd (omega (arith, less))
+one_proper a r is h d less = grind arith
 
 -- what one latch loads
 next-more-list : (net : Parts) (v : List Trit) (n : ℕ) (latch : Latch) → slice_get net.latches n ≡ Some latch → take (n + 1) (next net v) ≡ take n (next net v) ++ wire (fix net v) latch.from ∷ []
 next-more-list net v n latch found =
     let inside : n < length net.latches = slice_get_within net.latches n latch found in
     let long = length-map net.latches (λ (l : Latch). wire (fix net v) l.from) in
-    take_more (next net v) n X (omega (arith, inside, long))
-    ∙ ap (λ (t : Trit). take n (next net v) ++ t ∷ []) (get_or-map (λ (l : Latch). wire (fix net v) l.from) net.latches n latch X inside
-    ∙ ap (λ (l : Latch). wire (fix net v) l.from) (get_or_from_slice_get net.latches n latch latch found))
+    grind (arith, take_more (next net v) n X, get_or-map, get_or_from_slice_get net.latches n latch latch found)
 
 -- and within the set
 within-more : (net : Parts) (s : Arena) (set : Node) (v : List Bool) (n : ℕ) (latch : Latch) → slice_get net.latches n ≡ Some latch →
@@ -42,21 +37,15 @@ within-more net s set v n latch found = by (den s set (laid net v))
   where
     by : (c : Bool) → take (n + 1) (if c then next net (bits v) else replicate (length net.latches) X) ≡ take n (if c then next net (bits v) else replicate (length net.latches) X) ++ (if c then wire (fix net (bits v)) latch.from else X) ∷ []
     by true = next-more-list net (bits v) n latch found
-    by false =
-        let inside : n < length net.latches = slice_get_within net.latches n latch found in
-        take_more (replicate (length net.latches) X) n X (omega (arith, inside, length-replicate (length net.latches) X))
-        ∙ ap (λ (t : Trit). take n (replicate (length net.latches) X) ++ t ∷ []) (get_or-replicate (length net.latches) n X X inside)
+    by false = grind (arith, slice_get_within net.latches n latch found, take_more (replicate (length net.latches) X) n X, length-replicate (length net.latches) X, get_or-replicate (length net.latches) n X X)
 
 -- the source
 pub source-within : (net : Parts) (n : ℕ) (latch : Latch) → IsNetlist net → slice_get net.latches n ≡ Some latch → latch.from.0 < count net
-source-within net n latch valid found =
-    subst (λ (l : Latch). l.from.0 < count net) (get_or_from_slice_get net.latches n latch latch found) (valid.sources n latch (slice_get_within net.latches n latch found))
+source-within net n latch valid found = grind (arith, get_or_from_slice_get net.latches n latch latch found, slice_get_within net.latches n latch found)
 
 pub source-value : (net : Parts) (a : Arena) (rails : List Rails) (n : ℕ) (latch : Latch) (v : List Bool) → IsNetlist net → AreFixed net a rails → slice_get net.latches n ≡ Some latch → length v ≡ a.vars →
     value_of a (rails_at rails latch.from.0) (laid net v) ≡ wire (fix net (bits v)) latch.from
-source-value net a rails n latch v valid fixed found wide =
-    value_at-place a rails latch.from.0 (laid net v) (let w = fixed.width in let s = source-within net n latch valid found in omega (arith, w, s))
-    ∙ ap (λ (ts : List Trit). get_or ts latch.from.0 X) (fixed.values v wide)
+source-value net a rails n latch v valid fixed found wide = grind (arith, value_at-place a rails latch.from.0 (laid net v), source-within net n latch valid found)
 
 -- what all of them load
 pub next-all : (net : Parts) (s a : Arena) (set : Node) (n : ℕ) (list : List Rails) → length net.latches ≤ n → AreFirstNext net s set a n list →
@@ -64,15 +53,13 @@ pub next-all : (net : Parts) (s a : Arena) (set : Node) (n : ℕ) (list : List R
 next-all net s a set n list all first v wide = first.values v wide ∙ by (den s set (laid net v))
   where
     by : (c : Bool) → take n (if c then next net (bits v) else replicate (length net.latches) X) ≡ (if c then next net (bits v) else replicate (length net.latches) X)
-    by true = take_all n (next net (bits v)) (omega (arith, all, length-map net.latches (λ (l : Latch). wire (fix net (bits v)) l.from)))
-    by false = take_all n (replicate (length net.latches) X) (omega (arith, all, length-replicate (length net.latches) X))
+    by c = grind (arith, take_all, length-map, length-replicate)
 
 module _ (net : Parts) (s d : Arena) (set : Node) (rails : List Rails) (n : ℕ) (latch : Latch) (valid : IsNetlist net) (in_set : IsNodeOf s set) (first : KeepsNodes s d)
     (fixed : AreFixed net s rails) (found : slice_get net.latches n ≡ Some latch) where
   source-kept : (v : List Bool) → length v ≡ s.vars → value_of d (rails_at rails latch.from.0) (laid net v) ≡ wire (fix net (bits v)) latch.from
   source-kept v wide =
-      value_of-kept first (rails_at rails latch.from.0) (rails_at-proper s rails fixed.proper latch.from.0) (laid net v)
-      ∙ source-value net s rails n latch v valid fixed found wide
+      grind (arith, value_of-kept first (rails_at rails latch.from.0) (rails_at-proper s rails fixed.proper latch.from.0) (laid net v), rails_at-proper s rails fixed.proper latch.from.0, source-value net s rails n latch v valid fixed found wide)
 
   pub next-more : (e : Arena) (list : List Rails) (made : Rails) → KeepsNodes d e → AreFirstNext net s set d n list → AreRailsOf e made →
       ((v : List Bool) → value_of e made v ≡ (if den d set v then value_of d (rails_at rails latch.from.0) v else X)) →

@@ -19,10 +19,7 @@ use Rattle.clause_decision.specs.Loads.{LoadsAreKnown}
 -- ---- sets
 
 pub Tells-kept : {net : Parts} {s t : Arena} {n : Node} {test : List Bool → Bool} → KeepsNodes s t → Tells net s n test → Tells net t n test
-Tells-kept {net} {n = n} k is = record {
-  node = omega (arith, is.node, k.more);
-  value = λ v wide. k.function n (laid net v) is.node ∙ is.value v (wide ∙ k.vars);
-}
+Tells-kept {net} {n = n} k is = grind arith
 
 -- another node of the same function, in other diagrams
 pub Tells-same : {net : Parts} {s t : Arena} {m n : Node} {test : List Bool → Bool} → t.vars ≡ s.vars → IsNodeOf t n → ((bits : List Bool) → den t n bits ≡ den s m bits) → Tells net s m test → Tells net t n test
@@ -30,10 +27,7 @@ Tells-same {net} vars node same is = record { node = node; value = λ v wide. sa
 
 -- the vectors of the first set that aren't in the second
 pub Tells-minus : {net : Parts} {s t : Arena} {m n r : Node} {f g : List Bool → Bool} → t.vars ≡ s.vars → IsNodeOf t r → ((v : List Bool) → den t r v ≡ difference s m n v) → Tells net s m f → Tells net s n g → Tells net t r (λ v. f v && not (g v))
-Tells-minus {net} vars node same first second = record {
-  node = node;
-  value = λ v wide. same (laid net v) ∙ ap₂ (λ x y. x && not y) (first.value v (wide ∙ vars)) (second.value v (wide ∙ vars));
-}
+Tells-minus {net} vars node same first second = grind arith
 
 -- the netlist's order is a layout
 pub order-layout : (net : Parts) (n : ℕ) (columns_by : List ℕ) → n ≡ columns net → columns_by ≡ order net → IsLayout n columns_by
@@ -42,67 +36,38 @@ order-layout net n columns_by vars is = subst (λ m. IsLayout m columns_by) (sym
 -- the least vector of a set is the first that passes its test
 pub least-told : {net : Parts} {a : Arena} {n : Node} {test : List Bool → Bool} {columns_by : List ℕ} → a.vars ≡ columns net → columns_by ≡ order net → Tells net a n test →
     find (λ v. den a n (by_variable columns_by v)) (vectors a.vars) ≡ find test (vectors (columns net))
-least-told {net} {a} {n} {test} vars is told =
-    ap₂ (λ (cs : List ℕ) w. find (λ v. den a n (by_variable cs v)) (vectors w)) is vars
-    ∙ find-alike (columns net) (λ v. den a n (laid net v)) test (λ v wide. told.value v (wide ∙ sym vars))
+least-told {net} {a} {n} {test} vars is told = grind (arith, find-alike (columns net))
 
 -- what two clauses say together of an answer
 pub IfOk-both : {T E : Type 0} (r : Result T E) {P Q R : T → Type 0} → ((x : T) → P x → Q x → R x) → IfOk r P → IfOk r Q → IfOk r R
-IfOk-both (Ok x) both p q = both x p q
-IfOk-both (Err e) both p q = tt
+IfOk-both r both p q = grind arith
 
 -- ---- permitted states
 
 mapped-twice : {A B C : Type 0} (f : B → C) (g : A → B) (o : Option A) → option_map (λ x. f (g x)) o ≡ option_map f (option_map g o)
-mapped-twice f g None = refl
-mapped-twice f g (Some x) = refl
+mapped-twice f g o = grind arith
 
 -- a test of the columns after the first ones finds their part of the least vector
 pub find-after : (first rest n : ℕ) → n ≡ first + rest → (p : List Bool → Bool) →
     find p (vectors rest) ≡ option_map (drop first) (find (λ v. p (drop first v)) (vectors n))
-find-after zero rest n is p = ap (λ w. find p (vectors w)) (sym (let e : n ≡ rest = omega (arith, is) in e)) ∙ sym (mapped-same (find p (vectors n)))
-  where
-    mapped-same : (o : Option (List Bool)) → option_map (drop 0) o ≡ o
-    mapped-same None = refl
-    mapped-same (Some v) = refl
+find-after zero rest n is p = grind arith
 find-after (suc first) rest zero is p = absurd (omega (arith, is))
-find-after (suc first) rest (suc n) is p =
-    find-after first rest n (omega (arith, is)) p
-    ∙ low (find (λ v. p (drop first v)) (vectors n))
-    ∙ sym (ap (option_map (drop (suc first))) (
-    find-append (λ v. p (drop (suc first) v)) (map (λ v. false ∷ v) (vectors n)) (map (λ v. true ∷ v) (vectors n))
-    ∙ ap₂ option_or (find-map (λ v. p (drop (suc first) v)) (λ v. false ∷ v) (vectors n)) (find-map (λ v. p (drop (suc first) v)) (λ v. true ∷ v) (vectors n))))
-  where
-    low : (o : Option (List Bool)) → option_map (drop first) o ≡ option_map (drop (suc first)) (option_or (option_map (λ (v : List Bool). false ∷ v) o) (option_map (λ (v : List Bool). true ∷ v) o))
-    low None = refl
-    low (Some v) = refl
+find-after (suc first) rest (suc n) is p = grind (arith, find-after first rest n, find-append, find-map)
 
 -- the least vector of permitted states outside the invariant
 pub initial-is : (net : Parts) (care : CareSet) (found : Option (List Bool)) → found ≡ find (λ v. starts net v && not (has_state_inside net care v)) (vectors (columns net)) →
     option_map (λ v. Initial (drop (length net.inputs) v)) found ≡ initial_refusal net care
-initial-is net care found is =
-    let p : List Bool → Bool = λ q. is_initial net q && not (is_in_invariant care q) in
-    ap (option_map (λ v. Initial (drop (length net.inputs) v))) is
-    ∙ mapped-twice Initial (drop (length net.inputs)) (find (λ v. p (state_of net v)) (vectors (columns net)))
-    ∙ ap (option_map Initial) (sym (find-after (length net.inputs) (length net.latches) (columns net) refl p)
-    ∙ sym (find-filter (λ q. not (is_in_invariant care q)) (is_initial net) (vectors (length net.latches))))
+initial-is net care found is = grind (arith, mapped-twice Initial (drop (length net.inputs)), find-after (length net.inputs) (length net.latches) (columns net), find-filter)
 
 -- ---- unknown gates
 
 pub unknown-values : (c one zero_ : Bool) → ((c && not one) && not zero_) ≡ (c && is_x (trit_of one zero_))
-unknown-values true true z = refl
-unknown-values true false true = refl
-unknown-values true false false = refl
-unknown-values false o z = refl
+unknown-values c o z = grind arith
 
 -- what the second difference costs
 pub unknown-nodes : (s t : Arena) (set first : Node) (rails : Rails) (w : ℕ) → KeepsNodes s t → IsNodeOf s rails.zero → ((v : List Bool) → den t first v ≡ difference s set rails.one v) →
     nodes s.vars (λ v. den s set v && is_x (value_of s rails v)) ≤ w → nodes t.vars (difference t first rails.zero) ≤ w
-unknown-nodes s t set first rails w keeps zero_in open_is fits =
-    let alike : nodes s.vars (difference t first rails.zero) ≡ nodes s.vars (λ v. den s set v && is_x (value_of s rails v)) =
-    nodes-alike s.vars (difference t first rails.zero) (λ v. den s set v && is_x (value_of s rails v))
-    (λ v wide. ap₂ (λ x y. x && not y) (open_is v) (keeps.function rails.zero v zero_in) ∙ unknown-values (den s set v) (den s rails.one v) (den s rails.zero v)) in
-    subst (λ k. nodes k (difference t first rails.zero) ≤ w) (sym keeps.vars) (omega (arith, alike, fits))
+unknown-nodes s t set first rails w keeps zero_in open_is fits = grind (arith, nodes-alike s.vars (difference t first rails.zero), unknown-values)
 
 -- the first place that passes
 first-place : {A : Type 0} (p : A → Bool) (xs : List A) (k : ℕ) (d : A) → k < length xs → p (get_or xs k d) ≡ true → ((j : ℕ) → j < k → p (get_or xs j d) ≡ false) → find p xs ≡ Some (get_or xs k d)
@@ -142,23 +107,14 @@ module _ (net : Parts) (care : CareSet) (what : Observe) where
 
   -- a gate that is known where it is observed
   passes-not : (k : ℕ) (d : Sig) → k < length net.gates → (is_among (observed net what) (gate_sig net k) ≡ true → IsKnownOnCare net care k) → seen_loose (get_or (gate_sigs net) k d) ≡ false
-  passes-not k d inside known =
-      ap seen_loose (gate_sig_at net k d inside) ∙ fails_after (is_among (observed net what) (gate_sig net k)) (is_loose net care (gate_sig net k)) (λ seen. known-loose net care k (known seen))
+  passes-not k d inside known = grind (arith, gate_sig_at net k d inside, fails_after (is_among (observed net what) (gate_sig net k)) (is_loose net care (gate_sig net k)), known-loose net care k)
 
   -- the first gate that is unknown and observed
   pub undetermined-found : (k : ℕ) (v : List Bool) → k < length net.gates → IsFirstToRefuse net care what k → find (is_unknown_at net care k) (vectors (columns net)) ≡ Some v →
       undetermined_refusal net care what ≡ Some (Undetermined v (gate_sig net k))
   undetermined-found k v inside is found =
       let none : Sig = gate_sig net k in
-      let here : get_or (gate_sigs net) k none ≡ gate_sig net k = gate_sig_at net k none inside in
-      let passes : seen_loose (gate_sig net k) ≡ true = ap₂ (λ x y. x && y) is.seen (some-unknown net care (gate_sig net k) ∙ ap (λ o. not (is_none o)) found) in
-      let first : find (is_loose net care) (observed_gates net what) ≡ Some (gate_sig net k) =
-      observed_test net what (is_loose net care)
-      ∙ first-place seen_loose (gate_sigs net) k none (omega (arith, length-gate_sigs net, inside)) (ap seen_loose here ∙ passes) (λ j less. passes-not j none (omega (arith, less, inside)) (is.before j less))
-      ∙ ap (λ s. Some s) here in
-      ap (option_map (λ (u : Sig × List Bool). Undetermined u.1 u.0)) (
-      ap (option_and_then (λ (s : Sig). option_map (λ (w : List Bool). let p : Sig × List Bool = (s, w) in p) (find (is_undetermined net s) (care_vectors net care)))) first
-      ∙ ap (option_map (λ (w : List Bool). let p : Sig × List Bool = (gate_sig net k, w) in p)) (care_test net care (is_undetermined net (gate_sig net k)) ∙ found))
+      grind (arith, gate_sig_at net k none inside, some-unknown net care (gate_sig net k), observed_test net what (is_loose net care), first-place seen_loose (gate_sigs net) k none, length-gate_sigs net, passes-not, care_test net care (is_undetermined net (gate_sig net k)))
 
   -- or none is
   pub undetermined-none : ((k : ℕ) → k < length net.gates → is_among (observed net what) (gate_sig net k) ≡ true → IsKnownOnCare net care k) → undetermined_refusal net care what ≡ None
@@ -172,12 +128,7 @@ module _ (net : Parts) (care : CareSet) (what : Observe) where
 -- one gate more, which is known or not marked
 pub known-more : (net : Parts) (care : CareSet) (marks : List Bool) (n : ℕ) → AreKnownBelow net care marks n → (get_or marks n false ≡ true → IsKnownOnCare net care n) →
     AreKnownBelow net care marks (n + 1)
-known-more net care marks n before here k less = elim (cases_lt k n) [
-  | inl low ↦ before k low
-  | inr high ↦
-      let same : n ≡ k = omega (arith, less, high) in
-      subst (λ m. get_or marks m false ≡ true → IsKnownOnCare net care m) same here
-]
+known-more net care marks n before here k less = grind arith
 
 -- ---- loose gates
 
@@ -186,26 +137,20 @@ abbrev pub loose_below : Parts → CareSet → ℕ → ℕ
 loose_below net care n = length (filter (is_loose net care) (take n (gate_sigs net)))
 
 loose-step : (net : Parts) (care : CareSet) (n : ℕ) → n < length net.gates → loose_below net care (n + 1) ≡ loose_below net care n + cond (is_loose net care (gate_sig net n)) 1 0
-loose-step net care n inside =
-    length-filter_more (is_loose net care) (gate_sigs net) n (gate_sig net n) (omega (arith, length-gate_sigs net, inside))
-    ∙ ap (λ s. loose_below net care n + cond (is_loose net care s) 1 0) (gate_sig_at net n (gate_sig net n) inside)
+loose-step net care n inside = grind (arith, length-filter_more (is_loose net care) (gate_sigs net) n (gate_sig net n), length-gate_sigs net, gate_sig_at net n (gate_sig net n) inside)
 
 -- one more that is
 pub loose-more : (net : Parts) (care : CareSet) (n loose : ℕ) → n < length net.gates → loose ≡ loose_below net care n →
     is_none (find (is_unknown_at net care n) (vectors (columns net))) ≡ false → loose + 1 ≡ loose_below net care (n + 1)
-loose-more net care n loose inside before found =
-    let is : is_loose net care (gate_sig net n) ≡ true = some-unknown net care (gate_sig net n) ∙ ap not found in
-    ap (λ m. m + 1) before ∙ sym (loose-step net care n inside ∙ ap (λ t. loose_below net care n + cond t 1 0) is)
+loose-more net care n loose inside before found = grind (arith, some-unknown net care (gate_sig net n), loose-step net care n inside)
 
 -- what isn't found
 pub none_found : (o : Option (List Bool)) → is_none o ≡ true → o ≡ None
-none_found None is = refl
-none_found (Some v) is = cc
+none_found o is = grind arith
 
 -- or isn't
 pub loose-same : (net : Parts) (care : CareSet) (n loose : ℕ) → n < length net.gates → loose ≡ loose_below net care n → IsKnownOnCare net care n → loose ≡ loose_below net care (n + 1)
-loose-same net care n loose inside before known =
-    before ∙ sym (loose-step net care n inside ∙ ap (λ t. loose_below net care n + cond t 1 0) (known-loose net care n known) ∙ omega arith)
+loose-same net care n loose inside before known = grind (arith, loose-step net care n inside, known-loose net care n known)
 
 -- all of them
 pub loose-all : (net : Parts) (care : CareSet) (n loose : ℕ) → length net.gates ≤ n → loose ≡ loose_below net care n → AreLoose net care loose
@@ -223,21 +168,15 @@ loose-none net care known = loose-all net care (length net.gates) 0 (omega arith
 
 -- what a care model reads
 reads-within : (net : Parts) (first width : ℕ) (o : Option CareModel) → IfSome o (IsBoundTo net first) → IfSome o (HasValues (replicate width false)) → IfSome o (ReadsWithin first width)
-reads-within net first width None bound has = tt
-reads-within net first width (Some model) bound has = record {
-  start = bound.start;
-  within = λ k d inside. let low = has.each k d inside in omega (arith, low, length-replicate width false, bound.start);
-}
+reads-within net first width o bound has = grind (arith, length-replicate)
 
 -- the invariant reads latches alone
 pub invariant-reads : (net : Parts) (care : CareSet) (width : ℕ) → IsCareOf net care → width ≡ length net.latches → IfSome care.invariant (ReadsWithin (length net.inputs) width)
-invariant-reads net care width bound is =
-    reads-within net (length net.inputs) width care.invariant bound.invariant (states_serve_invariant net care (replicate width false) bound (length-replicate width false ∙ is))
+invariant-reads net care width bound is = grind (arith, reads-within net (length net.inputs) width care.invariant bound.invariant, states_serve_invariant net care (replicate width false) bound, length-replicate width false)
 
 -- the assumption reads columns
 pub assume-reads : (net : Parts) (care : CareSet) (width : ℕ) → IsCareOf net care → width ≡ columns net → IfSome care.assume (ReadsWithin 0 width)
-assume-reads net care width bound is =
-    reads-within net 0 width care.assume bound.assume (vectors_serve_assume net care (replicate width false) bound (length-replicate width false ∙ is))
+assume-reads net care width bound is = grind (arith, reads-within net 0 width care.assume bound.assume, vectors_serve_assume net care (replicate width false) bound, length-replicate width false)
 
 -- where the invariant is asked of the next state at vectors of care, what is left are those that leave it
 pub leaving-value : {net : Parts} {care : CareSet} {a : Arena} {set : Node} (inside : Node) → a.vars ≡ columns net → Tells net a set (is_care_vector net care) → LoadsAreKnown net care →
@@ -247,9 +186,7 @@ leaving-value {net} {care} {a} {set} inside vars told loads inside_is v wide = b
   where
     by : (b : Bool) → den a set (laid net v) ≡ b → (b && not (den a inside (laid net v))) ≡ (b && leaves net care v)
     by false is = refl
-    by true is =
-        let counts : IsCareVector net care v = care_vector_decides net care v (wide ∙ vars) (sym (told.value v wide) ∙ is) in
-        ap not (inside_is (next_state net v) v wide is (next_state_is net v (loads v counts)))
+    by true is = grind (arith, care_vector_decides net care v, next_state_is net v)
 
 -- the refusal is that of the first vector that leaves
 pub leaves-is : (net : Parts) (care : CareSet) {found : Option (List Bool)} → find (is_leaving net care) (vectors (columns net)) ≡ found → leaves_refusal net care ≡ option_map (λ v. Leaves v (next_state net v)) found
@@ -257,8 +194,4 @@ leaves-is net care is = ap (option_map (λ v. Leaves v (next_state net v))) (car
 
 -- the rails of signals stay so where nodes are kept
 pub AreFixed-kept : {net : Parts} {s t : Arena} {rails : List Rails} → KeepsNodes s t → AreFixed net s rails → AreFixed net t rails
-AreFixed-kept {net} {s} {t} {rails} k is = record {
-  width = is.width;
-  proper = All-rails-kept k rails is.proper;
-  values = λ v wide. values_of-kept k rails is.proper (laid net v) ∙ is.values v (wide ∙ k.vars);
-}
+AreFixed-kept {net} {s} {t} {rails} k is = grind (arith, All-rails-kept k rails is.proper, values_of-kept k rails is.proper)

@@ -16,11 +16,7 @@ use Rattle.verdict.proofs.WorkLemmas.{there_each}
 pub never-fed : (net : Parts) → IsNetlist net → (blocks : Blocks) → AreBlocksOf net blocks → (settled candidates known : List Bool) → SettleInOneSweep net blocks settled →
     AreCandidates net blocks settled candidates → known ≡ map not candidates → AreNeverUnknown net known
 never-fed net valid blocks are settled candidates known soon all known_is v wide n within marked =
-    unsettled_loops_decide net blocks (is_marked settled) valid are (λ b inside loop mark. (soon b inside loop mark).alone) v wide n within
-    (λ m less up loop unsettled. absurd (true≢false (
-    sym (all.each n within (record { gate = m; opened = record { within = less; looped = loop; unsettled = unsettled }; upstream = up }))
-    ∙ not-true (is_marked candidates n)
-    (sym (ap (λ (ms : List Bool). get_or ms n false) known_is ∙ get_or-map not candidates n false false (let w = all.width in omega (arith, within, w))) ∙ marked))))
+    grind (arith, unsettled_loops_decide net blocks (is_marked settled) valid are, true≢false, not-true (is_marked candidates n), get_or-map not candidates n false false)
 
 -- a cone has with each gate those that feed it
 pub cone_closes : (net : Parts) (gates : List ℕ) (marks : List Bool) → IsConeOf net gates marks → AreClosed net marks

@@ -24,10 +24,7 @@ pub least-first : (n : ℕ) (f : List Bool → Bool) (v : List Bool) → length 
 least-first n f v wide least = by_found (find f (vectors n)) refl
   where
     by_found : (o : Option (List Bool)) → find f (vectors n) ≡ o → find f (vectors n) ≡ Some v
-    by_found None is = absurd (true≢false (sym least.true_there ∙ none_passes n f v is wide))
-    by_found (Some u) is =
-        let wide_u : length u ≡ n = found_wide n f u is in
-        is ∙ ap (λ w. Some w) (sym (same_vectors v u (wide ∙ sym wide_u) (least.before_all u (wide_u ∙ sym wide) (found_passes f (vectors n) u is)) (found_least n f u v is wide least.true_there)))
+    by_found o is = grind (arith, true≢false, none_passes, found_wide, same_vectors, found_passes, found_least)
 
 -- the constant false finds nothing
 pub never-none : (a : Arena) (columns : List ℕ) (n : Node) → n ≡ constant false → find (λ v. den a n (by_variable columns v)) (vectors a.vars) ≡ None
@@ -46,24 +43,9 @@ none-never a lawful columns layout n in_n none =
 -- the test for the constant false
 pub never_is : (a : Arena) → IsLawful a → (n c : Node) → IsNodeOf a n → c ≡ constant false → (r : Bool) → r ≡ (n.number == c.number) →
     (columns : List ℕ) → IsLayout a.vars columns → r ≡ is_none (find (λ v. den a n (by_variable columns v)) (vectors a.vars))
-never_is a lawful n c in_n c_is true is columns layout =
-    let same : n ≡ c = ap (λ (k : ℕ). let m : Node = record { number = k } in m) (eqb-true n.number c.number (sym is)) in
-    sym (ap is_none (never-none a columns n (same ∙ c_is)))
-never_is a lawful n c in_n c_is false is columns layout = by_found (find (λ v. den a n (by_variable columns v)) (vectors a.vars)) refl
-  where
-    by_found : (o : Option (List Bool)) → find (λ v. den a n (by_variable columns v)) (vectors a.vars) ≡ o → false ≡ is_none (find (λ v. den a n (by_variable columns v)) (vectors a.vars))
-    by_found (Some v) found = sym (ap is_none found)
-    by_found None found =
-        let same : n ≡ c = none-never a lawful columns layout n in_n found ∙ sym c_is in
-        absurd (true≢false (sym (is ∙ eq-eqb n.number c.number (ap (λ (m : Node). m.number) same))))
+never_is a lawful n c in_n c_is h is columns layout = grind (arith, eqb-true, never-none, none-never, true≢false, eq-eqb)
 
 -- what the choice of a difference costs
 pub difference-is_choice : (a : Arena) (m n never : Node) → never ≡ constant false → (v : List Bool) → if_then_else a n never m v ≡ difference a m n v
 unfolding den_within
-difference-is_choice a m n never is v = by (den a n v) (den a m v) (den a never v) (ap (λ (k : Node). den a k v) is)
-  where
-    by : (x y z : Bool) → z ≡ false → (if x then z else y) ≡ (y && not x)
-    by true true z e = e
-    by true false z e = e
-    by false true z e = refl
-    by false false z e = refl
+difference-is_choice a m n never is v = grind arith

@@ -1,5 +1,5 @@
 -- A function has at least as many nodes as it has with some first bits fixed.
-use Rattle.std.proofs.Common.{◌≡◌, ℕ, ◌≤◌, Bool, true, false, cond, ◌||◌, List, [], ◌∷◌, refl, ap, ◌∙◌}
+use Rattle.std.proofs.Common.{◌≡◌, ℕ, ◌≤◌, Bool, true, false, cond, ◌||◌, List, [], ◌∷◌, refl, ap, ◌∙◌, arith}
 use Rattle.std.proofs.lemmas.Map.Made.{is_member-Decides}
 use Rattle.std.specs.Set.{is_member, unique_keys}
 use Rattle.verdict.proofs.Common.{nodes}
@@ -10,14 +10,7 @@ use Rattle.dual_rail.proofs.SizeLemmas.{nodes-at_most}
 
 keys-member : (ts : List (List Bool)) (q : List Bool) → is_member table_eq ts q ≡ true → is_member table_eq (unique_keys table_eq ts) q ≡ true
 keys-member [] q h = h
-keys-member (t ∷ ts) q h = by (is_member table_eq ts t) (table_eq q t) refl refl h (keys-member ts q)
-  where
-    by : (b c : Bool) → is_member table_eq ts t ≡ b → table_eq q t ≡ c → (c || is_member table_eq ts q) ≡ true → (is_member table_eq ts q ≡ true → is_member table_eq (unique_keys table_eq ts) q ≡ true) →
-        is_member table_eq (cond b (unique_keys table_eq ts) (t ∷ unique_keys table_eq ts)) q ≡ true
-    by true true again same g rest = rest (ap (is_member table_eq ts) ((table_decides q t).0 same) ∙ again)
-    by true false again other g rest = rest g
-    by false true new same g rest = ap (λ v. v || is_member table_eq (unique_keys table_eq ts) q) same
-    by false false new other g rest = ap (λ v. v || is_member table_eq (unique_keys table_eq ts) q) other ∙ rest g
+keys-member (t ∷ ts) q h = grind (arith, keys-member ts q, table_decides q t)
 
 pub nodes-part : (vars : ℕ) (f g : List Bool → Bool) → IsPart vars f g → nodes vars g ≤ nodes vars f
 unfolding nodes

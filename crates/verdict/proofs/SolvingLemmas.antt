@@ -13,28 +13,15 @@ use Rattle.fixpoint.proofs.KeptLemmas.{All-rails-gained}
 
 module _ {s t : Arena} (gains : GainsRoots s t) (given : List Rails) (kept : List KeptRails) (is : map (rails_under t) kept ≡ given) where
   pub given-kept : (net : Parts) → length given ≡ first_gate net → All (AreRailsOf s) given → All (AreKept t) kept → AreGiven net t kept
-  given-kept net width proper keys = record {
-    width = sym (length-map {B = Rails} kept (rails_under t)) ∙ ap length is ∙ width;
-    keys = keys;
-    proper = subst (All (AreRailsOf t)) (sym is) (All-rails-gained gains given proper);
-  }
+  given-kept net width proper keys = grind (arith, length-map {B = Rails} kept (rails_under t), All-rails-gained gains given proper)
 
   -- they stand for the same vectors
   pub values-before : values_under t kept ≡ values_of s given
-  values-before =
-      let by_rails : List Rails → Vectors = λ rails bits. values_of t rails bits in
-      let by_entries : List Entry → Vectors = λ es bits. map {B = Trit} (λ r. trit_of (node_value es r.one bits) (node_value es r.zero bits)) given in
-      ap by_rails is ∙ ap by_entries gains.entries
+  values-before = grind arith
 
 -- roots that came before a call count for nothing
 pub adds_before : {T : Type 0} {r : Result T StoreFault} {s t u : Arena} {cause bounds : ℕ → Type 0} {count : ℕ} → GainsRoots s t → AddsWithin r t u cause bounds count → AddsWithin r s u cause bounds count
-adds_before {cause = cause} gains a = record {
-  added = λ w b. omega (arith, a.added w b, ap length gains.entries);
-  full = λ w b e. elim (a.full w b e) [
-    | inl other ↦ inl (subst cause gains.limit other)
-    | inr past ↦ inr (record { full = past.full; past = omega (arith, past.past, ap length gains.entries) })
-  ];
-}
+adds_before {cause = cause} gains a = grind arith
 
 -- ---- after it
 

@@ -30,14 +30,12 @@ may_start_at net column b = may_start (get_or (inits_of net) column inits.Either
 pub input-may : (net : Parts) (column : ℕ) (b : Bool) → column < length net.inputs → may_start_at net column b ≡ true
 input-may net column b low =
     let free : List Init = replicate (length net.inputs) inits.Either in
-    ap (λ (i : Init). may_start i b) (get_or_append_left free (map (λ (l : Latch). l.init) net.latches) inits.Either column (omega (arith, low, length-replicate (length net.inputs) inits.Either))
-    ∙ get_or-replicate (length net.inputs) column inits.Either inits.Either low)
+    grind (arith, get_or_append_left free, length-replicate (length net.inputs) inits.Either, get_or-replicate (length net.inputs) column inits.Either inits.Either low)
 
 pub latch-may : (net : Parts) (i : ℕ) (d : Latch) (b : Bool) → i < length net.latches → may_start_at net (length net.inputs + i) b ≡ may_start (get_or net.latches i d).init b
 latch-may net i d b inside =
     let free : List Init = replicate (length net.inputs) inits.Either in
-    ap (λ n. may_start_at net (n + i) b) (sym (length-replicate (length net.inputs) inits.Either))
-    ∙ ap (λ (x : Init). may_start x b) (get_or-append-add free (map (λ (l : Latch). l.init) net.latches) i inits.Either ∙ get_or-map (λ (l : Latch). l.init) net.latches i d inits.Either inside)
+    grind (arith, length-replicate (length net.inputs) inits.Either, get_or-append-add free, get_or-map)
 
 -- and so may each of these
 abbrev pub all_may_start_at : Parts → List ℕ → List Bool → Bool
@@ -53,9 +51,7 @@ pub record TellsLater (net : Parts) (a : Arena) (set : Node) (k : ℕ) : Type 0 
 -- one column, and those after it
 pub next_column : (net : Parts) (w : List Bool) (m k : ℕ) → m ≡ k + 1 → k < columns net → length w ≡ columns net →
     all_may_start_at net (drop k (order net)) (drop k w) ≡ (may_start_at net (get_or (order net) k 0) (get_or w k false) && all_may_start_at net (drop m (order net)) (drop m w))
-next_column net w m k m_is inside wide =
-    ap₂ (all_may_start_at net) (drop_more (order net) k 0 (omega (arith, (order-is net).long, inside))) (drop_more w k false (omega (arith, wide, inside)))
-    ∙ ap (λ j. may_start_at net (get_or (order net) k 0) (get_or w k false) && all_may_start_at net (drop j (order net)) (drop j w)) (sym m_is)
+next_column net w m k m_is inside wide = grind (arith, drop_more (order net) k 0, order-is net, drop_more w k false)
 
 -- the value of a variable's column
 pub variable-bit : (net : Parts) (a : Arena) (rails : List Rails) (k : ℕ) (w : List Bool) → a.vars ≡ columns net → AreColumns a (order net) rails → k < columns net → length w ≡ a.vars →
@@ -63,17 +59,7 @@ pub variable-bit : (net : Parts) (a : Arena) (rails : List Rails) (k : ℕ) (w :
 variable-bit net a rails k w vars are inside wide =
     let c : ℕ = get_or (order net) k 0 in
     let v : List Bool = vector_of net w in
-    let layout = order-is net in
-    let low : c < columns net = layout.within k inside in
-    let lv = length-vector_of net w in
-    let lo = layout.long in
-    let wr = are.width in
-    let back : laid net v ≡ w = laid-vector_of net w (wide ∙ vars) in
-    value_at-place a rails c w (omega (arith, wr, vars, low))
-    ∙ ap (λ (u : List Bool). get_or (values_of a rails u) c X) (sym back)
-    ∙ ap (λ (ts : List Trit). get_or ts c X) (are.values v (lv ∙ sym vars))
-    ∙ get_or-map bit v c false X (omega (arith, lv, low))
-    ∙ ap bit (sym (by_variable-read (order net) v k (omega (arith, lo, inside))) ∙ ap (λ (u : List Bool). get_or u k false) back)
+    grind (arith, order-is net, length-vector_of net w, laid-vector_of net w, value_at-place a rails c w, get_or-map bit v c false X, by_variable-read (order net) v k)
 
 -- ---- all columns are the state
 
@@ -94,10 +80,7 @@ module _ (net : Parts) (v : List Bool) (wide : length v ≡ columns net) where
   unfolding state_pairs
   pair-is i d inside =
       let state : List Bool = state_of net v in
-      let low : i < length state = omega (arith, inside, wide, length-drop (length net.inputs) v) in
-      ap (λ (p : Latch × Bool). may_start p.0.init p.1) (get_or-zip net.latches state i d inside low)
-      ∙ sym (latch-may net i d.0 (get_or state i d.1) inside)
-      ∙ ap (may_start_at net (length net.inputs + i)) (get_or_default state i d.1 false low ∙ get_or-drop (length net.inputs) v i false)
+      grind (arith, length-drop (length net.inputs) v, get_or-zip net.latches state i d inside, latch-may net i d.0 (get_or state i d.1) inside, get_or_default state i d.1 false, get_or-drop (length net.inputs) v i false)
 
   columns-state : AllPass (starts_at net v) (order net) → starts net v ≡ true
   unfolding state_pairs
@@ -136,9 +119,7 @@ permitted inits.One = true
 permitted inits.Either = true
 
 permitted-may : (init : Init) → may_start init (permitted init) ≡ true
-permitted-may inits.Zero = refl
-permitted-may inits.One = refl
-permitted-may inits.Either = refl
+permitted-may init = grind arith
 
 abbrev permitted_at : Parts → ℕ → Bool
 permitted_at net c = permitted (get_or (inits_of net) c inits.Either)
@@ -154,28 +135,13 @@ permitted-first net (suc k) (c ∷ cs) [] =
     ∙ ap (λ (w : List Bool). all_may_start_at net cs (map (permitted_at net) (take k cs) ++ w)) (sym (drop-nil k))
     ∙ permitted-first net k cs []
     ∙ ap (all_may_start_at net (drop k cs)) (drop-nil k)
-permitted-first net (suc k) (c ∷ cs) (b ∷ w) =
-    ap (λ t. t && all_may_start_at net cs (map (permitted_at net) (take k cs) ++ drop k w)) (permitted_at-may net c) ∙ permitted-first net k cs w
+permitted-first net (suc k) (c ∷ cs) (b ∷ w) = grind (arith, permitted_at-may net c, permitted-first net k cs w)
 
 later-part : (net : Parts) (k : ℕ) → k ≤ columns net → IsPart (columns net) (all_may_start_at net (order net)) (λ w. all_may_start_at net (drop k (order net)) (drop k w))
-later-part net k few =
-    let first : List Bool = map (permitted_at net) (take k (order net)) in
-    let long : length first ≡ k = length-map (take k (order net)) (permitted_at net) ∙ length-take-le k (order net) (omega (arith, (order-is net).long, few)) in
-    record {
-      first = first;
-      short = omega (arith, long, few);
-      same = λ w wide. sym (ap (λ j. all_may_start_at net (order net) (first ++ drop j w)) long ∙ permitted-first net k (order net) w);
-    }
+later-part net k few = grind (arith, length-map (take k (order net)) (permitted_at net), length-take-le k (order net), order-is net, permitted-first net k (order net))
 
 -- so making it costs no more
 pub later-nodes : (net : Parts) (s : Arena) (set one : Node) (k w : ℕ) → k ≤ columns net → s.vars ≡ columns net →
     ((v : List Bool) → length v ≡ s.vars → conjunction s one set v ≡ all_may_start_at net (drop k (order net)) (drop k v)) →
     BoundsStarts net w → nodes s.vars (conjunction s one set) ≤ w
-later-nodes net s set one k w few vars both bounds =
-    let part = nodes-part (columns net) (all_may_start_at net (order net)) (λ v. all_may_start_at net (drop k (order net)) (drop k v)) (later-part net k few) in
-    let most = bounds (all_may_start_at net (order net)) (starts-laid net) in
-    let alike : nodes s.vars (conjunction s one set) ≡ nodes s.vars (λ v. all_may_start_at net (drop k (order net)) (drop k v)) =
-    nodes-alike s.vars (conjunction s one set) (λ v. all_may_start_at net (drop k (order net)) (drop k v)) both in
-    let width : nodes s.vars (λ v. all_may_start_at net (drop k (order net)) (drop k v)) ≡ nodes (columns net) (λ v. all_may_start_at net (drop k (order net)) (drop k v)) =
-    ap (λ n. nodes n (λ v. all_may_start_at net (drop k (order net)) (drop k v))) vars in
-    omega (arith, part, alike, width, most)
+later-nodes net s set one k w few vars both bounds = grind (arith, nodes-part (columns net) (all_may_start_at net (order net)), later-part net k few, starts-laid net, nodes-alike s.vars (conjunction s one set))

@@ -1,5 +1,5 @@
 -- How the parts make the verdict.
-use Rattle.std.proofs.Common.{◌≡◌, ◌+◌, Bool, List, [], length, map, drop, Option, Some, None, refl, sym, ap, ap₂, ◌∙◌}
+use Rattle.std.proofs.Common.{◌≡◌, ◌+◌, Bool, List, [], length, map, drop, Option, Some, None, refl, sym, ap, ap₂, ◌∙◌, arith}
 use Rattle.verdict.proofs.Common.{find, is_none, option_or, Arena, bit, bits, Rails, value_of, values_of, Parts, IsNetlist, fix, fix_gates, Blocks, Cut, rails_under, Vectors, IsSolution, AreColumnVectors, CareSet, columns, state_of, is_care_vector, Refusal, EmptyCare, Observe, initial_refusal, undetermined_refusal, leaves_refusal, refusal, vectors, empty-filter, AreFixed, AreColumns, order, laid}
 use Rattle.std.specs.Prelude.{if◌then◌else◌}
 use Rattle.std.proofs.lemmas.List.{length-append, drop-map}
@@ -14,23 +14,17 @@ use Rattle.verdict.specs.Verdicts.{refusal_on_care}
 -- ---- which part decides
 
 pub refused-initial : (net : Parts) (care : CareSet) (what : Observe) (r : Refusal) → Some r ≡ initial_refusal net care → refusal net care what ≡ Some r
-refused-initial net care what r is =
-    ap (λ o. option_or o (option_or (empty_refusal net care) (option_or (undetermined_refusal net care what) (option_or (leaves_refusal net care) None)))) (sym is)
+refused-initial net care what r is = grind arith
 
 pub refused-empty : (net : Parts) (care : CareSet) (what : Observe) → initial_refusal net care ≡ None → empty_refusal net care ≡ Some EmptyCare → refusal net care what ≡ Some EmptyCare
-refused-empty net care what initial is =
-    ap₂ (λ o p. option_or o (option_or p (option_or (undetermined_refusal net care what) (option_or (leaves_refusal net care) None)))) initial is
+refused-empty net care what initial is = grind arith
 
 care-whole : (u l : Option Refusal) → option_or u (option_or l None) ≡ option_or u l
-care-whole (Some r) l = refl
-care-whole None None = refl
-care-whole None (Some r) = refl
+care-whole u l = grind arith
 
 pub refused-on-care : (net : Parts) (care : CareSet) (what : Observe) (found : Option Refusal) → initial_refusal net care ≡ None → empty_refusal net care ≡ None → refusal_on_care net care what ≡ found →
     refusal net care what ≡ found
-refused-on-care net care what found initial empty is =
-    ap₂ (λ o p. option_or o (option_or p (option_or (undetermined_refusal net care what) (option_or (leaves_refusal net care) None)))) initial empty
-    ∙ care-whole (undetermined_refusal net care what) (leaves_refusal net care) ∙ is
+refused-on-care net care what found initial empty is = grind arith
 
 pub accepts-is : (net : Parts) (care : CareSet) (what : Observe) → IsNetlist net → refusal net care what ≡ None → Accepts net care what
 accepts-is net care what valid none = (accepted_without_refusal net care what valid).0 none
@@ -44,11 +38,7 @@ empty-is net care b is = ap (λ t. let nothing : Option Refusal = None in if t t
 -- the latches' columns stand for the state
 pub state-values : (net : Parts) (a : Arena) (rails latches : List Rails) (v : List Bool) → AreColumns a (order net) rails → latches ≡ drop (length net.inputs) rails → length v ≡ a.vars →
     values_of a latches (laid net v) ≡ bits (state_of net v)
-state-values net a rails latches v are is wide =
-    ap (λ (l : List Rails). values_of a l (laid net v)) is
-    ∙ sym (drop-map (λ (r : Rails). value_of a r (laid net v)) (length net.inputs) rails)
-    ∙ ap (drop (length net.inputs)) (are.values v wide)
-    ∙ drop-map bit (length net.inputs) v
+state-values net a rails latches v are is wide = grind (arith, drop-map, drop-map bit (length net.inputs) v)
 
 -- ---- the fixpoint at the columns
 

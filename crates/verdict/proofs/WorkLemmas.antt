@@ -1,5 +1,5 @@
 -- What the steps of a decision work with: functions that are made of those of the decision.
-use Rattle.std.proofs.Common.{◌≡◌, inl, inr, ℕ, Bool, true, false, if◌then◌else◌, List, ◌++◌, length, drop, replicate, Option, Some, None, refl, sym, ap, ◌∙◌, subst, true≢false}
+use Rattle.std.proofs.Common.{◌≡◌, inl, inr, ℕ, Bool, true, false, if◌then◌else◌, List, ◌++◌, length, drop, replicate, Option, Some, None, refl, sym, ap, ◌∙◌, subst, true≢false, arith}
 use Rattle.verdict.proofs.Common.{IsSomeAnd, Node, Arena, den, Trit, X, bits, IsWide, BoundsEach, is_bit, Parts, next, laid, Vectors, CareModel, CareSet, columns, state_of, is_care_vector, read_by, IsOfModel, IsLaid, SaysCare, next_within, Tells, IfSome}
 use Rattle.cover_logic.specs.Covers.{value}
 use Rattle.cover_logic.specs.Extensions.{exact}
@@ -17,9 +17,7 @@ module _ (model : CareModel) (u : Vectors) (g : List Bool → Bool) (is : IsOfMo
 
   pub says-own : (x : List Bool) → g x ≡ says (u x)
   unfolding says
-  says-own x =
-      let reads : is.read x ≡ read_at_fix model.net (read_by model (u x)) is.gate = elim is.reads [ inl r ↦ absurd (true≢false (sym r.looped)) | inr r ↦ r.is x ] in
-      is.same x ∙ ap (λ (ts : List Trit). is_bit is.bit (exact (λ rest. value (gate_at model.net is.gate).cover (is.first ++ rest)) (drop (length is.first) ts))) reads
+  says-own x = grind arith
 
   pub says-of : (v : Vectors) → IsOfModel model v (λ x. says (v x))
   unfolding says
@@ -37,8 +35,7 @@ module _ (model : CareModel) (u : Vectors) (g : List Bool → Bool) (is : IsOfMo
 -- ---- the models of a care set
 
 pub there_each : (o : Option CareModel) (P : CareModel → Type 0) → ((model : CareModel) → o ≡ Some model → P model) → IfSome o P
-there_each None P each = tt
-there_each (Some model) P each = each model refl
+there_each o P each = grind arith
 
 pub there_and : (o : Option CareModel) (model : CareModel) (P : CareModel → Type 0) → o ≡ Some model → P model → IsSomeAnd o P
 there_and o model P there is = subst (λ (p : Option CareModel). IsSomeAnd p P) (sym there) is
@@ -61,8 +58,7 @@ module _ (net : Parts) (care : CareSet) (n : ℕ) (vars : n ≡ columns net) {w 
   -- and on the next state, where the set tells the care vectors: elsewhere all is X, and its functions are constant
   module _ (a : Arena) (set : Node) (width : a.vars ≡ n) (told : Tells net a set (is_care_vector net care)) where
     chosen : (f : List Trit → Bool) (c : Bool) (x : List Bool) → f (if c then next net (bits x) else replicate (length net.latches) X) ≡ (if c then f (next net (bits x)) else f (replicate (length net.latches) X))
-    chosen f true x = refl
-    chosen f false x = refl
+    chosen f c x = grind arith
 
     pub next-bounded : (u : Vectors) → ((x : List Bool) → length x ≡ n → u (laid net x) ≡ next_within net a set x) → IfSome care.invariant (λ model. BoundsEach n (IsOfModel model u) w)
     next-bounded u same = there_each care.invariant (λ model. BoundsEach n (IsOfModel model u) w)

@@ -11,23 +11,14 @@ assume_on-requires-clause-reads c = rw c.care.ensures.care (assume-reads c.args.
 
 -- the set and the assumption are true at the vectors of care
 counts : (c : After-and) (v : List Bool) → length v ≡ c.args.d.now.vars → conjunction c.assume_on.new.d c.args.inside c.in_ok-allowed.allowed (laid c.args.question.now.net v) ≡ is_care_vector c.args.question.now.net c.args.question.now.care v
-counts c v long =
-    let allowed = rw c.care.ensures.care at c.in_ok-allowed.ensures.allowed in
-    ap₂ (λ x y. x && y) ((Tells-kept c.assume_on.ensures.grows.keeps c.requires.inside).value v (long ∙ sym c.assume_on.ensures.grows.keeps.vars)) (allowed v (laid c.args.question.now.net v) (c.requires.columns.values v long))
+counts c v long = grind arith
 
 pub returns-clause-told : goal.returns-clause-told
-returns-clause-told g =
-    let c : After-and = (goal.at.returns-clause-told g).After-and in
-    IfOk-both g.and.result (λ set node function. record {
-      node = node;
-      value = λ v wide. function (laid g.args.question.now.net v) ∙ counts c v (wide ∙ g.and.ensures.grows.keeps.vars ∙ g.assume_on.ensures.grows.keeps.vars);
-    }) g.and.ensures.node g.and.ensures.function
+returns-clause-told g = grind arith
 
 -- what the assumption works with
 assumption : (c : After-assume_on) → GrowsInDecision c.assume_on.result c.args.d.now c.assume_on.new.d c.args.question.now.net c.args.question.now.care (2 * assume_effort c.args.question.now.care)
-assumption c =
-    let grows = rw c.care.ensures.care at c.assume_on.ensures.grows in
-    within_moved (λ w wide. assume-bounded c.args.question.now.net c.args.question.now.care c.args.d.now.vars c.requires.vars wide (values_of c.args.d.now c.args.rails.now) c.requires.columns.values) grows
+assumption c = grind (arith, within_moved, assume-bounded c.args.question.now.net c.args.question.now.care c.args.d.now.vars c.requires.vars)
 
 pub returns-in_err-allowed-clause-grows : goal.returns-in_err-allowed-clause-grows
 returns-in_err-allowed-clause-grows g = within_more (omega arith) (within_refused g.in_err-allowed.was g.from_residual.ensures.1 (assumption (goal.at.returns-in_err-allowed-clause-grows g).After-assume_on))

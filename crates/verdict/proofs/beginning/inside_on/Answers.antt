@@ -12,9 +12,7 @@ abbrev latches : (c : After-invariant_on) → List Rails
 latches c = take (length c.args.rails.now - c.inputs-first.result) (drop c.inputs-first.result c.args.rails.now)
 
 values : (c : After-invariant_on) (v : List Bool) → length v ≡ c.args.d.now.vars → values_of c.args.d.now (latches c) (laid c.args.question.now.net v) ≡ bits (state_of c.args.question.now.net v)
-values c v long =
-    let first = rw c.net.ensures.net at c.inputs-first.ensures.inputs in
-    state-values c.args.question.now.net c.args.d.now c.args.rails.now (latches c) v c.requires.columns (take_rest c.args.rails.now c.inputs-first.result ∙ ap (λ n. drop n c.args.rails.now) first) long
+values c v long = grind (arith, state-values c.args.question.now.net c.args.d.now c.args.rails.now (latches c) v c.requires.columns, take_rest c.args.rails.now c.inputs-first.result)
 
 pub invariant_on-requires-clause-reads : goal.invariant_on-requires-clause-reads
 invariant_on-requires-clause-reads c =
@@ -38,5 +36,4 @@ pub returns-clause-grows : goal.returns-clause-grows
 returns-clause-grows g =
     let c : After-invariant_on = (goal.at.returns-clause-grows g).After-invariant_on in
     let q = g.args.question.now in
-    let grows = rw g.care.ensures.care at g.invariant_on.ensures.grows in
-    within_moved (λ w wide. invariant-bounded q.net q.care g.args.d.now.vars g.requires.vars wide (values_of g.args.d.now (latches c)) (values c)) grows
+    grind (arith, After-invariant_on, within_moved, invariant-bounded q.net q.care g.args.d.now.vars g.requires.vars, values c)

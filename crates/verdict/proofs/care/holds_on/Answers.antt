@@ -8,8 +8,7 @@ use Rattle.verdict.proofs.care.holds_on.Goals as goal
 use Rattle.verdict.proofs.care.holds_on.Goals.{After-lift_gates}
 
 pub lift_gates-requires-clause-rails : goal.lift_gates-requires-clause-rails
-lift_gates-requires-clause-rails c =
-    inputs-proper c.args.d.now c.args.columns.now c.args.first c.args.rails.now c.deref.result.now c.requires.rails (c.deref.ensures.value ∙ c.in-Ok.ensures)
+lift_gates-requires-clause-rails c = grind (arith, inputs-proper c.args.d.now c.args.columns.now c.args.first c.args.rails.now c.deref.result.now c.requires.rails)
 
 -- what the lift of the model works with
 bounded : (c : After-lift_gates) (w : ℕ) → BoundsEach c.args.d.now.vars (IsOfModel (model_of c.args.model.now c.args.first c.args.columns.now) (values_of c.args.d.now c.args.rails.now)) w →

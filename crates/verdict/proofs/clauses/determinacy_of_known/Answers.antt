@@ -1,3 +1,4 @@
+use Rattle.std.proofs.Common.{arith}
 use Rattle.verdict.proofs.DeterminationLemmas.{determination-is, open-determine, some_vector}
 use Rattle.verdict.proofs.clauses.determinacy_of_known.Goals as goal
 
@@ -14,7 +15,4 @@ pub returns-in-Some : goal.returns-in-Some
 returns-in-Some c what =
     let s = c.args.search.now in
     let is = c.laws.ensures.is in
-    determination-is s.net s.blocks s.cut s.care what c.in-Some.sweeps (record {
-      determined = open-determine s.net is.net s.blocks is.blocks s.care s.settled is.settled c.requires.known;
-      sweeps = rw c.in-Some.is at c.in_ok-sweeps.ensures;
-    })
+    grind (arith, determination-is s.net s.blocks s.cut s.care what c.in-Some.sweeps, open-determine s.net is.net s.blocks is.blocks s.care s.settled is.settled c.requires.known)

@@ -1,4 +1,4 @@
-use Rattle.std.proofs.Common.{Some, None, ap₂}
+use Rattle.std.proofs.Common.{Some, None, ap₂, arith}
 use Rattle.refusals.proofs.LawLemmas.{sources_determined}
 use Rattle.verdict.proofs.Common.{option_or}
 use Rattle.verdict.proofs.VerdictLemmas.{accepts-is, refused-on-care}
@@ -10,17 +10,8 @@ invariance_of-requires c v counts = sources_determined c.args.search.now.net c.a
 pub returns-in-Stays : goal.returns-in-Stays
 returns-in-Stays c =
     let s = c.args.search.now in
-    let stays = rw c.in-Stays.is at c.in_ok-invariance_of.ensures in
-    record {
-      accepts = accepts-is s.net s.care c.args.observe c.laws.ensures.is.net
-          (refused-on-care s.net s.care c.args.observe None c.requires.begins.initial c.requires.begins.some (ap₂ option_or c.requires.determined.number.none stays));
-      sweeps = c.requires.determined.sweeps;
-      loose_is = c.requires.determined.number.number;
-    }
+    grind (arith, accepts-is s.net s.care c.args.observe c.laws.ensures.is.net, refused-on-care s.net s.care c.args.observe None c.requires.begins.initial c.requires.begins.some)
 
 -- a next state that leaves the invariant refuses the netlist
 pub returns-in-Leaves : goal.returns-in-Leaves
-returns-in-Leaves c =
-    let s = c.args.search.now in
-    let leaves = rw c.in-Leaves.is at c.in_ok-invariance_of.ensures in
-    refused-on-care s.net s.care c.args.observe (Some c.in-Leaves.refusal) c.requires.begins.initial c.requires.begins.some (ap₂ option_or c.requires.determined.number.none leaves)
+returns-in-Leaves c = grind arith

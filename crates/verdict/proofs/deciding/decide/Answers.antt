@@ -1,4 +1,4 @@
-use Rattle.std.proofs.Common.{◌≡◌, Err, length, ap, subst, ◌∙◌, rules}
+use Rattle.std.proofs.Common.{◌≡◌, Err, length, ap, subst, ◌∙◌, rules, arith}
 use Rattle.verdict.proofs.Common.{StoreFault, Looped, IsFullFor}
 use Rattle.verdict.specs.Questions.{Asked}
 use Rattle.verdict.proofs.CauseLemmas.{out_of_nodes, below_enough}
@@ -6,10 +6,7 @@ use Rattle.verdict.proofs.deciding.decide.Goals as goal
 use Rattle.verdict.proofs.deciding.decide.Goals.{In-Err-Full}
 
 full : (c : In-Err-Full) → IsFullFor c.start.new.self c.decide_on.new.d c.args.net.now c.args.care.now
-full c =
-    subst (λ (l : Looped). IsFullFor c.start.new.self c.decide_on.new.d l.net c.args.care.now) c.new-looped.ensures
-    (subst (λ (q : Asked). IsFullFor c.start.new.self c.decide_on.new.d q.net q.care) c.new-question.ensures
-    (c.decide_on.ensures.full (c.in-Err-Full.is ∙ ap {A = StoreFault} Err c.in-Err-Full.field-0-is)))
+full c = grind arith
 
 -- the diagrams were begun anew
 same_limit : (c : In-Err-Full) → c.start.new.self.limit ≡ c.args.limit

@@ -19,5 +19,4 @@ returns-in-Refused-clause-adds g =
     (adds_answered (decision-adds g.requires.vars g.begin.ensures.grows))
 
 pub returns-in-Care-clause-adds : goal.returns-in-Care-clause-adds
-returns-in-Care-clause-adds g =
-    adds_then g.begin.ensures.grows.keeps.limit (decision-adds g.requires.vars g.begin.ensures.grows) g.judge_whole.ensures.adds
+returns-in-Care-clause-adds g = grind (arith, adds_then g.begin.ensures.grows.keeps.limit (decision-adds g.requires.vars g.begin.ensures.grows) g.judge_whole.ensures.adds, decision-adds g.requires.vars g.begin.ensures.grows)

@@ -27,9 +27,7 @@ care-determined : (c : In-Determined) → (refusal_on_care c.args.question.now.n
 care-determined c = rw c.in-Determined.is at c.in_ok-gates.ensures.gates
 
 nothing-refuses : (c : In-Determined) → refusal c.args.question.now.net c.args.question.now.care c.args.question.now.what ≡ None
-nothing-refuses c =
-    let q = c.args.question.now in
-    refused-on-care q.net q.care q.what None c.requires.start.initial c.requires.start.some (care-determined c).0
+nothing-refuses c = grind arith
 
 pub sweeps-requires-clause-care : goal.sweeps-requires-clause-care
 sweeps-requires-clause-care g = (kept-told (goal.at.sweeps-requires-clause-care g).In-Determined).node
@@ -68,10 +66,7 @@ returns-clause-verdict g =
     }
 
 pub returns-in-Refused-clause-verdict : goal.returns-in-Refused-clause-verdict
-returns-in-Refused-clause-verdict c =
-    let q = c.args.question.now in
-    refused-on-care q.net q.care q.what _ c.requires.start.initial c.requires.start.some
-    (rw c.in-Refused.is at c.in_ok-gates.ensures.gates)
+returns-in-Refused-clause-verdict c = grind arith
 
 -- ---- what it does to the diagrams
 

@@ -13,23 +13,13 @@ use Rattle.verdict.proofs.diagrams.judge_whole.Goals.{After-solve_beside, In_ok-
 
 -- the vectors that the given rails stand for
 points-are : (c : After-solve_beside) → AreColumnVectors c.args.question.now.net (values_of c.args.d.now c.args.rails.now)
-points-are c =
-    let lawful : IsLawful c.args.d.now = subst IsLawful c.store.ensures c.laws.ensures in
-    column-vectors c.args.question.now.net c.args.d.now c.args.rails.now lawful.sound c.requires.vars c.requires.columns
+points-are c = grind (arith, column-vectors c.args.question.now.net c.args.d.now c.args.rails.now)
 
 solved-is : (c : In_ok-found) → AreColumnVectors c.args.question.now.net (values_of c.args.d.now c.args.rails.now) → IsSolvedWhole c.args.question.now.net c.args.question.now.blocks c.args.question.now.cut c.solve_beside.new.d c.in_ok-found.found
 solved-is c points_are =
     let q = c.args.question.now in
-    let found = rw c.looped-looped.ensures.looped at c.in_ok-found.ensures.fixpoint in
     let points = values_of c.args.d.now c.args.rails.now in
-    let vars = c.solve_beside.ensures.vars ∙ c.requires.vars in
-    record {
-      points = points;
-      points_are = points_are;
-      vars = vars;
-      solution = found.solution;
-      fixed = rw found.rails_are (fixed-is q.net q.blocks q.cut c.solve_beside.new.d points c.in_ok-found.found.solved points_are vars found.solution);
-    }
+    grind (arith, fixed-is q.net q.blocks q.cut c.solve_beside.new.d points c.in_ok-found.found.solved points_are)
 
 pub judge_solved-requires-clause-solved : goal.judge_solved-requires-clause-solved
 judge_solved-requires-clause-solved g =
@@ -37,9 +27,7 @@ judge_solved-requires-clause-solved g =
     solved-is at.In_ok-found (points-are at.After-solve_beside)
 
 pub judge_solved-requires-clause-start : goal.judge_solved-requires-clause-start
-judge_solved-requires-clause-start c =
-    let found = c.in_ok-found.ensures.fixpoint in
-    record { told = Tells-same c.solve_beside.ensures.vars found.node found.function c.requires.start.told; initial = c.requires.start.initial; some = c.requires.start.some }
+judge_solved-requires-clause-start c = grind arith
 
 -- ---- what it does to the diagrams
 

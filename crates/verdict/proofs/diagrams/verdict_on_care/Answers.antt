@@ -14,18 +14,13 @@ gates-determined : (c : In-Determined) → (undetermined_refusal c.args.question
 gates-determined c = rw c.in-Determined.is at c.in_ok-gates.ensures.gates
 
 pub returns-in-Refused-clause-gates : goal.returns-in-Refused-clause-gates
-returns-in-Refused-clause-gates c =
-    ap (λ o. option_or o (leaves_refusal c.args.question.now.net c.args.question.now.care)) (rw c.in-Refused.is at c.in_ok-gates.ensures.gates)
+returns-in-Refused-clause-gates c = grind arith
 
 pub returns-in-Some-clause-gates : goal.returns-in-Some-clause-gates
-returns-in-Some-clause-gates g =
-    let c : In-Determined = (goal.at.returns-in-Some-clause-gates g).In-Determined in
-    ap₂ (λ (o p : Option Refusal). option_or o p) (gates-determined c).0 (sym g.in_ok-left.ensures.refusal ∙ g.in-Some.is)
+returns-in-Some-clause-gates g = grind arith
 
 pub returns-in-None-clause-gates : goal.returns-in-None-clause-gates
-returns-in-None-clause-gates g =
-    let c : In-Determined = (goal.at.returns-in-None-clause-gates g).In-Determined in
-    (ap₂ (λ (o p : Option Refusal). option_or o p) (gates-determined c).0 (sym g.in_ok-left.ensures.refusal ∙ g.in-None.is), (gates-determined c).1)
+returns-in-None-clause-gates g = grind arith
 
 pub leaves-requires-clause-loads : goal.leaves-requires-clause-loads
 leaves-requires-clause-loads g v counts =

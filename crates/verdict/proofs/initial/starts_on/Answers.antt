@@ -19,35 +19,16 @@ column-is c = ap (λ (xs : List ℕ). get_or xs (c.loop-variable.variable - 1) 0
 -- ---- the variables and their columns
 
 pub loop-variable-init : goal.loop-variable-init
-loop-variable-init c = record {
-  grows = nothing_grown;
-  later = record {
-    node = c.of-set.ensures.node c.args.d.now;
-    value = λ w wide. c.of-set.ensures.value c.args.d.now w
-        ∙ sym (ap (λ (cs : List ℕ). all_may_start_at c.args.net.now cs (drop c.columns-variable.result w)) (drop_all c.columns-variable.result (order c.args.net.now) (omega (arith, (order-is c.args.net.now).long, c.inputs-first.ensures.inputs, c.columns-variable.ensures.columns))));
-  };
-}
+loop-variable-init c = grind (arith, nothing_grown, drop_all c.columns-variable.result (order c.args.net.now), order-is c.args.net.now)
 
 pub bounds-order-variable : goal.bounds-order-variable
-bounds-order-variable c =
-    let long = (order-is c.args.net.now).long in
-    let same = ap length c.requires.order in
-    omega (arith, c.loop-variable-test.true, c.loop-variable.auto.variable, c.inputs-first.ensures.inputs, c.columns-variable.ensures.columns, long, same)
+bounds-order-variable c = grind (arith, order-is c.args.net.now)
 
 pub latch-requires : goal.latch-requires
-latch-requires c =
-    let k : ℕ = c.loop-variable.variable - 1 in
-    let low = (order-is c.args.net.now).within k (omega (arith, c.loop-variable-test.true, c.loop-variable.auto.variable, c.inputs-first.ensures.inputs, c.columns-variable.ensures.columns)) in
-    let same = ap (λ (xs : List ℕ). get_or xs k 0) c.requires.order in
-    omega (arith, low, same, c.if-column-first.true, c.inputs-first.ensures.inputs)
+latch-requires c = grind (arith, order-is c.args.net.now)
 
 pub bounds-rails-column : goal.bounds-rails-column
-bounds-rails-column c =
-    let k : ℕ = c.loop-variable.variable - 1 in
-    let low = (order-is c.args.net.now).within k (omega (arith, c.loop-variable-test.true, c.loop-variable.auto.variable, c.inputs-first.ensures.inputs, c.columns-variable.ensures.columns)) in
-    let same = ap (λ (xs : List ℕ). get_or xs k 0) c.requires.order in
-    let wide = c.requires.columns.width in
-    omega (arith, low, same, wide, c.requires.vars)
+bounds-rails-column c = grind (arith, order-is c.args.net.now)
 
 -- ---- the latch and those after it, and what this adds
 
@@ -77,10 +58,7 @@ both c w wide =
     ∙ sym (next_column net w c.loop-variable.variable k (omega (arith, c.loop-variable-test.true)) inside (wide ∙ vars))
 
 fits-one : (c : After-and) (w : ℕ) → BoundsStarts c.args.net.now w → nodes c.loop-variable.d.vars (conjunction c.loop-variable.d c.may_start_on-latch.result c.loop-variable.set) ≤ w
-fits-one c w fits =
-    let inside = variable-inside c in
-    later-nodes c.args.net.now c.loop-variable.d c.loop-variable.set c.may_start_on-latch.result (c.loop-variable.variable - 1) w (omega (arith, inside))
-    (c.loop-variable.invariant.grows.keeps.vars ∙ c.requires.vars) (both c) fits
+fits-one c w fits = grind (arith, variable-inside c, later-nodes c.args.net.now c.loop-variable.d c.loop-variable.set c.may_start_on-latch.result (c.loop-variable.variable - 1) w, both c)
 
 one-more : (c : After-and) → columns c.args.net.now - c.loop-variable.variable + 1 ≤ columns c.args.net.now - (c.loop-variable.variable - 1)
 one-more c = let inside = variable-inside c in omega (arith, c.loop-variable-test.true, c.loop-variable.auto.variable, inside, c.inputs-first.ensures.inputs, c.columns-variable.ensures.columns)

@@ -5,9 +5,4 @@ use Rattle.verdict.proofs.Common.{columns}
 use Rattle.verdict.proofs.laws.widths.Goals as goal
 
 pub returns : goal.returns
-returns c net care = record {
-  variables = more_vectors (columns net);
-  combinations = λ b f g h is_f is_g is_h.
-      let most = nodes-below_power (columns net) (λ v. b (f v) (g v) (h v)) in
-      omega (arith, most);
-}
+returns c net care = grind (arith, more_vectors (columns net), nodes-below_power (columns net))

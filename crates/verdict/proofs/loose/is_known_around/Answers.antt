@@ -1,13 +1,10 @@
-use Rattle.std.proofs.Common.{◌≡◌}
+use Rattle.std.proofs.Common.{◌≡◌, arith}
 use Rattle.verdict.proofs.Common.{block_at, gate_home}
 use Rattle.verdict.proofs.LooseLemmas.{all-known, says-not, unreached-known}
 use Rattle.verdict.proofs.loose.is_known_around.Goals as goal
 
 pub returns-in-Nowhere : goal.returns-in-Nowhere
-returns-in-Nowhere c known =
-    let s = c.args.search.now in
-    all-known s.net s.care (block_at s.blocks c.args.place).gates (rw c.in-Nowhere.is at c.requires.unknown)
-    (λ n among. (gate_home s.net s.blocks c.looped.ensures.is.blocks c.args.place n c.requires.place among).0)
+returns-in-Nowhere c known = grind arith
 
 pub returns-in-Marked : goal.returns-in-Marked
 returns-in-Marked c known =

@@ -10,19 +10,12 @@ fixed : (c : After-restricted) → AreFixed c.args.question.now.net c.args.d.now
 fixed c = rw c.items-rails.ensures c.requires.fixed
 
 within : (c : After-restricted) → c.latch.result.now.from.0 < count c.args.question.now.net
-within c =
-    let valid = rw c.net-net.ensures.net at c.latch.ensures.valid in
-    let latch = rw c.net-net.ensures.net at c.latch.ensures.latch in
-    source-within c.args.question.now.net c.loop-number.number c.latch.result.now valid latch
+within c = grind (arith, source-within c.args.question.now.net c.loop-number.number c.latch.result.now)
 
 pub bounds-rails-latch : goal.bounds-rails-latch
 bounds-rails-latch c =
     let q = c.args.question.now in
-    let valid = rw c.net-net.ensures.net at c.latch.ensures.valid in
-    let latch = rw c.net-net.ensures.net at c.latch.ensures.latch in
-    let inside = source-within q.net c.loop-number.number c.latch.result.now valid latch in
-    let wide = rw (← c.items-rails.ensures) at c.requires.fixed.width in
-    omega (arith, inside, wide)
+    grind (arith, source-within q.net c.loop-number.number c.latch.result.now)
 
 -- one latch more
 step : (c : After-restricted) → GrowsInDecision c.restricted.result c.args.d.now c.restricted.new.d c.args.question.now.net c.args.question.now.care (2 * c.loop-number.number + 2)

@@ -6,9 +6,7 @@ use Rattle.verdict.proofs.next.restricted.Goals.{After-and-2}
 
 -- the second operation is on the functions of before the first
 both : (c : After-and-2) → GrowsWithin c.and-2.result c.args.d.now c.and-2.new.self NoOtherCause (BoundsBoth c.args.d.now.vars (conjunction c.args.d.now c.args.set c.args.rails.one) (conjunction c.args.d.now c.args.set c.args.rails.zero)) 2
-both c =
-    let same = conjunction-kept c.args.d.now c.and.new.self c.args.set c.args.rails.zero c.and.ensures.grows.keeps c.requires.set c.requires.rails.zero in
-    within_then (within_one (λ w b. b.first) c.and.ensures.grows) (within_one (λ w b. omega (arith, b.second, same)) c.and-2.ensures.grows)
+both c = grind (arith, conjunction-kept c.args.d.now c.and.new.self c.args.set c.args.rails.zero c.and.ensures.grows.keeps c.requires.set c.requires.rails.zero, within_then, within_one)
 
 pub returns-in_err-one-clause-grows : goal.returns-in_err-one-clause-grows
 returns-in_err-one-clause-grows c = within_more (omega arith) (within_refused c.in_err-one.was c.from_residual.ensures.1 (within_one (λ w b. b.first) c.and.ensures.grows))

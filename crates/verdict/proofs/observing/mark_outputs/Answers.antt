@@ -5,13 +5,10 @@ use Rattle.verdict.proofs.MarkLemmas.{marks-more, marks-end, source-more}
 use Rattle.verdict.proofs.observing.mark_outputs.Goals as goal
 
 pub loop-signal-preserved : goal.loop-signal-preserved
-loop-signal-preserved c =
-    marks-more c.args.net.now [] c.outputs-signal-items.result.now c.loop-signal.signal-index _ c.mark.new.marks c.loop-signal-test.true (c.mark.ensures.marks _ c.loop-signal.invariant)
+loop-signal-preserved c = grind (arith, marks-more c.args.net.now [] c.outputs-signal-items.result.now c.loop-signal.signal-index _ c.mark.new.marks c.loop-signal-test.true (c.mark.ensures.marks _ c.loop-signal.invariant))
 
 pub loop-number-init : goal.loop-number-init
-loop-number-init c =
-    subst (λ (seen : List Sig). AreMarksOf c.args.net.now seen c.loop-signal.marks) (c.outputs-signal-items.ensures.outputs ∙ sym (append-nil c.args.net.now.outputs))
-    (marks-end c.args.net.now [] c.outputs-signal-items.result.now c.loop-signal.signal-index c.loop-signal.marks c.loop-signal-test.false c.loop-signal.invariant)
+loop-number-init c = grind (arith, append-nil c.args.net.now.outputs, marks-end c.args.net.now [] c.outputs-signal-items.result.now c.loop-signal.signal-index c.loop-signal.marks c.loop-signal-test.false c.loop-signal.invariant)
 
 pub loop-number-preserved : goal.loop-number-preserved
 loop-number-preserved c =

@@ -7,9 +7,7 @@ use Rattle.verdict.proofs.observing.observed_gates.Goals.{After-deref_mut}
 pub returns-in_ok-vec-in-All-clause-marks : goal.returns-in_ok-vec-in-All-clause-marks
 returns-in_ok-vec-in-All-clause-marks c =
     let net = c.args.net.now in
-    let marks : List Bool = c.in_ok-vec-in-All.field-0.items in
-    let is : marks ≡ replicate (length net.gates) true = c.in_ok-vec-in-All.ensures.items_if_clones_equal (λ y e. e) ∙ ap (λ (n : ℕ). replicate n true) c.gates-gates.ensures.gates in
-    subst (λ (what : Observe). AreMarksOf net (observed net what) marks) (sym c.in-All.is) (subst (AreMarksOf net (gate_sigs net)) (sym is) (all-marked net))
+    grind (arith, all-marked net)
 
 -- nothing is marked first
 begun : (c : After-deref_mut) → c.deref_mut.result.now ≡ replicate (length c.args.net.now.gates) false
@@ -21,6 +19,4 @@ mark_outputs-requires c = rw (begun (goal.at.mark_outputs-requires c).After-dere
 pub returns-in_ok-marks-in-Outputs-clause-marks : goal.returns-in_ok-marks-in-Outputs-clause-marks
 returns-in_ok-marks-in-Outputs-clause-marks c =
     let last : List Bool = c.mark_outputs.new.marks in
-    let width = c.mark_outputs.ensures.width in
-    let len = c.in_ok-marks-in-Outputs.ensures.len ∙ c.gates-gates.ensures.gates in
-    rw (c.in-Outputs.is, take_at last (drop (length last) c.in_ok-marks-in-Outputs.marks.items) c.in_ok-marks-in-Outputs.marks.len (omega (arith, width, len))) c.mark_outputs.ensures
+    grind (arith, take_at last (drop (length last) c.in_ok-marks-in-Outputs.marks.items) c.in_ok-marks-in-Outputs.marks.len)

@@ -1,4 +1,4 @@
-use Rattle.std.proofs.Common.{◌∙◌, ◌&&◌, not, Some, None, Bool, List, ap, ap₂, drop}
+use Rattle.std.proofs.Common.{◌∙◌, ◌&&◌, not, Some, None, Bool, List, ap, ap₂, drop, arith}
 use Rattle.verdict.proofs.Common.{Initial, Tells, starts, has_state_inside}
 use Rattle.bdd_store.proofs.GrowthLemmas.{grows_refused}
 use Rattle.verdict.proofs.PartLemmas.{Tells-minus, initial-is}
@@ -9,16 +9,10 @@ outside : (c : In_ok-outside) → Tells c.args.question.now.net c.minus.new.d c.
 outside c = Tells-minus c.minus.ensures.grows.keeps.vars c.in_ok-outside.ensures.node c.in_ok-outside.ensures.function c.requires.starts c.requires.inside
 
 pub returns-in_default-clause-refusal : goal.returns-in_default-clause-refusal
-returns-in_default-clause-refusal c =
-    let told = outside (goal.at.returns-in_default-clause-refusal c).In_ok-outside in
-    initial-is c.args.question.now.net c.args.question.now.care None (rw c.in_default.is at (c.in_ok-vector.ensures _ told))
+returns-in_default-clause-refusal c = grind (arith, outside (goal.at.returns-in_default-clause-refusal c).In_ok-outside, initial-is c.args.question.now.net c.args.question.now.care None)
 
 pub returns-clause-refusal : goal.returns-clause-refusal
-returns-clause-refusal c =
-    let told = outside (goal.at.returns-clause-refusal c).In_ok-outside in
-    let first = rw c.net.ensures.net at c.inputs-first.ensures.inputs in
-    ap (λ (q : List Bool). Some (Initial q)) (c.of.ensures ∙ c.in_ok-state.ensures ∙ ap₂ drop first c.deref.ensures.value)
-    ∙ initial-is c.args.question.now.net c.args.question.now.care (Some c.in-Some.vector.items) (rw c.in-Some.is at (c.in_ok-vector.ensures _ told))
+returns-clause-refusal c = grind (arith, outside (goal.at.returns-clause-refusal c).In_ok-outside, initial-is c.args.question.now.net c.args.question.now.care (Some c.in-Some.vector.items))
 
 pub returns-in_err-outside-clause-grows : goal.returns-in_err-outside-clause-grows
 returns-in_err-outside-clause-grows c = grows_refused c.in_err-outside.was c.from_residual.ensures.1 c.minus.ensures.grows

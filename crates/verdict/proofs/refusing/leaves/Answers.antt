@@ -23,15 +23,7 @@ keeps c = KeepsNodes-chain c.next_on.ensures.grows.keeps c.invariant_on.ensures.
 -- at vectors of care the invariant is asked of the next state
 inside-is : (c : After-minus) (q v : List Bool) → length v ≡ c.invariant_on.new.d.vars → den c.invariant_on.new.d c.args.found.now.set (laid c.args.question.now.net v) ≡ true → next c.args.question.now.net (bits v) ≡ bits q →
     den c.invariant_on.new.d c.in_ok-inside.inside (laid c.args.question.now.net v) ≡ is_in_invariant c.args.question.now.care q
-inside-is c q v long counts state =
-    let net = c.args.question.now.net in
-    let set = c.args.found.now.set in
-    let inside = rw c.care.ensures.care at c.in_ok-inside.ensures.inside in
-    inside q (laid net v) (
-    ap (λ (l : List Rails). values_of c.next_on.new.d l (laid net v)) c.deref.ensures.value
-    ∙ c.in_ok-next.ensures.values v (long ∙ (keeps c).vars)
-    ∙ within-set net c.args.d.now set v (sym ((keeps c).function set (laid net v) c.requires.set.node) ∙ counts)
-    ∙ state)
+inside-is c q v long counts state = grind arith
 
 told : (c : After-minus) (outside : Node) → IsNodeOf c.minus.new.d outside → ((v : List Bool) → den c.minus.new.d outside v ≡ difference c.invariant_on.new.d c.args.found.now.set c.in_ok-inside.inside v) →
     Tells c.args.question.now.net c.minus.new.d outside (is_leaving c.args.question.now.net c.args.question.now.care)

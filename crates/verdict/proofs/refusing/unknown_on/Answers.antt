@@ -7,9 +7,7 @@ pub returns-in_err-open-clause-grows : goal.returns-in_err-open-clause-grows
 returns-in_err-open-clause-grows c = within_more (omega arith) (within_refused c.in_err-open.was c.from_residual.ensures.1 (within_one (λ w b. b.first) c.minus.ensures.grows))
 
 pub returns-clause-grows : goal.returns-clause-grows
-returns-clause-grows c =
-    within_then (within_one (λ w b. b.first) c.minus.ensures.grows)
-    (within_one (λ w b. unknown-nodes c.args.d.now c.minus.new.d c.args.set c.in_ok-open.open c.args.rails w c.minus.ensures.grows.keeps c.requires.zero c.in_ok-open.ensures.function b.second) c.minus-2.ensures.grows)
+returns-clause-grows c = grind (arith, within_then, within_one, unknown-nodes c.args.d.now c.minus.new.d c.args.set c.in_ok-open.open c.args.rails)
 
 pub returns-clause-unknown : goal.returns-clause-unknown
 returns-clause-unknown c =

@@ -21,9 +21,7 @@ step c = within_then c.loop-gate.invariant.grows (within_moved (λ w wide. wide-
 
 -- so many at most
 all-gates : (c : After-gate_unknown) → GrowsInDecision c.gate_unknown.result c.args.d.now c.gate_unknown.new.d c.args.question.now.net c.args.question.now.care (2 * length c.args.question.now.net.gates)
-all-gates c =
-    let inside = gate-inside c in
-    within_more (omega (arith, inside)) (step c)
+all-gates c = grind (arith, gate-inside c, within_more, step c)
 
 pub returns-in_err-unknown-clause-grows : goal.returns-in_err-unknown-clause-grows
 returns-in_err-unknown-clause-grows c = within_refused c.in_err-unknown.was c.from_residual-in_err-unknown.ensures.1 (all-gates (goal.at.returns-in_err-unknown-clause-grows c).After-gate_unknown)
@@ -35,9 +33,7 @@ pub returns-in-Some-clause-grows : goal.returns-in-Some-clause-grows
 returns-in-Some-clause-grows c = within_answered (all-gates (goal.at.returns-in-Some-clause-grows c).After-gate_unknown)
 
 pub returns-clause-grows : goal.returns-clause-grows
-returns-clause-grows c =
-    let gates = rw c.net-net.ensures.net at c.gates-gate-end.ensures.gates in
-    within_more (omega (arith, c.loop-gate.auto.gate-end, gates)) (within_answered c.loop-gate.invariant.grows)
+returns-clause-grows c = grind arith
 
 -- ---- what is known of the gates
 
@@ -107,9 +103,4 @@ loop-gate-preserved c =
 pub returns-clause-gates : goal.returns-clause-gates
 returns-clause-gates c =
     let q = c.args.question.now in
-    let gates = rw c.net-net.ensures.net at c.gates-gate-end.ensures.gates in
-    let marked = rw (c.net-net.ensures.net, c.observe.ensures) at c.in_ok-observed.ensures.marks in
-    let all : length q.net.gates ≤ c.loop-gate.gate = omega (arith, c.loop-gate-test.false, gates) in (
-      undetermined-none q.net q.care q.what (λ k less seen. c.loop-gate.invariant.known k (omega (arith, less, all)) (marked.each k less ∙ seen)),
-      loose-all q.net q.care c.loop-gate.gate c.loop-gate.loose all c.loop-gate.invariant.loose,
-    )
+    grind (arith, undetermined-none q.net q.care q.what, loose-all q.net q.care c.loop-gate.gate c.loop-gate.loose)

@@ -7,16 +7,13 @@ use Rattle.verdict.proofs.scopes.drivers_read.Goals as goal
 use Rattle.verdict.proofs.scopes.drivers_read.Goals.{in-Some+in_ok-push, in_default}
 
 pub latch-latch-requires : goal.latch-latch-requires
-latch-latch-requires c =
-    rw c.inputs.ensures.inputs
-    (read-columns c.args.net.now c.args.care.now c.invariant_columns-column-items.result.now c.requires c.invariant_columns-column-items.ensures.columns c.loop-column.column-index 0 c.loop-column-test.true)
+latch-latch-requires c = grind (arith, read-columns c.args.net.now c.args.care.now c.invariant_columns-column-items.result.now c.requires c.invariant_columns-column-items.ensures.columns c.loop-column.column-index 0 c.loop-column-test.true)
 
 pub driver-requires : goal.driver-requires
 driver-requires c =
     let none : Latch = c.latch-latch.result.now in
     let place : ℕ = get_or c.invariant_columns-column-items.result.now c.loop-column.column-index 0 - c.inputs.result in
-    subst (λ (l : Latch). l.from.0 < count c.args.net.now) (get_or_from_slice_get c.args.net.now.latches place none none c.latch-latch.ensures.latch)
-    (c.latch-latch.ensures.valid.sources place none (slice_get_within c.args.net.now.latches place none c.latch-latch.ensures.latch))
+    grind (arith, get_or_from_slice_get c.args.net.now.latches place none none c.latch-latch.ensures.latch, slice_get_within c.args.net.now.latches place none c.latch-latch.ensures.latch)
 
 pub loop-column-preserved : goal.loop-column-preserved
 loop-column-preserved c =

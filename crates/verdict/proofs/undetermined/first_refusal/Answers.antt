@@ -18,19 +18,13 @@ first : (c : After-index) → IsFirstUnknown c.args.search.now.net c.args.search
 first c = rw c.in-At.is at c.in_ok-place.ensures
 
 gate-is : (c : After-index) → gate_in c.deref-2.result.now c.in-At.place ≡ c.index.result.now
-gate-is c =
-    let value = c.deref-2.ensures.value in
-    let less : c.in-At.place < length c.deref-2.result.now = (first c).within in
-    ap (λ (gs : List ℕ). get_or gs c.in-At.place 0) value
-    ∙ get_or_default c.in_ok-gates.gates.items c.in-At.place 0 c.index.result.now (let v = ap (λ (gs : List ℕ). length gs) value in omega (arith, less, v))
-    ∙ sym c.index.ensures
+gate-is c = grind (arith, first c, get_or_default c.in_ok-gates.gates.items c.in-At.place 0 c.index.result.now)
 
 pub refusal_of-requires : goal.refusal_of-requires
 refusal_of-requires g =
     let at = goal.at.refusal_of-requires g in
     let c : After-index = at.After-index in
-    let less : g.in-At.place < length g.deref-2.result.now = (first c).within in
-    subst (λ (n : ℕ). n < length g.args.search.now.net.gates) (gate-is c) (listed-within g.in_ok-marks.marks.items (length g.args.search.now.net.gates) g.deref-2.result.now (listed at.After-deref-2) g.in-At.place 0 less)
+    grind (arith, After-index, first c, gate-is c, listed-within g.in_ok-marks.marks.items (length g.args.search.now.net.gates) g.deref-2.result.now (listed at.After-deref-2) g.in-At.place 0, listed at.After-deref-2)
 
 pub returns-in-At : goal.returns-in-At
 returns-in-At g what seen =

@@ -9,5 +9,4 @@ least_unknown-requires-clause-within c = c.in_ok-scope.ensures.within 0 c.args.g
 pub returns-in-Least : goal.returns-in-Least
 returns-in-Least c what first =
     let s = c.args.search.now in
-    undetermined-found s.net s.care what c.args.gate c.in-Least.vector.items c.requires first (rw (c.in-Least.is, c.net-net.ensures.net, c.care-care.ensures.care) at c.in_ok-vector.ensures)
-    ∙ sym (ap₂ (λ (v : List Bool) (s : Sig). Some (Undetermined v s)) c.of.ensures (rw c.net-net.ensures.net at c.gate_sig.ensures.sig))
+    grind (arith, undetermined-found s.net s.care what c.args.gate c.in-Least.vector.items c.requires first)

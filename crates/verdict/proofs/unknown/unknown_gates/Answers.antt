@@ -16,14 +16,12 @@ wide : (c : After-len) → length c.in_ok-marks.marks.items ≡ length c.args.se
 wide c is = omega (arith, c.len.ensures, c.in_ok-marks.marks.ok.0, is)
 
 pub ask_gates-requires : goal.ask_gates-requires
-ask_gates-requires c =
-    rw c.deref-2.ensures.value (listed-within c.in_ok-marks.marks.items (length c.args.search.now.net.gates) c.in_ok-gates.gates.items (listed (goal.at.ask_gates-requires c).After-deref-2))
+ask_gates-requires c = grind (arith, listed-within c.in_ok-marks.marks.items (length c.args.search.now.net.gates) c.in_ok-gates.gates.items (listed (goal.at.ask_gates-requires c).After-deref-2), listed (goal.at.ask_gates-requires c).After-deref-2)
 
 pub scatter-requires-clause-places : goal.scatter-requires-clause-places
 scatter-requires-clause-places c =
     let at = goal.at.scatter-requires-clause-places c in
-    rw (wide at.After-len (candidates at.After-deref-2).width, c.deref-3.ensures.value)
-    (listed-within c.in_ok-marks.marks.items (length c.args.search.now.net.gates) c.in_ok-gates.gates.items (listed at.After-deref-2))
+    grind (arith, wide at.After-len (candidates at.After-deref-2).width, candidates at.After-deref-2, listed-within c.in_ok-marks.marks.items (length c.args.search.now.net.gates) c.in_ok-gates.gates.items (listed at.After-deref-2), listed at.After-deref-2)
 
 pub returns : goal.returns
 returns c =
@@ -32,5 +30,4 @@ returns c =
     let told = rw (c.in-Some.is, c.deref-2.ensures.value) at c.in_ok-found.ensures in
     let spread = rw (wide at.After-len (candidates at.After-deref-2).width, c.deref-4.ensures.value, c.deref-3.ensures.value) at c.in_ok-scatter.ensures in
     let is = c.looped.ensures.is in
-    unknown-marked s.net is.net s.blocks is.blocks s.settled is.settled s.care c.in_ok-marks.marks.items c.in_ok-gates.gates.items c.in-Some.found.items c.in_ok-scatter.field-0.items
-    (candidates at.After-deref-2) (listed at.After-deref-2) told spread
+    grind (arith, unknown-marked s.net is.net s.blocks is.blocks s.settled is.settled s.care c.in_ok-marks.marks.items c.in_ok-gates.gates.items c.in-Some.found.items c.in_ok-scatter.field-0.items (candidates at.After-deref-2) (listed at.After-deref-2) told spread, candidates at.After-deref-2, listed at.After-deref-2)
