@@ -79,6 +79,7 @@ WaysAreMarked-start es marks first past = record {
 pub WaysAreMarked-mark : (es : List Entry) (old now : List Bool) (p : ℕ) (e : Entry) → slice_get es p ≡ Some e → length now ≡ length es + 1 → p < length es → index e.lo ≤ p → index e.hi ≤ p → is_marked_at now (p + 1) ≡ true → WaysAreMarked es old now (p + 1) → WaysAreMarked es old (set (set now (index e.lo) true) (index e.hi) true) p
 WaysAreMarked-mark es old now p e at long within low high marked was =
     let mid = set now (index e.lo) true in
+    let new = set mid (index e.hi) true in
     let here_marked : is_marked_at now (suc p) ≡ true = rw add-one at marked in
     record {
       keeps = λ i h. mark-keeps mid (index e.hi) i (mark-keeps now (index e.lo) i (was.keeps i h));
