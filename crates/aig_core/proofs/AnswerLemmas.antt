@@ -1,8 +1,8 @@
 -- What is answered where a call that makes edges is refused.
-use Rattle.std.proofs.Common.{◌≡◌, ◌<◌, ◌≤◌, List, [], ◌∷◌, ◌++◌, length, Result, Ok, Err, IsErrAnd, if◌then◌else◌, refl, ap, arith}
-use Rattle.aig_core.proofs.Common.{length_push, Edge, Graph, Made, conjunction, pair_of, entered, Building}
+use Rattle.std.proofs.Common.{◌≡◌, ◌<◌, ◌≤◌, List, length, Result, Err, IsErrAnd, arith}
+use Rattle.aig_core.proofs.Common.{length_push, Edge, Graph, Made, conjunction, pair_of, Building}
 use Rattle.aig_core.specs.declared.fault.AigFault.{AigFault}
-use Rattle.aig_core.specs.declared.fault.AigFault.TheVariants.{TooLarge, Memory}
+use Rattle.aig_core.specs.declared.fault.AigFault.TheVariants.{TooLarge}
 use Rattle.aig_core.specs.Conjunctions.{NeedsAnd}
 use Rattle.aig_core.specs.Answers.{IsFault, Makes, Builds}
 use Rattle.aig_core.proofs.ConjunctionLemmas.{conjunction-none}

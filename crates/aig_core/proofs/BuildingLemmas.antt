@@ -1,6 +1,6 @@
 -- The edges of the gates that are built have the values of the netlist's fixpoint.
-use Rattle.std.proofs.Common.{◌≡◌, inl, inr, ℕ, ◌+◌, ◌-◌, ◌<◌, ◌≤◌, Bool, true, false, if◌then◌else◌, List, [], ◌∷◌, ◌++◌, length, get_or, set, take, map, fold, filter, slice_get, Some, All, refl, sym, ap, ap₂, subst, ◌∙◌, arith, true≢false}
-use Rattle.aig_core.proofs.Common.{nat_eq, list_any, cases_Bool, append-nil, append_assoc, get_or_append_left, All-nil, All-cons, All-head, All-tail, Sig, Latch, no_gate, IsSignal, numbers_from, gate_graph, IsGateOrder, Edge, And, Graph, edge, edge_to, IsEdge, den, IsSound, Building, signal_edge, building, HasEdges}
+use Rattle.std.proofs.Common.{◌≡◌, inl, inr, ℕ, ◌+◌, ◌-◌, ◌<◌, ◌≤◌, Bool, true, false, if◌then◌else◌, List, [], ◌∷◌, ◌++◌, length, get_or, set, take, map, fold, filter, All, refl, sym, ap, ap₂, subst, ◌∙◌, arith, true≢false}
+use Rattle.aig_core.proofs.Common.{nat_eq, list_any, cases_Bool, append-nil, append_assoc, get_or_append_left, All-nil, All-cons, All-head, All-tail, Sig, Latch, no_gate, IsSignal, numbers_from, gate_graph, IsGateOrder, Edge, Graph, edge, edge_to, IsEdge, den, IsSound, Building, signal_edge, building, HasEdges}
 use Rattle.std.specs.Prelude.{nat_le}
 use Rattle.std.proofs.lemmas.Bool.{cases_lt, cases_eq, lt-ltb, le-ltb, le-leb, false≢true}
 use Rattle.std.proofs.lemmas.List.{length-map, length-append, length-replicate, length-set, get_or-append_right, get_or-set_same, get_or-set_other, map-append, get_or-append-add}

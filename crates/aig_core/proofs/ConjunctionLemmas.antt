@@ -1,12 +1,12 @@
 -- The conjunction of two edges is a sound graph's edge, with the value of the conjunction.
-use Rattle.std.proofs.Common.{◌≡◌, ◌≢◌, ◌⊎◌, inl, inr, ℕ, zero, suc, ◌+◌, ◌<◌, ◌≤◌, ◌==◌, ◌&&◌, ◌||◌, Bool, true, false, not, leb, if◌then◌else◌, List, [], ◌∷◌, ◌++◌, length, get_or, slice_get, Option, Some, None, MatchOption, refl, sym, ap, ap₂, subst, ◌∙◌, arith, true≢false}
+use Rattle.std.proofs.Common.{◌≡◌, ◌≢◌, ◌⊎◌, inl, inr, ℕ, zero, suc, ◌+◌, ◌<◌, ◌≤◌, ◌&&◌, Bool, true, false, not, List, [], ◌∷◌, ◌++◌, length, slice_get, Option, Some, None, MatchOption, refl, sym, ap, ap₂, subst, ◌∙◌, arith, true≢false}
 use Rattle.aig_core.proofs.Common.{list_any, position_or_len, cases_Bool, eq-eqb, append-nil, length_push, slice_get_within, get_or_from_slice_get, Edge, And, Graph, with_ands, first_and, edge, complement, IsEdge, den, IsSound, IsVector, Extends, Made, simple_and, pair_of, same_pair, entered, hashed, conjunction, found}
 use Rattle.std.specs.Option.{option_map_or}
-use Rattle.std.proofs.lemmas.Bool.{cases_lt, eqb-true, eqb-false, false_from_ne_true, leb-true, leb-false, and_parts}
+use Rattle.std.proofs.lemmas.Bool.{cases_lt, eqb-true, eqb-false, false_from_ne_true}
 use Rattle.std.proofs.lemmas.Option.{slice_get-get_or, same_Some}
 use Rattle.std.proofs.lemmas.List.Sums.{fails_before_first, passes_at_first, position_or_len_is}
 use Rattle.std.proofs.lemmas.List.Folds.{list_any_at, list_any_none}
-use Rattle.cyc_base.proofs.TruthLemmas.{and_comm, and_with_true}
+use Rattle.cyc_base.proofs.TruthLemmas.{and_with_true}
 use Rattle.aig_core.specs.Graphs.{variables}
 use Rattle.aig_core.specs.Soundness.{IsSoundAnd}
 use Rattle.aig_core.proofs.GraphLemmas.{den-complement, den-constant, den-and, extended}
@@ -33,9 +33,6 @@ pub record IsSimple (a b e : Edge) : Type 0 where
 
 and_false : (b : Bool) → false ≡ (b && false)
 and_false b = grind arith
-
-and_same : (b : Bool) → b ≡ (b && b)
-and_same b = grind arith
 
 and_opposite : (b : Bool) → false ≡ (not b && b)
 and_opposite b = grind arith
@@ -76,9 +73,6 @@ module _ (a b : Edge) where
       grind (arith, zero_left, eqb-true a.0 0, zero_right, eqb-true b.0 0, opposites, eqb-true a.0 (complement b).0, one_left, eqb-true a.0 1, one_right, eqb-true b.0 1, equals, eqb-true a.0 b.0, eqb-false a.0 0, eqb-false b.0 0, eqb-false a.0 (complement b).0, eqb-false a.0 1, eqb-false b.0 1, eqb-false a.0 b.0)
 
 -- ---- an AND that is made or found
-
-opposite_back : (a b : Edge) → b.0 ≡ (complement a).0 → a.0 ≡ (complement b).0
-opposite_back a b h = omega arith
 
 -- the pair of edges that are apart
 pub record IsPair (g : Graph) (a b : Edge) (x : And) : Type 0 where

@@ -1,10 +1,7 @@
 -- The edge of a cover has its value, and no AND is ever taken away.
-use Rattle.std.proofs.Common.{◌≡◌, ℕ, ◌+◌, ◌<◌, ◌≤◌, ◌&&◌, ◌||◌, Bool, true, false, not, if◌then◌else◌, List, [], ◌∷◌, ◌++◌, length, get_or, take, drop, min, fold, map, All, refl, sym, ap, ap₂, ◌∙◌, arith, length-append}
-use Rattle.aig_core.proofs.Common.{list_any, zip, append_assoc, length_push, take-append-drop, fold-append, All-head, All-tail, All-cons, Edge, And, Graph, with_ands, complement, IsEdge, den, IsSound, IsVector, Extends, Made, found, constant, simple_and, pair_of, same_pair, entered, hashed, conjunction, row_made, with_row}
+use Rattle.std.proofs.Common.{◌≡◌, ℕ, ◌+◌, ◌<◌, ◌≤◌, ◌&&◌, ◌||◌, Bool, true, false, not, if◌then◌else◌, List, [], ◌∷◌, ◌++◌, length, get_or, take, drop, min, fold, map, All, refl, ap, ap₂, ◌∙◌, arith, length-append}
+use Rattle.aig_core.proofs.Common.{list_any, zip, append_assoc, length_push, take-append-drop, fold-append, All-head, All-tail, All-cons, Edge, And, Graph, with_ands, complement, IsEdge, den, IsSound, IsVector, Extends, Made, found, constant, pair_of, same_pair, entered, conjunction, row_made, with_row}
 use Rattle.std.specs.List.{list_all}
-use Rattle.std.specs.Option.{option_map_or}
-use Rattle.std.specs.declared.option.Option.{Option}
-use Rattle.std.specs.Prelude.{Some, None}
 use Rattle.std.proofs.lemmas.List.{take_all}
 use Rattle.std.proofs.lemmas.List.Sums.{fold_more}
 use Rattle.std.proofs.lemmas.Slice.Zip.{length-zip, get_or-zip}

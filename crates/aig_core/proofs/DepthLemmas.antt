@@ -1,5 +1,5 @@
 -- In a graph without a loop a depth-first search needs no bound on its depth, and tasks lead to the same list.
-use Rattle.std.proofs.Common.{◌≡◌, ◌≢◌, inl, inr, ℕ, zero, suc, ◌+◌, ◌<◌, ◌≤◌, ◌||◌, Bool, true, false, if◌then◌else◌, List, [], ◌∷◌, ◌++◌, length, get_or, set, take, map, reverse, fold, All, refl, sym, ap, ap₂, ◌∙◌, arith}
+use Rattle.std.proofs.Common.{◌≡◌, ◌≢◌, ℕ, zero, suc, ◌+◌, ◌<◌, ◌≤◌, ◌||◌, Bool, true, false, List, [], ◌∷◌, ◌++◌, length, get_or, set, take, map, reverse, fold, All, refl, sym, ap, ap₂, ◌∙◌, arith}
 use Rattle.aig_core.proofs.Common.{nat_eq, list_any, eq-eqb, append_assoc, fold-append, list_any-append, All-head, All-tail, successors, Task, HasRanks, visit, node_of, AreWithin, finished, HasMarks}
 use Rattle.std.specs.List.{sum_by}
 use Rattle.std.proofs.lemmas.Bool.{cases_eq, ne_eqb, or_right}

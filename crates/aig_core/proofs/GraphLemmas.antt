@@ -1,21 +1,11 @@
 -- The denotation of edges: by cases on the variable, and kept where ANDs are added.
-use Rattle.std.proofs.Common.{◌≡◌, inl, inr, ℕ, suc, ◌+◌, ◌*◌, ◌/◌, ◌%◌, ◌<◌, ◌==◌, ◌&&◌, Bool, true, false, not, if◌then◌else◌, List, [], ◌∷◌, ◌++◌, length, get_or, take, drop, fold, slice_get, Some, refl, sym, ap, ap₂, ◌∙◌, arith}
+use Rattle.std.proofs.Common.{◌≡◌, ℕ, suc, ◌+◌, ◌<◌, ◌&&◌, Bool, false, not, if◌then◌else◌, List, [], ◌∷◌, ◌++◌, length, get_or, take, drop, fold, slice_get, Some, refl, sym, ap, ap₂, ◌∙◌, arith}
 use Rattle.aig_core.proofs.Common.{get_or_append_left, length_push, take-append-drop, fold-append, slice_get_within, get_or_from_slice_get, Edge, And, Graph, with_ands, first_and, edge_to, complement, IsEdge, den, IsVector, Extends}
 use Rattle.std.proofs.lemmas.List.{get_or_at, length-take-le, drop_more}
-use Rattle.cyc_base.proofs.ListLemmas.{parity}
 use Rattle.aig_core.specs.Graphs.{variable, is_complement, edge_value, with_value, values}
 use Rattle.aig_core.specs.Soundness.{IsSoundAnd}
 
 -- ---- complements
-
-pub variable-complement : (e : Edge) → variable (complement e) ≡ variable e
-variable-complement e = omega arith
-
-pub is_complement-complement : (e : Edge) → is_complement (complement e) ≡ not (is_complement e)
-is_complement-complement e = grind arith
-
-negated : (b c : Bool) → (if not b then not c else c) ≡ not (if b then not c else c)
-negated b c = grind arith
 
 pub edge_value-complement : (vs : List Bool) (e : Edge) → edge_value vs (complement e) ≡ not (edge_value vs e)
 edge_value-complement vs e = grind arith

@@ -1,5 +1,5 @@
 -- In the postorder of a graph without a loop each node follows its successors; and the graph of a netlist's gates is one.
-use Rattle.std.proofs.Common.{◌≡◌, inl, inr, ℕ, zero, suc, ◌-◌, ◌<◌, ◌||◌, Bool, true, false, if◌then◌else◌, List, [], ◌∷◌, ◌++◌, length, get_or, fold, All, refl, sym, ap, subst, ◌∙◌, arith}
+use Rattle.std.proofs.Common.{◌≡◌, ℕ, zero, suc, ◌-◌, ◌<◌, ◌||◌, true, List, [], ◌∷◌, ◌++◌, length, get_or, fold, All, sym, ap, subst, ◌∙◌, arith}
 use Rattle.aig_core.proofs.Common.{nat_eq, list_any, position_or_len, cases_Bool, eq-eqb, append-nil, append_assoc, list_any-append, All-nil, All-head, All-tail, All-cons, Sig, successors, no_gate, IsSignal, numbers_from, gate_graph, IsGateOrder, postorder, HasRanks}
 use Rattle.std.specs.Prelude.{nat_le}
 use Rattle.std.proofs.lemmas.Bool.{eqb-true, leb-true}

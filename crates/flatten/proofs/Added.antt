@@ -1,5 +1,5 @@
 -- A name that is added, and is new.
-use Rattle.std.proofs.Common.{◌≡◌, ℕ, ◌+◌, ◌<◌, Bool, true, false, not, List, [], ◌∷◌, ◌++◌, length, get_or, take, drop, map, if◌then◌else◌, refl, sym, ap, ◌∙◌, true≢false, arith}
+use Rattle.std.proofs.Common.{◌≡◌, ℕ, ◌+◌, ◌<◌, Bool, true, false, not, List, [], ◌∷◌, ◌++◌, length, get_or, take, drop, map, if◌then◌else◌, ap, ◌∙◌, arith}
 use Rattle.flatten.proofs.Common.{bytes_eq, insert_key, is_among, twice_after}
 use Rattle.flatten.proofs.Names.{taken}
 use Rattle.flatten.proofs.Gathering.{twice_later, twice_later_by, names_so_far}

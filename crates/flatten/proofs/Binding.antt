@@ -1,6 +1,6 @@
 -- Tables of formals: what they have, and where a pair or an input is at fault.
-use Rattle.std.proofs.Common.{◌≡◌, ℕ, ◌+◌, ◌<◌, Bool, true, false, not, List, [], ◌∷◌, ◌++◌, length, get_or, take, drop, refl, sym, ap, ◌∙◌, cond, if◌then◌else◌, Some, None, Ok, Err, is_some, option_map, arith}
-use Rattle.flatten.proofs.Common.{drop-item, bytes_eq, Option, option_or, BlifModel, FlatFault, actual_of, is_among, formals, pairs_fault, entry, each_once, resolved, bound}
+use Rattle.std.proofs.Common.{◌≡◌, ℕ, ◌+◌, ◌<◌, Bool, true, false, not, List, [], ◌∷◌, ◌++◌, length, get_or, take, drop, refl, ap, ◌∙◌, cond, if◌then◌else◌, Some, None, Ok, Err, is_some, option_map, arith}
+use Rattle.flatten.proofs.Common.{drop-item, bytes_eq, Option, BlifModel, FlatFault, actual_of, is_among, formals, pairs_fault, entry, each_once, resolved, bound}
 use Rattle.flatten.specs.declared.fault.FlatFault.TheVariants.{UnknownFormal, FormalTwice, OpenInput}
 use Rattle.flatten.specs.Instances.{formal_fault, pair_fault, first_open}
 use Rattle.flatten.proofs.Names.{taken}

@@ -1,6 +1,6 @@
 -- Tables that are filled on the way down agree with climbing from below.
-use Rattle.std.proofs.Common.{◌≡◌, ℕ, Bool, true, false, List, [], ◌∷◌, ◌++◌, refl, append_assoc, if◌then◌else◌, Some, None, arith}
-use Rattle.flatten.proofs.Common.{append-nil, decimal, bytes_eq, Option, Wire, Instance, actual_of, climb, name_at, resolved, bound}
+use Rattle.std.proofs.Common.{◌≡◌, ℕ, Bool, List, [], ◌∷◌, ◌++◌, refl, append_assoc, if◌then◌else◌, Some, None, arith}
+use Rattle.flatten.proofs.Common.{append-nil, decimal, Option, Wire, Instance, actual_of, climb, name_at, resolved, bound}
 use Rattle.flatten.specs.Wires.{printed_at}
 use Rattle.flatten.specs.Paths.{numbers}
 use Rattle.flatten.specs.Laws.{prefix_of, table_of, ResolvedIsClimbed}

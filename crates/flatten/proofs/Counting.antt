@@ -1,10 +1,10 @@
 -- The walk that only counts comes to the first fault of the walk.
-use Rattle.std.proofs.Common.{◌≡◌, inr, ◌⊎◌, ℕ, zero, suc, ◌+◌, ◌-◌, ◌<◌, ◌≤◌, nat_le, nat_lt, ◌||◌, List, [], ◌∷◌, ◌++◌, length, length-append, drop, get_or, refl, ap, sym, subst, ◌∙◌, arith, Ok, Err, IfOk, IfErr, OnOk}
-use Rattle.flatten.proofs.Common.{common_steps, list_any-append, list_any, bytes_eq, Result, BlifModel, PartLine, Item, Gate, Part, FlatFault, TooLarge, mark_of, Instance, model_at, entry, entered, pairs_fault, find_model, Event, FlatLines, gate, latch, opens, fails, events, decided, then_gate, then_latch, flat_lines, drop-item, Memory, or-false}
+use Rattle.std.proofs.Common.{◌≡◌, ◌⊎◌, ℕ, zero, suc, ◌+◌, ◌-◌, ◌<◌, ◌≤◌, ◌||◌, List, [], ◌∷◌, ◌++◌, length, length-append, drop, get_or, refl, ap, sym, subst, ◌∙◌, arith, Ok, Err, IfOk, IfErr, OnOk}
+use Rattle.flatten.proofs.Common.{list_any-append, list_any, bytes_eq, Result, BlifModel, PartLine, Item, Part, FlatFault, TooLarge, mark_of, Instance, model_at, entered, pairs_fault, find_model, Event, FlatLines, gate, latch, opens, fails, events, decided, then_gate, then_latch, flat_lines, drop-item, Memory, or-false}
 use Rattle.std.proofs.lemmas.List.{drop_all}
 use Rattle.flatten.specs.Counting.{left_by, AreOpen, entered_below, Leave, LeavesTo, FailsBy}
 use Rattle.flatten.proofs.Stepping.{find_name}
-use Rattle.flatten.proofs.Waiting.{events_nil, events_fault, inside, IsLine, line_at, events_line, events_open, entry_ok}
+use Rattle.flatten.proofs.Waiting.{events_fault, inside, IsLine, line_at, events_line, events_open, entry_ok}
 use Rattle.flatten.proofs.Names.{or_open}
 
 -- events behind others
@@ -41,14 +41,8 @@ left_open room es h = grind arith
 left_line : (m : List ℕ) (path : List Instance) (x : Item) (room : ℕ) (es : List Event) → 0 < room → left_by room (line_at m path x ∷ es) ≡ left_by (room - 1) es
 left_line m path x room es h = grind arith
 
-no_room : (m : List ℕ) (path : List Instance) (x : Item) (es : List Event) → left_by 0 (line_at m path x ∷ es) ≡ Err TooLarge
-no_room m path x es = grind arith
-
 left_fault : (room : ℕ) (fault : FlatFault) (es : List Event) → left_by room (fails fault ∷ es) ≡ Err fault
 left_fault room fault es = grind arith
-
-within_suc : (a b : ℕ) → nat_lt a (suc b) ≡ nat_le a b
-within_suc a b = grind (arith, common_steps)
 
 module _ (depth : ℕ) (models : List BlifModel) (trail : List ℕ) where
   entered_same : (top : List ℕ) (path : List Instance) (p : PartLine) → AreOpen models top trail path → entered depth models top path p ≡ entered_below depth models trail p

@@ -1,6 +1,6 @@
 -- The walk stays within the file: its paths bind names of the file, and all that it prints names one wire.
-use Rattle.std.proofs.Common.{◌≡◌, ℕ, zero, suc, ◌+◌, ◌^◌, ◌<◌, ◌≤◌, List, [], ◌∷◌, ◌++◌, length, length-append, map, refl, sym, ◌∙◌, subst, arith, All, Contains, Some, None, Ok, Err, option_map, ap}
-use Rattle.flatten.proofs.Common.{All-nil, All-cons, All-head, All-tail, All-append, flat_map, AllByRecursion, Option, Result, Sig, Clock, Parts, BlifModel, GateLine, LatchLine, Item, Gate, Latch, Part, FlatFault, pair_names, item_names, wire_names, mark_of, Instance, climb, name_at, gate_at, clock_at, latch_at, find_model, model_at, entered, Event, gate, latch, opens, fails, events, FlatLines, flat_lines, linked_lines, link_fault, signal_list, sig_of, latch_with, gate_with, netlist_by, All-weaker, All-map}
+use Rattle.std.proofs.Common.{◌≡◌, ℕ, zero, suc, ◌+◌, ◌^◌, ◌<◌, ◌≤◌, List, [], ◌∷◌, ◌++◌, length, length-append, map, refl, sym, ◌∙◌, arith, All, Contains, Some, None, Ok, Err, option_map}
+use Rattle.flatten.proofs.Common.{All-nil, All-cons, All-head, All-tail, All-append, flat_map, AllByRecursion, Option, Result, Sig, Clock, Parts, BlifModel, GateLine, LatchLine, Item, Gate, Latch, Part, FlatFault, pair_names, item_names, wire_names, mark_of, Instance, climb, name_at, gate_at, clock_at, latch_at, find_model, model_at, entered, Event, gate, latch, opens, fails, events, FlatLines, flat_lines, linked_lines, signal_list, sig_of, latch_with, gate_with, netlist_by, All-weaker, All-map}
 use Rattle.std.proofs.lemmas.List.Elements.{All-contains_itself, Contains-append_left, Contains-append_right, All-drop, All-take, All-same}
 use Rattle.std.proofs.lemmas.List.{map-id, take_at, drop_at}
 use Rattle.netlist.specs.declared.parts.Gate.{Gate as FlatGate}

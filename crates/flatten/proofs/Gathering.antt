@@ -1,5 +1,5 @@
 -- Drivers are gathered in their order, and the first that comes twice is found.
-use Rattle.std.proofs.Common.{◌≡◌, ℕ, ◌+◌, ◌<◌, Bool, true, false, not, ◌&&◌, List, [], ◌∷◌, ◌++◌, length, get_or, take, drop, map, filter, fold, refl, sym, ap, ◌∙◌, cond, if◌then◌else◌, append_assoc, Some, None, option_map, subst, inl, inr, arith}
+use Rattle.std.proofs.Common.{◌≡◌, ℕ, ◌+◌, ◌<◌, Bool, true, false, not, List, [], ◌∷◌, ◌++◌, length, get_or, take, drop, map, filter, fold, refl, sym, ap, ◌∙◌, if◌then◌else◌, append_assoc, Some, None, option_map, inl, inr, arith}
 use Rattle.flatten.proofs.Common.{append-nil, list_any-append, IsDistinct, AllByRecursion, find, option_or, bytes_eq, Option, insert_key, is_among, Clock, BlifModel, LatchLine, FlatFault, FlatLines, own_clocks, twice_after, first_twice, latch_outputs, gate_outputs, driven_twice, has_bad_control, bytes_eq-true, drop-item, cases_Bool}
 use Rattle.std.proofs.lemmas.List.{map-append}
 use Rattle.std.proofs.lemmas.Map.Keys.{IsDistinct-cons, IsDistinct-push}
@@ -7,12 +7,9 @@ use Rattle.std.specs.Cmp.Lexicographic.{nat_list_eq_equiv}
 use Rattle.std.specs.Option.{option_map_or}
 use Rattle.std.proofs.lemmas.Bool.{or_parts}
 use Rattle.flatten.specs.declared.fault.FlatFault.TheVariants.{DrivenTwice}
-use Rattle.flatten.specs.Linking.{edge_eq, is_clock_of, is_fitting, is_other_control, has_other_control}
+use Rattle.flatten.specs.Linking.{is_clock_of, is_fitting, is_other_control, has_other_control}
 use Rattle.flatten.proofs.Names.{bytes_sym, taken}
 use Rattle.flatten.proofs.Libraries.{among_push, distinct_fresh, none_old}
-
-and_false : (b : Bool) → (b && false) ≡ false
-and_false b = grind arith
 
 IsDistinct-nil : IsDistinct bytes_eq []
 unfolding IsDistinct

@@ -1,5 +1,5 @@
 -- Names that are gathered once each, and the tables of models and formals.
-use Rattle.std.proofs.Common.{◌≡◌, ℕ, zero, suc, ◌+◌, ◌<◌, ◌≢◌, nat_lt, Bool, true, false, ◌||◌, List, [], ◌∷◌, ◌++◌, length, get_or, take, map, fold, refl, sym, ap, ◌∙◌, arith, if◌then◌else◌, append_assoc, Some, None, inl, inr}
+use Rattle.std.proofs.Common.{◌≡◌, ℕ, zero, suc, ◌+◌, ◌<◌, ◌≢◌, nat_lt, Bool, true, false, ◌||◌, List, [], ◌∷◌, ◌++◌, length, get_or, take, map, fold, refl, sym, ap, ◌∙◌, arith, if◌then◌else◌, append_assoc, Some, None}
 use Rattle.flatten.proofs.Common.{list_any-append, append-nil, length-map, IsDistinct, position, position_or_len, AllByRecursion, bytes_eq, insert_key, BlifModel, is_among, formals, find_model, no_model, model_at, each_once, twice_after, bytes_eq-true, or-false, cases_Bool}
 use Rattle.std.proofs.lemmas.List.Sums.{fold-append}
 use Rattle.std.proofs.lemmas.List.{map-append, get_or-map}

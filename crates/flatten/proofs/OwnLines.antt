@@ -1,6 +1,6 @@
 -- Where no instance stands in a model, the walk comes to the lines of its body.
-use Rattle.std.proofs.Common.{◌≡◌, ℕ, zero, suc, ◌+◌, ◌<◌, ◌≤◌, nat_le, Bool, true, false, if◌then◌else◌, List, [], ◌∷◌, length, refl, sym, ap, ◌∙◌, arith, All, Some, None, Ok, Err, option_map}
-use Rattle.flatten.proofs.Common.{All-nil, All-cons, All-head, All-tail, list_any, Option, Clock, BlifModel, GateLine, LatchLine, Item, Gate, Latch, Part, TooLarge, linked_lines, model_at, linked, Instance, gate_at, clock_at, latch_at, IsPrintedGate, IsPrintedLatch, Event, events, decided, then_gate, then_latch, mark_of, common_steps, own_gates, own_latches}
+use Rattle.std.proofs.Common.{◌≡◌, ℕ, zero, suc, ◌+◌, ◌<◌, ◌≤◌, nat_le, Bool, true, false, if◌then◌else◌, List, [], ◌∷◌, length, sym, ap, arith, All, Ok, Err, option_map}
+use Rattle.flatten.proofs.Common.{All-nil, All-cons, All-head, All-tail, list_any, Option, Clock, BlifModel, GateLine, LatchLine, Item, Gate, Latch, Part, TooLarge, linked_lines, model_at, linked, Instance, gate_at, clock_at, latch_at, IsPrintedGate, IsPrintedLatch, Event, decided, then_gate, then_latch, common_steps, own_gates, own_latches}
 use Rattle.blif_read.specs.Flattening.{IsSoundItem}
 use Rattle.flatten.specs.Alone.{is_part, own_lines, flat_alone}
 use Rattle.flatten.specs.Flat.{flat_at}

@@ -1,9 +1,9 @@
 -- The signal of a driver, by its place in the table of drivers.
-use Rattle.std.proofs.Common.{◌≡◌, inl, inr, ⊎_elim, ◌⊎◌, ℕ, ◌+◌, ◌-◌, ◌<◌, ◌≤◌, nat_lt, Bool, true, false, not, ◌||◌, List, [], ◌∷◌, ◌++◌, length, length-append, map, filter, refl, sym, ap, ◌∙◌, arith, cond, if◌then◌else◌, Some, None, Ok, Err, is_some, option_map, unwrap_or}
+use Rattle.std.proofs.Common.{◌≡◌, inl, inr, ⊎_elim, ◌⊎◌, ℕ, ◌+◌, ◌-◌, ◌<◌, ◌≤◌, nat_lt, Bool, true, false, not, ◌||◌, List, [], ◌∷◌, ◌++◌, length, length-append, map, filter, refl, sym, ap, ◌∙◌, arith, cond, if◌then◌else◌, Some, None, Ok, Err, option_map, unwrap_or}
 use Rattle.flatten.proofs.Common.{length-map, list_any-append, list_any, find, flat_map, position, position_or_len, option_or, bytes_eq, Option, Result, Sig, Parts, BlifModel, GateLine, LatchLine, FlatFault, is_among, FlatLines, own_clocks, latch_outputs, gate_outputs, reads, signal_list, sig_of, declared_twice, driven_twice, link_fault, latch_with, gate_with, netlist_by, linked, sig_or, undriven_among, AreRead, cases_Bool, bytes_eq-true}
 use Rattle.std.proofs.lemmas.List.Folds.{find-append}
 use Rattle.std.specs.Option.{option_and_then}
-use Rattle.std.proofs.lemmas.Bool.{not-false, or_parts, lt-ltb, le-ltb, both_ways}
+use Rattle.std.proofs.lemmas.Bool.{not-false, or_parts, lt-ltb, both_ways}
 use Rattle.cyc_base.proofs.ListLemmas.{option_or-neither, option_map-nothing}
 use Rattle.netlist.specs.Netlists.{signal}
 use Rattle.flatten.specs.declared.fault.FlatFault.TheVariants.{ClockRead, Undriven}

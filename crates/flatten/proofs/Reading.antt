@@ -1,8 +1,8 @@
 -- Wires are read one after another: what was found in some of them, and in those that are left.
-use Rattle.std.proofs.Common.{◌≡◌, ℕ, Bool, not, List, [], ◌++◌, refl, sym, ap, ◌∙◌, Some, None, option_map, arith}
+use Rattle.std.proofs.Common.{◌≡◌, ℕ, List, [], ◌++◌, refl, sym, ap, ◌∙◌, Some, None, arith}
 use Rattle.std.proofs.lemmas.List.Folds.{find-append}
 use Rattle.cyc_base.proofs.ListLemmas.{option_or-None, option_map-or}
-use Rattle.flatten.proofs.Common.{find, option_or, Option, FlatFault, is_among, undriven_among, AreRead}
+use Rattle.flatten.proofs.Common.{find, option_or, Option, FlatFault, undriven_among, AreRead}
 use Rattle.flatten.specs.declared.fault.FlatFault.TheVariants.{Undriven}
 use Rattle.flatten.specs.declared.link.Drivers.{Drivers as DriverTable}
 use Rattle.flatten.specs.Drivers.{is_unread}

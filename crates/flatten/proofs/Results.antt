@@ -1,6 +1,6 @@
 -- A fault of a call is handed on.
 use Rattle.std.proofs.Common.{◌≡◌, ◌⊎◌, inl, inr, ⊎_elim, IsErrAnd, IfErr, arith}
-use Rattle.std.proofs.lemmas.Result.{err_from_is_err_and, IfErr-weaker}
+use Rattle.std.proofs.lemmas.Result.{IfErr-weaker}
 use Rattle.flatten.proofs.Common.{Result, FlatFault, Memory}
 
 -- by `?`, where what holds at the fault tells what is to hold

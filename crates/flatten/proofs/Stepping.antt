@@ -1,6 +1,6 @@
 -- The walk on a list comes to what the walk by recursion comes to.
-use Rattle.std.proofs.Common.{length-append, ◌*◌, ◌≡◌, inl, inr, ℕ, zero, suc, ◌+◌, ◌-◌, ◌<◌, ◌≤◌, nat_le, Bool, ◌||◌, List, [], ◌∷◌, ◌++◌, length, drop, reverse, refl, ap, sym, ◌∙◌, subst, arith, append_assoc, Some, Ok, Err, All, map}
-use Rattle.flatten.proofs.Common.{list_any-append, list_any, bytes_eq, Result, BlifModel, GateLine, LatchLine, PartLine, Gate, Latch, Part, FlatFault, TooLarge, Level, mark_of, Instance, no_model, model_at, is_open, entry, entered, pairs_fault, find_model, Event, FlatLines, gate, latch, opens, fails, events, decided, then_gate, then_latch, flat_lines, gate_by, latch_by, passed_line, passed_part, PassesPart, append-nil, Item, bytes_eq-true, NestedModels, own_gates, own_latches}
+use Rattle.std.proofs.Common.{length-append, ◌*◌, ◌≡◌, inl, inr, ℕ, zero, suc, ◌+◌, ◌-◌, ◌<◌, ◌≤◌, Bool, List, [], ◌∷◌, ◌++◌, length, drop, reverse, refl, ap, sym, ◌∙◌, subst, arith, append_assoc, Some, Ok, Err, All, map}
+use Rattle.flatten.proofs.Common.{list_any-append, list_any, Result, BlifModel, GateLine, LatchLine, PartLine, Part, FlatFault, TooLarge, Level, mark_of, Instance, no_model, model_at, entered, pairs_fault, find_model, Event, FlatLines, gate, latch, opens, fails, events, decided, then_gate, then_latch, flat_lines, gate_by, latch_by, passed_line, passed_part, PassesPart, append-nil, Item, bytes_eq-true, NestedModels, own_gates, own_latches}
 use Rattle.std.proofs.lemmas.Grind.{reverse_onto}
 use Rattle.std.proofs.lemmas.List.{reverse-append, length-reverse, reverse-reverse}
 use Rattle.blif_read.specs.Find.{has_name}

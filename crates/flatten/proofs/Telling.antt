@@ -1,5 +1,5 @@
 -- Climbing stays within the names of the file, so printed names tell wires.
-use Rattle.std.proofs.Common.{ℕ, ◌^◌, ◌<◌, Bool, true, false, List, [], ◌∷◌, ◌++◌, cond, All, Contains, Some, None, arith}
+use Rattle.std.proofs.Common.{ℕ, ◌^◌, ◌<◌, Bool, List, [], ◌∷◌, ◌++◌, cond, All, Contains, Some, None, arith}
 use Rattle.flatten.proofs.Common.{All-head, All-tail, bytes_eq, Option, Wire, Instance, actual_of, climb}
 use Rattle.flatten.specs.Paths.{numbers}
 use Rattle.flatten.specs.Laws.{BindsAmong, NamesTellWires}

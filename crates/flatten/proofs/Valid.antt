@@ -1,17 +1,15 @@
 -- The parts of a flat netlist meet all conditions of a netlist.
-use Rattle.std.proofs.Common.{◌≡◌, ⊎_elim, append_assoc, codes, ℕ, ◌+◌, ◌≤◌, Bool, true, false, not, ◌||◌, List, [], ◌∷◌, ◌++◌, length, length-append, map, refl, sym, ap, ◌∙◌, subst, arith, All, Some, None, Ok, Err, is_some, IfSome, get_or, inl, inr}
-use Rattle.flatten.proofs.Common.{length-map, All-nil, All-cons, All-head, All-tail, All-append, list_any-append, list_any, find, flat_map, position_or_len, IsDistinct, AllByRecursion, option_or, bytes_eq, Option, Result, Sig, Clock, Parts, BlifModel, GateLine, LatchLine, FlatFault, is_among, FlatLines, IsPrintedGate, own_clocks, latch_outputs, gate_outputs, reads, first_twice, twice_after, signal_list, sig_of, has_bad_control, declared_twice, driven_twice, link_fault, latch_with, gate_with, netlist_by, linked, cases_Bool, bytes_eq-true, All-map, All-weaker}
+use Rattle.std.proofs.Common.{◌≡◌, ⊎_elim, append_assoc, codes, ℕ, ◌+◌, ◌≤◌, Bool, true, false, not, ◌||◌, List, [], ◌∷◌, ◌++◌, length, length-append, map, refl, sym, ap, ◌∙◌, subst, arith, All, Some, None, Ok, is_some, IfSome, get_or}
+use Rattle.flatten.proofs.Common.{length-map, All-nil, All-cons, All-head, All-tail, All-append, list_any-append, list_any, find, flat_map, position_or_len, IsDistinct, AllByRecursion, option_or, bytes_eq, Option, Sig, Clock, Parts, BlifModel, GateLine, LatchLine, is_among, FlatLines, IsPrintedGate, own_clocks, latch_outputs, gate_outputs, reads, first_twice, twice_after, signal_list, sig_of, has_bad_control, declared_twice, driven_twice, link_fault, latch_with, gate_with, netlist_by, linked, cases_Bool, bytes_eq-true, All-map, All-weaker}
 use Rattle.std.proofs.lemmas.Map.Keys.{IsDistinct-cons, IsDistinct-head, IsDistinct-tail}
 use Rattle.std.proofs.lemmas.Bool.{not-false, or_cases, both_ways, ne_eqb}
 use Rattle.cyc_base.specs.Names.{IsBlifName}
 use Rattle.cyc_base.proofs.ListLemmas.{option_or-neither, option_map-nothing, list_any-map, map-map}
 use Rattle.cyc_base.proofs.TruthLemmas.{first_of_and, second_of_and}
-use Rattle.netlist.specs.declared.parts.Gate.{Gate as FlatGate}
-use Rattle.netlist.specs.declared.parts.Latch.{Latch as FlatLatch}
 use Rattle.netlist.specs.Netlists.{count, signal_names, IsSignal, IsClockName, IsNetlist, sig_eq}
 use Rattle.blif_read.specs.Flattening.{IsSoundModel}
 use Rattle.flatten.specs.Printable.{ArePrintedLines}
-use Rattle.flatten.specs.Linking.{drivers, first_control, is_clock_of, is_fitting, undriven, bad_clock, clock_read}
+use Rattle.flatten.specs.Linking.{drivers, first_control, is_clock_of, undriven, bad_clock, clock_read}
 use Rattle.flatten.proofs.Names.{bytes_refl}
 use Rattle.flatten.proofs.Libraries.{among_gathered}
 use Rattle.flatten.proofs.Gathering.{fresh_apart, twice-append, own_clocks_gathered}

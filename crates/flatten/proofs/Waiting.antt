@@ -1,6 +1,6 @@
 -- The levels that are open, and what the walk comes to at their next items.
-use Rattle.std.proofs.Common.{◌≡◌, ℕ, zero, suc, ◌-◌, ◌<◌, nat_le, Bool, true, false, List, [], ◌∷◌, ◌++◌, length, map, drop, refl, ap, sym, ◌∙◌, subst, arith, append_assoc, Some, None, Ok, Err, add-one, All, option_map, inl, inr, ◌⊎◌}
-use Rattle.flatten.proofs.Common.{or-false, common_steps, append-nil, All-nil, All-cons, list_any, bytes_eq, decimal, Option, Clock, BlifModel, GateLine, LatchLine, PartLine, Item, Gate, Latch, Part, FlatFault, Level, Instance, name_at, gate_at, latch_at, clock_at, model_at, is_open, entry, entered, pairs_fault, find_model, Event, gate, latch, opens, fails, events, resolved, bound, gate_by, latch_by, passed_line, passed_part, Result}
+use Rattle.std.proofs.Common.{◌≡◌, ℕ, suc, ◌-◌, ◌<◌, nat_le, Bool, false, List, [], ◌∷◌, ◌++◌, length, map, drop, refl, ap, ◌∙◌, arith, append_assoc, Some, Ok, Err, add-one, All, option_map, ◌⊎◌}
+use Rattle.flatten.proofs.Common.{or-false, common_steps, append-nil, All-nil, All-cons, list_any, bytes_eq, Option, Clock, BlifModel, GateLine, LatchLine, PartLine, Item, Gate, Latch, Part, FlatFault, Level, Instance, name_at, gate_at, latch_at, clock_at, model_at, is_open, entry, entered, Event, gate, latch, opens, fails, events, resolved, gate_by, latch_by, passed_line, passed_part}
 use Rattle.flatten.specs.Laws.{prefix_of, table_of}
 use Rattle.flatten.specs.Levels.{clock_by, IsInner, IsAt, remaining, Waits}
 use Rattle.flatten.proofs.Climbing.{resolved_is_climbed}
@@ -112,9 +112,6 @@ module _ (depth : ℕ) (models : List BlifModel) (top m : List ℕ) where
 
   pub end_step : (level : Level) (below : List Level) (path : List Instance) (rest : List Event) → Waits depth models top m (level ∷ below) path rest → drop level.next (model_at models level.model).body ≡ [] → (up : List Instance) × Waits depth models top m below up rest
   end_step level below path rest w e = grind (arith, top_of level below path rest w, events_nil)
-
-  after_remaining : (level : Level) (path : List Instance) → events (depth - length path) depth models top m path (suc (suc level.parts)) (drop (suc level.next) (model_at models level.model).body) ≡ remaining depth models top m (passed_part level) path
-  after_remaining level path = rw (add-one level.parts, add-one level.next) refl
 
   pub fault_step : (level : Level) (below : List Level) (path : List Instance) (rest : List Event) (p : PartLine) (fault : FlatFault) → Waits depth models top m (level ∷ below) path rest → StandsAt models level (Part p) → entered depth models top path p ≡ Err fault → (next : List Event) × (rest ≡ fails fault ∷ next)
   fault_step level below path rest p fault w e h = grind (arith, top_of level below path rest w, events_fault)

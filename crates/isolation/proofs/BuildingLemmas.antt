@@ -1,5 +1,5 @@
 -- A small netlist while it is made.
-use Rattle.std.proofs.Common.{◌≡◌, inl, inr, ℕ, ◌+◌, ◌-◌, ◌<◌, ◌≤◌, false, List, [], ◌∷◌, ◌++◌, length, map, take, get_or, if◌then◌else◌, eqb, Option, Some, None, Result, Ok, Err, IfOk, IsSome, refl, sym, ap, ap₂, ◌∙◌, subst, arith, Contains, true≢false}
+use Rattle.std.proofs.Common.{◌≡◌, inl, inr, ℕ, ◌+◌, ◌-◌, ◌<◌, ◌≤◌, false, List, [], ◌∷◌, ◌++◌, length, map, take, get_or, if◌then◌else◌, eqb, Option, Some, None, Result, Err, IfOk, IsSome, refl, sym, ap, ap₂, ◌∙◌, subst, arith, Contains, true≢false}
 use Rattle.isolation.proofs.Common.{cases_Bool, cases_lt, eqb-true, eq-eqb, get_or-map, get_or_default, get_or_append_left, length-map, map-append, All, list_any, IfSome, Sig, Gate, Parts, IsNetlist, count, signal, no_gate, gate_at, gate_sig, Blocks, AreBlocksOf, block_at, home_of, first_gate, gate_home, home_gate, origins, origin, gate_in, IsExcerpt, AreClosed, AreCopies, AreNumbersOf, IsLoopNetlist, Contains-get_or}
 use Rattle.std.proofs.lemmas.List.{get_or_push, length_push, take_more, take_all}
 use Rattle.std.proofs.lemmas.List.Elements.{Contains-append_left, Contains-push, Contains-push_cases, All-push}

@@ -1,6 +1,6 @@
 -- Excerpts whose inputs are the columns, and lists of marked gates.
 use Rattle.std.proofs.Common.{◌≡◌, inl, inr, ℕ, ◌+◌, ◌<◌, Bool, true, false, List, [], ◌∷◌, ◌++◌, length, sym, ap, ◌∙◌, subst, arith, Contains, true≢false}
-use Rattle.isolation.proofs.Common.{cases_lt, get_or-map, get_or_default, get_or_append_left, length-map, ext_get_or, range_with_len, Trit, X, bit, bits, signal, wire, fix, fix_gates, first_gate, value_in, gate_in, inputs_in, Contains-get_or}
+use Rattle.isolation.proofs.Common.{cases_lt, get_or-map, get_or_default, get_or_append_left, length-map, ext_get_or, range_with_len, X, bit, bits, signal, wire, fix, fix_gates, first_gate, gate_in, inputs_in, Contains-get_or}
 use Rattle.std.proofs.lemmas.List.{get_or_push, length_push}
 use Rattle.std.proofs.lemmas.List.Elements.{Contains-append_left, Contains-push, Contains-push_cases}
 use Rattle.std.proofs.lemmas.List.FromFn.{length-range_with_len, get_or-range_with_len}

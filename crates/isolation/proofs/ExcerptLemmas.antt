@@ -1,6 +1,6 @@
 -- What the small netlist of some gates has to do with the whole.
 use Rattle.std.proofs.Common.{◌≡◌, ◌≢◌, ℕ, zero, suc, ◌<◌, Bool, true, false, List, [], ◌∷◌, ◌++◌, length, map, get_or, refl, sym, ap, ap₂, ◌∙◌, subst, arith}
-use Rattle.isolation.proofs.Common.{get_or-map, length-map, length-append, map-append, ext_get_or, map-map, Sig, Trit, X, bit, bits, ext, Cover, Parts, IsNetlist, count, signal, no_gate, gate_at, gate_sig, wire, fix, fix_gates, first_gate, value_in, wire_of_gate, origins, origin, gate_in, inputs_in, IsExcerpt}
+use Rattle.isolation.proofs.Common.{get_or-map, length-map, length-append, map-append, ext_get_or, map-map, Sig, Trit, X, bit, bits, ext, Cover, Parts, IsNetlist, count, signal, gate_at, gate_sig, wire, fix, fix_gates, first_gate, value_in, wire_of_gate, origins, origin, gate_in, inputs_in, IsExcerpt}
 use Rattle.cyc_base.specs.declared.trit.Trit.TheVariants.{Zero, One}
 use Rattle.cyc_base.specs.Values.{EachBelow}
 use Rattle.cyc_base.proofs.OrderLemmas.{EachBelow-at, Below-known}

@@ -1,5 +1,5 @@
 -- The signals of a small netlist as those of the whole: the wires outside, and then the gates.
-use Rattle.std.proofs.Common.{◌≡◌, ℕ, ◌+◌, ◌-◌, ◌<◌, List, length, map, get_or, refl, ap, ◌∙◌, arith}
+use Rattle.std.proofs.Common.{◌≡◌, ℕ, ◌+◌, ◌-◌, ◌<◌, List, length, map, get_or, ap, ◌∙◌, arith}
 use Rattle.isolation.proofs.Common.{get_or-map, get_or_append_left, get_or-append_right, length-append, length-map, Sig, Parts, signal, gate_sig, origins, gate_in}
 
 module _ (net : Parts) (outside : List Sig) (gates : List ℕ) where

@@ -1,9 +1,9 @@
 -- Loops that are settled by themselves, in the whole netlist.
-use Rattle.std.proofs.Common.{◌≡◌, ◌≢◌, inl, inr, ℕ, zero, suc, ◌<◌, Bool, true, false, List, length, map, get_or, refl, sym, ap, ◌∙◌, subst, arith, Contains, true≢false}
+use Rattle.std.proofs.Common.{◌≡◌, ◌≢◌, inl, inr, ℕ, zero, suc, ◌<◌, Bool, true, false, List, length, map, get_or, sym, ap, ◌∙◌, subst, arith, Contains, true≢false}
 use Rattle.netlist.proofs.FixpointLemmas.{get_or-fix}
 use Rattle.cyc_base.proofs.ListLemmas.{Contains-map}
 use Rattle.cyc_base.proofs.OrderLemmas.{bit-known}
-use Rattle.isolation.proofs.Common.{cases_lt, cases_eq, cases_Bool, get_or-map, get_or_default, get_or_append_left, length-map, Sig, X, bit, bits, ext, Parts, IsNetlist, count, signal, no_gate, gate_at, gate_sig, wire, fix, fix_gates, Feeds, Blocks, AreBlocksOf, block_at, home_of, first_gate, gate_of, value_in, wire_of_gate, leads-trans, gate_home, home_gate, gate_in, IsUpstream, Contains-get_or}
+use Rattle.isolation.proofs.Common.{cases_lt, cases_eq, cases_Bool, get_or-map, get_or_default, get_or_append_left, length-map, Sig, X, bit, bits, ext, Parts, IsNetlist, count, signal, no_gate, gate_at, gate_sig, wire, fix, fix_gates, Feeds, Blocks, AreBlocksOf, block_at, home_of, first_gate, value_in, wire_of_gate, leads-trans, gate_home, home_gate, gate_in, IsUpstream, Contains-get_or}
 use Rattle.cover_logic.specs.Covers.{value}
 use Rattle.cover_logic.proofs.ExtensionLemmas.{ext_at_bits}
 use Rattle.loops.proofs.Walks.{leads-step}

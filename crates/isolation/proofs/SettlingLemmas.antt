@@ -1,5 +1,5 @@
 -- What the solution of a small netlist on rails shows.
-use Rattle.std.proofs.Common.{◌≡◌, inl, inr, ℕ, zero, suc, ◌+◌, ◌-◌, ◌<◌, ◌≤◌, Bool, true, false, ◌&&◌, List, [], ◌∷◌, length, map, filter, get_or, refl, sym, ap, ap₂, ◌∙◌, subst, arith, true≢false}
+use Rattle.std.proofs.Common.{◌≡◌, inl, inr, ℕ, zero, suc, ◌+◌, ◌-◌, ◌<◌, ◌≤◌, Bool, true, false, ◌&&◌, List, [], ◌∷◌, length, map, filter, get_or, refl, sym, ap, ◌∙◌, subst, arith, true≢false}
 use Rattle.std.proofs.Math.Path.{fun_ext}
 use Rattle.isolation.proofs.Common.{cases_Bool, and_parts, get_or-map, get_or-append_right, length-map, length-append, All, range_with_len, Node, Arena, den, Trit, X, bit, bits, Rails, value_of, values_of, Parts, IsNetlist, fix, fix_gates, Blocks, AreBlocksOf, block_at, home_of, Loops, AreLoopsOf, loops_of, first_gate, value_in, sweeps, CutsAreFixed, loops_exist, rails_under, Vectors, IsLoopNetlist, AreKnown, IsSolvedNetlist}
 use Rattle.bdd_ops.specs.Least.{by_variable}

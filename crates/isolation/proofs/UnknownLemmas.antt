@@ -1,5 +1,5 @@
 -- Rails that aren't known at all vectors, and the gates that they stand for.
-use Rattle.std.proofs.Common.{◌≡◌, ◌≢◌, inl, inr, ◌⊎◌, ℕ, zero, suc, ◌+◌, ◌-◌, ◌<◌, Bool, true, false, ◌||◌, ◌==◌, List, [], ◌∷◌, length, get_or, Option, Some, None, Result, Ok, Err, IfOk, refl, sym, ap, ◌∙◌, arith, true≢false}
+use Rattle.std.proofs.Common.{◌≡◌, ◌≢◌, inl, inr, ◌⊎◌, ℕ, zero, suc, ◌+◌, ◌-◌, ◌<◌, Bool, true, false, ◌||◌, ◌==◌, List, [], ◌∷◌, length, get_or, Option, Result, IfOk, sym, ap, ◌∙◌, arith, true≢false}
 use Rattle.isolation.proofs.Common.{cases_Bool, cases_lt, eq-eqb, get_or-map, get_or_default, get_or_append_left, get_or-append_right, length-map, All, Node, Arena, den, KeepsNodes, IsLawful, Trit, X, bit, bits, Rails, AreRailsOf, value_of, values_of, Parts, fix, fix_gates, IsNetlist, first_gate, value_in, order, Vectors, rails_at, unknown, IsLoopNetlist, HasUnknownRails}
 use Rattle.std.specs.Prelude.{IfNone}
 use Rattle.cyc_base.proofs.ListLemmas.{empty_list}
@@ -109,9 +109,6 @@ unknown-gate net points points_are a rails proper vector values vars at =
 -- none for one of two causes
 pub unknown-or : (net : Parts) (budget : ℕ) (found : Option ℕ) → IfNone found (HasUnknown net) → IfNone found (HasUnknown net ⊎ IsBelowEnough net budget)
 unknown-or net budget found is = grind arith
-
-pub unsettled-is : (net : Parts) (gates : List ℕ) (small : Parts) (budget : ℕ) → IsNetlist small → IsLoopNetlist net gates small → HasUnknown small ⊎ IsBelowEnough small budget → AreUnsettled net gates budget
-unsettled-is net gates small budget valid is shown = record { outside = is.outside; small = small; valid = valid; is = is.is; read = is.read; once = is.once; shown = shown }
 
 pub unsettled-found : {E : Type 0} (net : Parts) (gates : List ℕ) (small : Parts) (budget : ℕ) (made : Result (Option ℕ) E) → IsNetlist small → IsLoopNetlist net gates small → IfOk made (λ found. IfNone found (HasUnknown small ⊎ IsBelowEnough small budget)) → IfOk made (λ found. IfNone found (AreUnsettled net gates budget))
 unsettled-found net gates small budget made valid is shown = grind arith

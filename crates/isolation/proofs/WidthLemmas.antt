@@ -1,7 +1,7 @@
 -- The functions that a solution and the comparison of its sweeps work with, and what they cost.
-use Rattle.std.proofs.Common.{◌≡◌, ◌⊎◌, inl, inr, ℕ, ◌+◌, ◌*◌, ◌<◌, ◌≤◌, Bool, true, false, ◌||◌, List, [], ◌∷◌, length, map, get_or, Result, Err, refl, sym, ap, ap₂, ◌∙◌, subst, arith}
-use Rattle.std.proofs.Math.Nat.{mul-le-mul_left, mul-le-mul_right}
-use Rattle.isolation.proofs.Common.{cases_Bool, get_or-map, length-map, length-append, All, Node, Arena, den, AddsWithin, GrowsWithin, KeepsNodes, NoOtherCause, within_more, within_moved, Trit, X, bits, Rails, AreRailsOf, value_of, values_of, IsWide, Gate, Parts, fix, fix_gates, IsNetlist, count, gate_at, no_gate, Blocks, AreBlocksOf, Loops, loops_of, first_gate, value_in, loops_exist, rails_under, order, Vectors, rails_at, unknown, BoundsKnown, IsSolvedNetlist, IsLaid}
+use Rattle.std.proofs.Common.{◌≡◌, ◌⊎◌, inl, inr, ℕ, ◌+◌, ◌*◌, ◌<◌, ◌≤◌, Bool, true, false, ◌||◌, List, [], ◌∷◌, length, map, Result, Err, refl, sym, ap, ap₂, ◌∙◌, subst, arith}
+use Rattle.std.proofs.Math.Nat.{mul-le-mul_left}
+use Rattle.isolation.proofs.Common.{cases_Bool, get_or-map, length-map, length-append, All, Node, Arena, den, AddsWithin, GrowsWithin, KeepsNodes, NoOtherCause, within_more, within_moved, Trit, bits, Rails, AreRailsOf, value_of, values_of, IsWide, Gate, Parts, fix, fix_gates, IsNetlist, count, gate_at, Blocks, AreBlocksOf, Loops, loops_of, first_gate, value_in, loops_exist, rails_under, order, Vectors, rails_at, BoundsKnown, IsSolvedNetlist, IsLaid}
 use Rattle.std.proofs.lemmas.List.Elements.{All-contains}
 use Rattle.std.proofs.lemmas.List.Sums.{sum_by-cons, get_or-le-sum_by}
 use Rattle.std.specs.List.{sum_by}

@@ -1,5 +1,5 @@
 -- The gates of a block, all of them made unknown.
-use Rattle.std.proofs.Common.{◌≡◌, inl, inr, ℕ, ◌+◌, ◌<◌, ◌==◌, Bool, true, List, length, get_or, set, ◌∙◌, subst, arith, Contains, eq-eqb}
+use Rattle.std.proofs.Common.{◌≡◌, ℕ, ◌+◌, ◌<◌, ◌==◌, Bool, true, List, length, get_or, set, arith, Contains, eq-eqb}
 use Rattle.simulation.proofs.Common.{cases_lt, cases_eq, eqb-true, get_or-set_same, get_or-set_other, get_or_past, length-set, Trit, X, Parts, gate_sig, wire, Blocks, AreBlocksOf, home_of, AreKept, AreSettled, is_due, IsRising}
 use Rattle.std.specs.List.{range_with_len}
 use Rattle.cyc_base.proofs.ListLemmas.{Contains-filter, Contains-range}

@@ -1,7 +1,6 @@
 -- A gate outside loops is settled by its cover alone.
-use Rattle.std.proofs.Common.{◌≡◌, ◌≢◌, inl, inr, ℕ, ◌+◌, ◌<◌, ◌≤◌, Bool, true, false, List, length, set, ap, sym, subst, ◌∙◌, arith, Contains, true≢false}
+use Rattle.std.proofs.Common.{◌≡◌, ◌≢◌, inl, inr, ℕ, ◌+◌, ◌<◌, ◌≤◌, Bool, true, false, List, length, set, ap, sym, ◌∙◌, arith, Contains, true≢false}
 use Rattle.simulation.proofs.Common.{cases_lt, cases_eq, get_or-set_same, get_or-set_other, length-set, Sig, Trit, X, Parts, IsNetlist, count, gate_at, gate_sig, wire, gate_value, fix, fix_gates, Blocks, AreBlocksOf, home_of, AreKept, AreSettled, is_due, vector_of}
-use Rattle.netlist.specs.Walks.{Feeds}
 use Rattle.loops.specs.Blocks.{block_at}
 use Rattle.loops.proofs.Told.{other_blocks_are_single}
 use Rattle.loops.proofs.Walks.{leads-step}

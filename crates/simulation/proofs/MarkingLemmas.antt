@@ -1,7 +1,6 @@
 -- Where a signal changes, its readers' blocks become due, and all other blocks stay stable.
 use Rattle.std.proofs.Common.{◌≡◌, ◌≢◌, inl, inr, ℕ, ◌+◌, ◌<◌, Bool, true, false, List, length, get_or, set, refl, ap, sym, ◌∙◌, arith, Contains, true≢false}
 use Rattle.simulation.proofs.Common.{cases_lt, cases_eq, get_or-set_same, get_or-set_other, get_or_past, length-set, Sig, Trit, X, Parts, gate_sig, Blocks, home_of, readers_of, AreKept, is_due}
-use Rattle.std.proofs.lemmas.Bool.{cases_Bool}
 use Rattle.simulation.specs.Plans.{AreReadersOf}
 use Rattle.simulation.specs.Marking.{AreMarked, StayDue}
 

@@ -1,12 +1,11 @@
 -- What a gate reads: inputs, latches, and gates of its block or of blocks before it.
-use Rattle.std.proofs.Common.{◌≡◌, ◌⊎◌, inl, inr, ℕ, zero, suc, ◌+◌, ◌-◌, ◌<◌, ◌≤◌, List, [], ◌∷◌, length, map, get_or, ap, sym, ◌∙◌, subst, arith, Contains}
+use Rattle.std.proofs.Common.{◌≡◌, ◌⊎◌, inl, inr, ℕ, zero, suc, ◌+◌, ◌-◌, ◌<◌, ◌≤◌, List, [], ◌∷◌, length, map, get_or, ap, sym, ◌∙◌, arith, Contains}
 use Rattle.simulation.proofs.Common.{cases_lt, get_or_default, Sig, Trit, X, Below, Parts, IsNetlist, count, gate_at, gate_sig, wire, gate_value, fix, fix_gates, Blocks, AreBlocksOf, home_of, first_gate, vector_of}
 use Rattle.std.proofs.lemmas.List.{get_or_append_left, get_or-append-add, get_or-take, length-take-le}
 use Rattle.cyc_base.specs.Values.{EachBelow}
 use Rattle.cover_logic.specs.Extensions.{ext}
 use Rattle.cover_logic.proofs.ExtensionLemmas.{ext_is_monotone}
 use Rattle.netlist.specs.declared.parts.Gate.{Gate}
-use Rattle.netlist.specs.Netlists.{no_gate}
 use Rattle.netlist.specs.Fixpoint.{wires}
 use Rattle.netlist.proofs.FixpointLemmas.{get_or-fix}
 use Rattle.loops.proofs.Reading.{map_agree}

@@ -1,7 +1,6 @@
 -- The scope of all gates, in which each pair of wires is.
 use Rattle.std.proofs.Common.{◌≡◌, ℕ, ◌<◌, Bool, true, List, length, get_or, All, arith}
 use Rattle.verdict.proofs.Common.{Parts}
-use Rattle.loops.specs.Sweeps.{gate_of}
 use Rattle.clause_decision.specs.declared.pairs.Hint.{Hint}
 use Rattle.clause_decision.specs.declared.pairs.Pair.{Pair}
 use Rattle.clause_decision.specs.declared.scope.Scope.{Scope}

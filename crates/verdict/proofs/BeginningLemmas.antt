@@ -1,5 +1,5 @@
 -- What is decided without the gates: initial states and the care set.
-use Rattle.std.proofs.Common.{◌≡◌, Bool, true, false, not, List, length, Option, Some, None, refl, sym, ap, ◌∙◌, arith}
+use Rattle.std.proofs.Common.{◌≡◌, Bool, true, false, not, List, length, Option, Some, None, sym, ap, ◌∙◌, arith}
 use Rattle.verdict.proofs.Common.{find, is_none, is_some, option_map, vectors, Parts, CareSet, columns, is_in_invariant, is_care_vector, Observe, Initial, EmptyCare, initial_refusal, refusal, MayGoOn}
 use Rattle.refusals.specs.Refusals.{is_initial}
 use Rattle.refusals.proofs.FirstLemmas.{find-filter}

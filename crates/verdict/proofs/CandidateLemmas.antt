@@ -1,6 +1,6 @@
 -- The refusal of the first observed gate that is unknown on care.
-use Rattle.std.proofs.Common.{◌≡◌, inl, inr, ℕ, ◌<◌, Bool, true, false, not, List, length, map, get_or, Option, Some, None, refl, sym, ap, ◌∙◌, subst, arith, Contains, true≢false}
-use Rattle.verdict.proofs.Common.{find, is_some, and_from, cases_lt, get_or-map, get_or_default, length-map, vectors, Parts, IsNetlist, gate_sig, Blocks, AreBlocksOf, is_marked, ListsMarked, unsettled_loops_decide, CareSet, columns, is_care_vector, Observe, observed, is_undetermined, is_x, none_passes, gate_wire, care_vector_is, is_unknown_at, SettleInOneSweep, AreMarksOf, All, IsFirstToRefuse}
+use Rattle.std.proofs.Common.{◌≡◌, inl, inr, ℕ, ◌<◌, Bool, true, false, not, List, length, map, get_or, Option, None, refl, sym, ap, ◌∙◌, subst, arith, Contains, true≢false}
+use Rattle.verdict.proofs.Common.{find, is_some, and_from, cases_lt, get_or-map, get_or_default, length-map, vectors, Parts, IsNetlist, gate_sig, Blocks, AreBlocksOf, is_marked, ListsMarked, unsettled_loops_decide, CareSet, columns, is_care_vector, Observe, observed, is_undetermined, none_passes, gate_wire, care_vector_is, is_unknown_at, SettleInOneSweep, AreMarksOf, All, IsFirstToRefuse}
 use Rattle.std.proofs.lemmas.Bool.{cases_eq}
 use Rattle.isolation.specs.Excerpts.{gate_in}
 use Rattle.clause_decision.specs.Tests.{is_unknown, IsFirstUnknown}

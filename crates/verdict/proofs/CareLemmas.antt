@@ -1,11 +1,8 @@
 -- Care models on rails.
-use Rattle.std.proofs.Common.{◌≡◌, ℕ, ◌-◌, ◌*◌, ◌<◌, Result, Bool, true, false, List, [], length, map, get_or, Option, Some, None, refl, sym, ap, ap₂, ◌∙◌, subst, arith}
-use Rattle.verdict.proofs.Common.{IsSomeAnd, option_map, option_map_or, get_or-map, length-map, Node, StoreFault, GrowsWithin, within_more, within_moved, Arena, den, Sig, Trit, X, bit, bits, Rails, AreRailsOf, trit_of, value_of, values_of, BoundsEach, Parts, wire, fix, IsNetlist, count, map_agree, HasLargeCover, effort, HasModelOver, CareModel, CareSet, is_one, holds_at, rails_at, rails_at-proper, read_by, IsOfModel, BoundsModel, model_of, ReadsWithin, IfSome, All, HasValues}
+use Rattle.std.proofs.Common.{◌≡◌, ℕ, ◌-◌, ◌*◌, ◌<◌, Result, Bool, true, false, List, [], length, map, get_or, Option, Some, sym, ap, ◌∙◌, subst, arith}
+use Rattle.verdict.proofs.Common.{IsSomeAnd, option_map, option_map_or, get_or-map, length-map, Node, StoreFault, GrowsWithin, Arena, den, Sig, Trit, X, bit, bits, Rails, AreRailsOf, value_of, values_of, BoundsEach, Parts, wire, fix, IsNetlist, count, map_agree, HasLargeCover, effort, HasModelOver, CareModel, CareSet, is_one, holds_at, rails_at, rails_at-proper, read_by, IsOfModel, BoundsModel, model_of, ReadsWithin, IfSome, All, HasValues}
 use Rattle.std.proofs.Math.Path.{fun_ext}
-use Rattle.bdd_store.proofs.GrowthLemmas.{within_caused}
 use Rattle.std.proofs.lemmas.List.Elements.{All-map}
-use Rattle.std.proofs.lemmas.Option.{same_Some}
-use Rattle.std.specs.List.{slice_index_or}
 use Rattle.cyc_base.proofs.ListLemmas.{map-map}
 use Rattle.cyc_base.proofs.OrderLemmas.{bits-at}
 use Rattle.care_sets.specs.Care.{inputs_at}

@@ -36,7 +36,6 @@ pub use Rattle.isolation.proofs.ColumnLemmas.{AreColumns-kept}
 pub use Rattle.isolation.proofs.SettledLemmas.{unsettled_loops_decide}
 pub use Rattle.isolation.specs.Columns.{AreColumns}
 pub use Rattle.isolation.specs.Cones.{AddMarks, ListsMarked, is_marked}
-pub use Rattle.loops.specs.Looped.{Looped}
 pub use Rattle.loops.proofs.Reading.{map_agree}
 pub use Rattle.loops.proofs.Told.{gate_home, home_gate}
 pub use Rattle.loops.specs.Blocks.{AreBlocksOf, block_at, home_of}
@@ -62,7 +61,7 @@ pub use Rattle.std.proofs.lemmas.List.{get_or-map, get_or-replicate, get_or_appe
 pub use Rattle.std.proofs.lemmas.Option.{get_or_from_slice_get, slice_get_within}
 pub use Rattle.std.proofs.lemmas.Result.{IfOk-weaker}
 pub use Rattle.std.specs.List.{list_all, All}
-pub use Rattle.std.specs.Option.{option_map, option_map_or, option_or}
+pub use Rattle.std.specs.Option.{option_map, option_map_or}
 pub use Rattle.std.specs.Prelude.{IsSomeAnd, find, is_none, is_some, IfSome}
 pub use Rattle.verdict.specs.Fanout.{AreFanoutMarks}
 pub use Rattle.verdict.specs.Causes.{HasModelOver, HasCoverOver}

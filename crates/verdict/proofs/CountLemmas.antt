@@ -1,11 +1,10 @@
 -- Numbers of sweeps on the vectors of a care set.
-use Rattle.std.proofs.Common.{◌≡◌, ◌==◌, ℕ, zero, suc, ◌<◌, ◌≤◌, Bool, true, false, not, ◌&&◌, if◌then◌else◌, List, [], ◌∷◌, length, map, get_or, slice_get, Option, Some, None, refl, sym, ap, ap₂, ◌∙◌, subst, arith}
-use Rattle.verdict.proofs.Common.{list_all, option_map_or, and_parts, and_from, eqb-true, length-map, Node, Arena, den, IsLayout, Trit, X, bit, bits, Rails, trit_of, value_of, values_of, Parts, Loops, IsCountOfSweeps, map_agree, CareSet, columns, is_one, is_care_vector, is_x, Tells, AreColumnVectors, AreColumns, order, laid, by_column, length-by_column, variables-back, order-is, Vectors, are_care_values, IsCareVector, care_vector_decides, care_vector_is}
+use Rattle.std.proofs.Common.{◌≡◌, ◌==◌, ℕ, zero, suc, ◌<◌, ◌≤◌, Bool, true, false, not, List, [], ◌∷◌, length, map, get_or, refl, sym, ap, ◌∙◌, subst, arith}
+use Rattle.verdict.proofs.Common.{list_all, and_parts, and_from, eqb-true, length-map, Node, Arena, den, IsLayout, Trit, bits, Rails, values_of, Parts, Loops, IsCountOfSweeps, map_agree, CareSet, columns, is_one, is_care_vector, is_x, Tells, AreColumnVectors, AreColumns, order, laid, by_column, length-by_column, variables-back, order-is, Vectors, are_care_values, IsCareVector, care_vector_decides, care_vector_is}
 use Rattle.std.proofs.lemmas.Bool.{eq-eqb}
 use Rattle.bdd_store.specs.declared.node.Entry.{Entry}
-use Rattle.bdd_store.specs.Arena.{index, is_marked, flipped, chosen, den_within}
+use Rattle.bdd_store.specs.Arena.{index, is_marked, flipped, den_within}
 use Rattle.bdd_store.specs.Soundness.{IsSound}
-use Rattle.cyc_base.specs.declared.trit.Trit.TheVariants.{Zero, One}
 use Rattle.loops.specs.Sweeps.{CutsAreFixed}
 use Rattle.refusals.proofs.RefusalLemmas.{bits_back, length-bits}
 use Rattle.verdict.specs.Solving.{fit}

@@ -1,6 +1,6 @@
 -- Functions that are made of those of a decision.
 use Rattle.std.proofs.Common.{◌≡◌, inl, inr, ℕ, ◌+◌, ◌<◌, ◌≤◌, Result, Bool, true, false, not, ◌&&◌, ◌⊎◌, List, length, refl, sym, ap, ap₂, subst, ◌∙◌, arith}
-use Rattle.verdict.proofs.Common.{Node, StoreFault, Arena, den, KeepsNodes, adds_moved, within_then, within_moved, conjunction, nodes, nodes-alike, Trit, bit, bits, Rails, AreRailsOf, value_of, IsWide, is_bit, Parts, fix, count, value_in, order, laid, rails_at, one-of, zero-of, by_column, length-by_column, variables-back, order-is, rails_at-proper, CareSet, columns, is_care_vector, IsLaid, AddsInDecision, GrowsInDecision, SaysCare, Tells, AreFixed, BoundsBoth, BoundsStarts, starts, has_state_inside, difference}
+use Rattle.verdict.proofs.Common.{Node, StoreFault, Arena, den, KeepsNodes, adds_moved, within_then, within_moved, conjunction, nodes, nodes-alike, bit, bits, Rails, value_of, IsWide, is_bit, Parts, fix, count, value_in, order, laid, rails_at, one-of, zero-of, by_column, length-by_column, variables-back, order-is, rails_at-proper, CareSet, columns, is_care_vector, IsLaid, AddsInDecision, GrowsInDecision, SaysCare, Tells, AreFixed, BoundsBoth, BoundsStarts, starts, has_state_inside, difference}
 use Rattle.bdd_store.proofs.GrowthLemmas.{adds_caused}
 use Rattle.verdict.specs.Sets.{unknown_in}
 use Rattle.bdd_ops.specs.Operations.{bit_at}

@@ -1,6 +1,6 @@
 -- Netlists whose gates are all determined on care.
-use Rattle.std.proofs.Common.{◌≡◌, inl, inr, ℕ, ◌+◌, ◌<◌, Bool, true, false, not, if◌then◌else◌, List, [], ◌∷◌, ◌++◌, length, get_or, Option, Some, None, refl, sym, ap, ap₂, ◌∙◌, subst, arith, true≢false}
-use Rattle.verdict.proofs.Common.{find, is_none, is_some, option_map_or, option_map, option_or, cases_lt, get_or_append_left, Trit, bits, vectors, Parts, IsNetlist, Blocks, Cut, AreBlocksOf, Loops, IsCountOfSweeps, unsettled_loops_decide, is_marked, CareSet, columns, is_care_vector, holds_at, CareModel, Refusal, EmptyCare, Leaves, Observe, care_vectors, next_state, leaves, undetermined_refusal, empty-filter, found_wide, care_vector_decides, care_vector_is, SettleInOneSweep, IsLeastCount, are_care_values, AreLoose}
+use Rattle.std.proofs.Common.{◌≡◌, inl, inr, ℕ, ◌+◌, ◌<◌, Bool, true, false, if◌then◌else◌, List, [], ◌∷◌, ◌++◌, length, get_or, Option, Some, None, refl, sym, ◌∙◌, subst, arith, true≢false}
+use Rattle.verdict.proofs.Common.{find, cases_lt, get_or_append_left, Trit, bits, vectors, Parts, IsNetlist, Blocks, Cut, AreBlocksOf, Loops, IsCountOfSweeps, unsettled_loops_decide, is_marked, CareSet, columns, is_care_vector, Refusal, EmptyCare, Observe, care_vectors, leaves, undetermined_refusal, empty-filter, found_wide, care_vector_decides, care_vector_is, SettleInOneSweep, IsLeastCount, are_care_values, AreLoose}
 use Rattle.std.proofs.lemmas.List.{get_or_push}
 use Rattle.verdict.specs.Loose.{AreKnownAround}
 use Rattle.cyc_base.proofs.OrderLemmas.{bit-known, bits-at}
@@ -8,7 +8,7 @@ use Rattle.loops.specs.declared.structure.SweepCounts.{SweepCounts}
 use Rattle.loops.specs.Sweeps.{CutsAreFixed}
 use Rattle.isolation.specs.Laws.{AreDeterminedAt}
 use Rattle.refusals.specs.Acceptance.{SomeCareVector}
-use Rattle.refusals.specs.Refusals.{is_empty, empty_refusal}
+use Rattle.refusals.specs.Refusals.{empty_refusal}
 use Rattle.refusals.proofs.FirstLemmas.{found_passes}
 use Rattle.refusals.proofs.RefusalLemmas.{find_none-all, length-bits}
 use Rattle.verdict.specs.Determination.{AreDeterminedOnCare, IsDetermination, IsGate, IsOpen}

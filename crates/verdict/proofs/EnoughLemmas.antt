@@ -1,12 +1,9 @@
 -- What a decision costs, added up, and covers over the limit.
-use Rattle.std.proofs.Common.{inl, inr, ℕ, ◌+◌, ◌*◌, ◌<◌, ◌≤◌, Option, Some, None, length, arith}
+use Rattle.std.proofs.Common.{ℕ, ◌+◌, ◌*◌, ◌<◌, ◌≤◌, Option, length, arith}
 use Rattle.verdict.proofs.Common.{IsSomeAnd, option_map_or, IsWide, Parts, HasLargeCover, effort, CareModel, CareSet, columns, assume_effort, invariant_effort, decision_cost, IsLaid, HasCoverOver}
 use Rattle.std.proofs.lemmas.List.Sums.{get_or-le-sum_by}
 use Rattle.std.proofs.Math.Nat.{mul-le-mul_left}
 use Rattle.isolation.proofs.WidthLemmas.{effort-enough, gates-effort}
-use Rattle.dual_rail.specs.Local.{size}
-use Rattle.netlist.specs.declared.parts.Gate.{Gate}
-use Rattle.netlist.specs.Netlists.{no_gate}
 use Rattle.verdict.specs.Enough.{enough, in_all}
 
 -- ---- the sum

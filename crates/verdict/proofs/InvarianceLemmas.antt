@@ -1,6 +1,6 @@
 -- What the invariant reads.
-use Rattle.std.proofs.Common.{◌≡◌, ℕ, ◌-◌, ◌<◌, List, [], length, Option, Some, None, IfSome, refl, sym, ap, subst, arith}
-use Rattle.verdict.proofs.Common.{option_map_or, Parts, CareModel, IsCareOf, CareSet, ReadsWithin, All}
+use Rattle.std.proofs.Common.{◌≡◌, ℕ, ◌-◌, ◌<◌, List, [], length, arith}
+use Rattle.verdict.proofs.Common.{option_map_or, Parts, IsCareOf, CareSet, All}
 use Rattle.verdict.proofs.PartLemmas.{invariant-reads}
 
 -- the columns that the invariant reads are those of latches

@@ -1,5 +1,5 @@
 -- Gates that are unknown on care where no observed one is, and the sweeps of loops where there are some.
-use Rattle.std.proofs.Common.{◌≡◌, ◌≢◌, inl, inr, ℕ, ◌<◌, Bool, true, false, not, ◌↔◌, List, length, Option, Some, None, refl, sym, ap, ◌∙◌, subst, arith, Contains, true≢false}
+use Rattle.std.proofs.Common.{◌≡◌, ◌≢◌, inl, inr, ℕ, ◌<◌, Bool, true, false, not, ◌↔◌, List, length, Option, refl, sym, ap, ◌∙◌, arith, Contains, true≢false}
 use Rattle.verdict.proofs.Common.{find, is_none, is_some, and_from, cases_lt, get_or_default, get_or_past, X, bits, vectors, Parts, IsNetlist, gate_sig, fix_gates, Blocks, Cut, AreBlocksOf, block_at, home_of, IsCutOf, loops_by, value_in, home_gate, is_marked, ListsMarked, unsettled_loops_decide, CareSet, columns, is_care_vector, IsCareVector, is_undetermined, is_x, none_passes, gate_wire, care_vector_is, AreFedKnown, IsLeastCount, is_unknown_at, SettleInOneSweep, AreLoopCounts, AreScattered, AreUnknownMarks, are_care_values, AreCandidates}
 use Rattle.loops.specs.declared.structure.SweepCounts.{SweepCounts}
 use Rattle.loops.proofs.Told.{blocks_tell_loops}

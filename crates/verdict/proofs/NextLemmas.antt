@@ -1,6 +1,6 @@
 -- The rails of what the latches load, one after another.
-use Rattle.std.proofs.Common.{◌≡◌, ℕ, zero, suc, ◌+◌, ◌<◌, ◌≤◌, Bool, true, false, ◌&&◌, if◌then◌else◌, List, [], ◌∷◌, ◌++◌, length, get_or, take, replicate, slice_get, Some, sym, ap, ap₂, ◌∙◌, subst, arith}
-use Rattle.verdict.proofs.Common.{length_push, take_all, get_or-map, length-map, get_or-replicate, get_or_from_slice_get, Node, Arena, den, IsNodeOf, KeepsNodes, nodes, nodes-alike, conjunction, Trit, X, bits, Rails, AreRailsOf, value_of, values_of, Latch, Parts, wire, fix, next, IsNetlist, count, laid, rails_at, rails_at-proper, next_within, AreFixed, length-replicate, slice_get_within, All}
+use Rattle.std.proofs.Common.{◌≡◌, ℕ, ◌+◌, ◌<◌, ◌≤◌, Bool, true, false, if◌then◌else◌, List, [], ◌∷◌, ◌++◌, length, take, replicate, slice_get, Some, sym, ap, ap₂, ◌∙◌, arith}
+use Rattle.verdict.proofs.Common.{length_push, take_all, get_or-map, length-map, get_or-replicate, get_or_from_slice_get, Node, Arena, den, IsNodeOf, KeepsNodes, nodes, conjunction, Trit, X, bits, Rails, AreRailsOf, value_of, values_of, Latch, Parts, wire, fix, next, IsNetlist, count, laid, rails_at, rails_at-proper, next_within, AreFixed, length-replicate, slice_get_within, All}
 use Rattle.std.proofs.lemmas.List.{map-append, take_more}
 use Rattle.std.proofs.lemmas.List.Elements.{All-append}
 use Rattle.dual_rail.proofs.SurelyLemmas.{All-rails-kept, value_of-kept, values_of-kept}

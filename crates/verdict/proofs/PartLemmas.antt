@@ -1,8 +1,7 @@
 -- What the least vectors of sets say of the parts of acceptance.
-use Rattle.std.proofs.Common.{◌≡◌, ◌≢◌, inl, inr, ℕ, zero, suc, ◌+◌, ◌<◌, ◌≤◌, Bool, true, false, not, ◌&&◌, cond, List, [], ◌∷◌, length, map, take, drop, get_or, Option, Some, None, refl, sym, ap, ap₂, ◌∙◌, subst, arith, Err, Ok, Result, replicate, IfOk, add-one}
-use Rattle.verdict.proofs.Common.{find, is_none, option_or, option_map, cases_lt, take_all, Node, Arena, den, IsNodeOf, KeepsNodes, nodes, nodes-alike, Sig, X, bits, Rails, trit_of, value_of, Parts, gate_sig, next, fix_gates, IsLayout, by_variable, laid, order, order-is, CareModel, IsCareOf, CareSet, columns, state_of, is_in_invariant, is_care_vector, IsCareVector, Initial, Undetermined, Leaves, Observe, gate_sigs, observed, is_x, is_undetermined, care_vectors, next_state, leaves, initial_refusal, undetermined_refusal, leaves_refusal, vectors, care_vector_decides, gate_wire, Tells, AreFixed, starts, has_state_inside, difference, ReadsWithin, AreLoose, is_unknown_at, value_in, IfSome, length-replicate, is_leaving, HasValues, IsFirstToRefuse}
+use Rattle.std.proofs.Common.{◌≡◌, ◌≢◌, ℕ, zero, suc, ◌+◌, ◌<◌, ◌≤◌, Bool, true, false, not, ◌&&◌, cond, List, [], ◌∷◌, length, take, drop, get_or, Option, Some, None, refl, sym, ap, ◌∙◌, subst, arith, Result, replicate, IfOk, add-one}
+use Rattle.verdict.proofs.Common.{find, is_none, option_map, take_all, Node, Arena, den, IsNodeOf, KeepsNodes, nodes, nodes-alike, Sig, X, bits, Rails, trit_of, value_of, Parts, gate_sig, next, fix_gates, IsLayout, by_variable, laid, order, order-is, CareModel, IsCareOf, CareSet, columns, is_in_invariant, is_care_vector, IsCareVector, Initial, Undetermined, Leaves, Observe, gate_sigs, observed, is_x, is_undetermined, care_vectors, next_state, leaves, initial_refusal, undetermined_refusal, leaves_refusal, vectors, care_vector_decides, gate_wire, Tells, AreFixed, starts, has_state_inside, difference, ReadsWithin, AreLoose, is_unknown_at, value_in, IfSome, length-replicate, is_leaving, HasValues, IsFirstToRefuse}
 use Rattle.std.specs.Prelude.{filter}
-use Rattle.std.specs.Option.{option_and_then}
 use Rattle.std.proofs.lemmas.List.Filters.{length-filter_more}
 use Rattle.std.proofs.lemmas.List.Folds.{find-append}
 use Rattle.cyc_base.proofs.VectorLemmas.{find-alike, find-none}
@@ -10,7 +9,7 @@ use Rattle.cyc_base.proofs.ListLemmas.{find-map}
 use Rattle.dual_rail.proofs.SurelyLemmas.{values_of-kept, All-rails-kept}
 use Rattle.care_sets.specs.Binding.{IsBoundTo}
 use Rattle.care_sets.proofs.CareLemmas.{vectors_serve_assume, states_serve_invariant}
-use Rattle.refusals.specs.Refusals.{is_initial, is_among, observed_gates}
+use Rattle.refusals.specs.Refusals.{is_among, observed_gates}
 use Rattle.refusals.proofs.FirstLemmas.{find-filter, any-find}
 use Rattle.refusals.proofs.RefusalLemmas.{length-gate_sigs, gate_sig_at, known-is_x, fails_after, find_none-all, no_first, next_state_is}
 use Rattle.refusals.proofs.LawLemmas.{care_test, observed_test, is_loose}

@@ -1,6 +1,6 @@
 -- Rails and a set that are kept while a netlist is solved.
-use Rattle.std.proofs.Common.{◌≡◌, inl, inr, ℕ, List, Bool, true, length, map, sym, ap, ◌∙◌, subst, arith, Option, Some, None, Result}
-use Rattle.verdict.proofs.Common.{length-map, StoreFault, Node, Arena, den, AddsWithin, Trit, Rails, AreRailsOf, trit_of, values_of, Parts, rails_under, Vectors, All}
+use Rattle.std.proofs.Common.{◌≡◌, ℕ, List, Bool, true, length, map, sym, ap, ◌∙◌, arith, Option, Some, None, Result}
+use Rattle.verdict.proofs.Common.{length-map, StoreFault, Node, Arena, den, AddsWithin, Rails, AreRailsOf, values_of, Parts, rails_under, All}
 use Rattle.bdd_store.specs.declared.node.Entry.{Entry}
 use Rattle.bdd_store.specs.Arena.{root_at, constant, node_value}
 use Rattle.loops.specs.Sweeps.{first_gate}

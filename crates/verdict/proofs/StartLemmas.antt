@@ -1,6 +1,6 @@
 -- The states that the inits permit, latch by latch.
-use Rattle.std.proofs.Common.{◌≡◌, inl, inr, ℕ, zero, suc, ◌+◌, ◌-◌, ◌<◌, ◌≤◌, Bool, true, false, ◌&&◌, List, [], ◌∷◌, ◌++◌, length, map, replicate, take, drop, get_or, refl, sym, ap, ap₂, ◌∙◌, arith}
-use Rattle.verdict.proofs.Common.{list_all, cases_lt, get_or-map, get_or-replicate, get_or_append_left, get_or_default, length-drop, length-map, Node, Arena, den, IsNodeOf, nodes, nodes-alike, by_variable, conjunction, Trit, X, bit, Rails, value_of, values_of, Latch, Parts, rails_at, columns, state_of, AreColumns, laid, order, order-is, BoundsStarts, starts, length-replicate}
+use Rattle.std.proofs.Common.{◌≡◌, inl, inr, ℕ, zero, suc, ◌+◌, ◌-◌, ◌<◌, ◌≤◌, Bool, true, false, ◌&&◌, List, [], ◌∷◌, ◌++◌, length, map, replicate, take, drop, get_or, refl, sym, ap, ◌∙◌, arith}
+use Rattle.verdict.proofs.Common.{list_all, cases_lt, get_or-map, get_or-replicate, get_or_append_left, get_or_default, length-drop, length-map, Node, Arena, den, IsNodeOf, nodes, nodes-alike, by_variable, conjunction, X, bit, Rails, value_of, Latch, Parts, rails_at, columns, state_of, AreColumns, laid, order, order-is, BoundsStarts, starts, length-replicate}
 use Rattle.std.specs.List.{AllPass, zip}
 use Rattle.std.proofs.Math.Seq.{drop-nil}
 use Rattle.std.proofs.lemmas.List.{drop_more, get_or-append-add, get_or-drop, length-take-le}

@@ -1,6 +1,6 @@
 -- How the parts make the verdict.
-use Rattle.std.proofs.Common.{◌≡◌, ◌+◌, Bool, List, [], length, map, drop, Option, Some, None, refl, sym, ap, ap₂, ◌∙◌, arith}
-use Rattle.verdict.proofs.Common.{find, is_none, option_or, Arena, bit, bits, Rails, value_of, values_of, Parts, IsNetlist, fix, fix_gates, Blocks, Cut, rails_under, Vectors, IsSolution, AreColumnVectors, CareSet, columns, state_of, is_care_vector, Refusal, EmptyCare, Observe, initial_refusal, undetermined_refusal, leaves_refusal, refusal, vectors, empty-filter, AreFixed, AreColumns, order, laid}
+use Rattle.std.proofs.Common.{◌≡◌, ◌+◌, Bool, List, [], length, map, drop, Option, Some, None, sym, ap, ap₂, ◌∙◌, arith}
+use Rattle.verdict.proofs.Common.{find, is_none, Arena, bit, bits, Rails, values_of, Parts, IsNetlist, fix, fix_gates, Blocks, Cut, rails_under, Vectors, IsSolution, AreColumnVectors, CareSet, columns, state_of, is_care_vector, Refusal, EmptyCare, Observe, initial_refusal, refusal, vectors, empty-filter, AreFixed, AreColumns, order, laid}
 use Rattle.std.specs.Prelude.{if◌then◌else◌}
 use Rattle.std.proofs.lemmas.List.{length-append, drop-map}
 use Rattle.netlist.proofs.FixpointLemmas.{length-fix_gates}
@@ -18,9 +18,6 @@ refused-initial net care what r is = grind arith
 
 pub refused-empty : (net : Parts) (care : CareSet) (what : Observe) → initial_refusal net care ≡ None → empty_refusal net care ≡ Some EmptyCare → refusal net care what ≡ Some EmptyCare
 refused-empty net care what initial is = grind arith
-
-care-whole : (u l : Option Refusal) → option_or u (option_or l None) ≡ option_or u l
-care-whole u l = grind arith
 
 pub refused-on-care : (net : Parts) (care : CareSet) (what : Observe) (found : Option Refusal) → initial_refusal net care ≡ None → empty_refusal net care ≡ None → refusal_on_care net care what ≡ found →
     refusal net care what ≡ found

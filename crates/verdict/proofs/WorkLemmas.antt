@@ -1,5 +1,5 @@
 -- What the steps of a decision work with: functions that are made of those of the decision.
-use Rattle.std.proofs.Common.{◌≡◌, inl, inr, ℕ, Bool, true, false, if◌then◌else◌, List, ◌++◌, length, drop, replicate, Option, Some, None, refl, sym, ap, ◌∙◌, subst, true≢false, arith}
+use Rattle.std.proofs.Common.{◌≡◌, inr, ℕ, Bool, if◌then◌else◌, List, ◌++◌, length, drop, replicate, Option, Some, refl, sym, ap, ◌∙◌, subst, arith}
 use Rattle.verdict.proofs.Common.{IsSomeAnd, Node, Arena, den, Trit, X, bits, IsWide, BoundsEach, is_bit, Parts, next, laid, Vectors, CareModel, CareSet, columns, state_of, is_care_vector, read_by, IsOfModel, IsLaid, SaysCare, next_within, Tells, IfSome}
 use Rattle.cover_logic.specs.Covers.{value}
 use Rattle.cover_logic.specs.Extensions.{exact}

@@ -1,5 +1,4 @@
-use Rattle.std.proofs.Common.{All, arith}
-use Rattle.aig_core.proofs.Common.{no_gate, IsSignal}
+use Rattle.std.proofs.Common.{arith}
 use Rattle.aig_core.proofs.BuildingLemmas.{signal_edges_are}
 use Rattle.aig_core.proofs.building.add_gate.Goals as goal
 

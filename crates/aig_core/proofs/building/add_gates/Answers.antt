@@ -1,6 +1,6 @@
-use Rattle.std.proofs.Common.{◌≡◌, ◌+◌, length, get_or, take, sym, ap, ◌∙◌, arith}
+use Rattle.std.proofs.Common.{◌≡◌, ◌+◌, get_or, take, arith}
 use Rattle.std.proofs.lemmas.List.{get_or_default}
-use Rattle.aig_core.proofs.Common.{Building, building}
+use Rattle.aig_core.proofs.Common.{building}
 use Rattle.aig_core.specs.Building.{with_gate}
 use Rattle.aig_core.proofs.AnswerLemmas.{IsFault-grows, builds_refused}
 use Rattle.aig_core.proofs.BuildingLemmas.{building-none, building_next, building-grows, nothing_is_built}

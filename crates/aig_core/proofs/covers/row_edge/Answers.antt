@@ -1,4 +1,4 @@
-use Rattle.std.proofs.Common.{◌≡◌, ◌+◌, fold, length, take, true, sym, ap, ◌∙◌, arith}
+use Rattle.std.proofs.Common.{◌≡◌, ◌+◌, fold, length, take, true, ap, arith}
 use Rattle.aig_core.proofs.Common.{zip, length_push, Made, found, constant, row_made}
 use Rattle.std.proofs.lemmas.Slice.Zip.{zip_turn, zip_end}
 use Rattle.aig_core.specs.Covers.{with_pin}

@@ -1,5 +1,5 @@
-use Rattle.std.proofs.Common.{◌≡◌, ◌<◌, ◌++◌, [], Some, length, map, reverse, ap, ap₂, ◌∙◌, arith}
-use Rattle.aig_core.proofs.Common.{All-nil, Task, visit, node_of, finished}
+use Rattle.std.proofs.Common.{◌<◌, [], Some, length, arith}
+use Rattle.aig_core.proofs.Common.{All-nil, Task, node_of}
 use Rattle.std.proofs.lemmas.List.Elements.{All-pop}
 use Rattle.aig_core.proofs.DepthLemmas.{finished_visits, visits_within}
 use Rattle.aig_core.proofs.depth.place_needed.Goals as goal

@@ -1,7 +1,6 @@
 use Rattle.std.proofs.Common.{◌≡◌, ◌≤◌, ◌+◌, length, sym, ap, ◌∙◌, arith}
-use Rattle.flatten.proofs.Common.{lines_of, linked, FlatLines}
+use Rattle.flatten.proofs.Common.{lines_of, linked}
 use Rattle.flatten.specs.Alone.{own_lines, flat_alone}
-use Rattle.flatten.specs.Printable.{ArePrintedLines}
 use Rattle.flatten.proofs.OwnLines.{few_own_lines, own_lines_printed, alone_fits}
 use Rattle.flatten.proofs.Valid.{linked_valid}
 use Rattle.flatten.proofs.Results.{handed_on}

@@ -1,7 +1,6 @@
-use Rattle.std.proofs.Common.{◌≡◌, ◌∷◌, [], ◌++◌, arith}
+use Rattle.std.proofs.Common.{arith}
 use Rattle.flatten.proofs.Common.{bytes_eq, actual_of}
 use Rattle.indexmap.proofs.CallerLemmas.{insert_entry-new}
-use Rattle.indexmap.specs.IndexMap.{insert_entry}
 use Rattle.flatten.proofs.Binding.{none_there}
 use Rattle.flatten.proofs.bind.bind_formal.Goals as goal
 

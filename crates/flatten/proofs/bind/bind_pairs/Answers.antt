@@ -1,5 +1,5 @@
 use Rattle.std.proofs.Common.{◌<◌, length, sym, ◌∙◌, arith}
-use Rattle.flatten.proofs.Binding.{bound_taken, formal_fits, pair_refused, pair_taken}
+use Rattle.flatten.proofs.Binding.{bound_taken, pair_refused, pair_taken}
 use Rattle.flatten.proofs.Results.{handed_on}
 use Rattle.flatten.proofs.bind.bind_pairs.Goals as goal
 

@@ -1,7 +1,7 @@
 use Rattle.std.proofs.Common.{◌≡◌, nat_le, length, ◌∙◌, refl, arith}
 use Rattle.flatten.proofs.Common.{model_at, find_model, pairs_fault, entry}
 use Rattle.flatten.specs.Levels.{entered_on}
-use Rattle.flatten.proofs.Binding.{entry_refused, entry_faulty, entry_fit}
+use Rattle.flatten.proofs.Binding.{entry_refused}
 use Rattle.flatten.proofs.Results.{handed_on}
 use Rattle.flatten.proofs.bind.enter.Goals as goal
 use Rattle.flatten.proofs.bind.enter.Goals.{After-choose}

@@ -1,5 +1,5 @@
-use Rattle.std.proofs.Common.{◌≡◌, ap, ◌++◌, sym, ◌∙◌, option_map, arith}
-use Rattle.flatten.proofs.Common.{BlifModel, model_at, pairs_fault}
+use Rattle.std.proofs.Common.{◌≡◌, ◌++◌, ◌∙◌, option_map, arith}
+use Rattle.flatten.proofs.Common.{model_at, pairs_fault}
 use Rattle.flatten.specs.declared.fault.FlatFault.TheVariants.{OpenInput}
 use Rattle.flatten.specs.Instances.{first_open}
 use Rattle.flatten.proofs.Binding.{pairs_fault_at, pairs_fault_open}

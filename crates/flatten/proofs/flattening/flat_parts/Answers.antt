@@ -1,5 +1,5 @@
-use Rattle.std.proofs.Common.{◌≡◌, ◌≤◌, ◌+◌, length, sym, ap, ◌∙◌, arith, Ok}
-use Rattle.flatten.proofs.Common.{BlifModel, model_at, linked, lines_of, linked_lines}
+use Rattle.std.proofs.Common.{arith}
+use Rattle.flatten.proofs.Common.{model_at, lines_of}
 use Rattle.flatten.proofs.Printable.{sound_model}
 use Rattle.flatten.proofs.Stepping.{few_lines}
 use Rattle.flatten.proofs.Valid.{linked_valid}

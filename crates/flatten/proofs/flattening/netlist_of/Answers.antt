@@ -1,4 +1,4 @@
-use Rattle.std.proofs.Common.{◌≡◌, ⊎_elim, sym, ◌∙◌, Some, None, arith}
+use Rattle.std.proofs.Common.{arith}
 use Rattle.netlist.proofs.Validity.{no_fault_of_netlist}
 use Rattle.flatten.proofs.flattening.netlist_of.Goals as goal
 

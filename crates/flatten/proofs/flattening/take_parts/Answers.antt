@@ -1,7 +1,5 @@
-use Rattle.std.proofs.Common.{◌≡◌, ◌⊎◌, sym, ap, ◌∙◌, subst, Ok, Err, IfOk, IfErr, arith}
-use Rattle.flatten.proofs.Common.{Result, Parts, FlatFault, Memory}
-use Rattle.flatten.specs.Alone.{flat_alone}
-use Rattle.flatten.specs.Flat.{flat_at, max_depth, max_items}
+use Rattle.std.proofs.Common.{arith}
+use Rattle.flatten.specs.Flat.{max_depth, max_items}
 use Rattle.flatten.proofs.OwnLines.{is_flat_alone}
 use Rattle.flatten.proofs.flattening.take_parts.Goals as goal
 

@@ -1,5 +1,4 @@
-use Rattle.std.proofs.Common.{map, ◌∙◌, arith}
-use Rattle.flatten.proofs.Common.{BlifModel}
+use Rattle.std.proofs.Common.{arith}
 use Rattle.flatten.proofs.Libraries.{distinct_once}
 use Rattle.flatten.proofs.library.library_of.Goals as goal
 

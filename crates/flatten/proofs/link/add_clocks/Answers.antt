@@ -1,4 +1,4 @@
-use Rattle.std.proofs.Common.{◌≡◌, ◌++◌, length, length-append, ap, ◌∙◌, arith}
+use Rattle.std.proofs.Common.{◌≡◌, ◌++◌, length-append, ◌∙◌, arith}
 use Rattle.flatten.proofs.Common.{own_clocks}
 use Rattle.flatten.proofs.Gathering.{own_clocks_gathered}
 use Rattle.flatten.proofs.link.add_clocks.Goals as goal

@@ -1,4 +1,4 @@
-use Rattle.std.proofs.Common.{◌<◌, length, ◌∙◌, arith}
+use Rattle.std.proofs.Common.{arith}
 use Rattle.flatten.proofs.Added.{added}
 use Rattle.flatten.proofs.link.declare.Goals as goal
 

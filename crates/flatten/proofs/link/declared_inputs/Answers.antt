@@ -1,8 +1,4 @@
-use Rattle.std.proofs.Common.{ap, ◌≡◌, sym, ◌∙◌, None, option_map, arith}
-use Rattle.flatten.proofs.Common.{option_or, first_twice}
-use Rattle.flatten.specs.declared.fault.FlatFault.TheVariants.{DeclaredTwice}
-use Rattle.flatten.proofs.Gathering.{some_first}
-use Rattle.flatten.proofs.Results.{handed_on}
+use Rattle.std.proofs.Common.{arith}
 use Rattle.flatten.proofs.link.declared_inputs.Goals as goal
 
 pub returns-in_err-inputs-clause-fault : goal.returns-in_err-inputs-clause-fault

@@ -1,7 +1,4 @@
-use Rattle.std.proofs.Common.{◌∙◌, arith}
-use Rattle.flatten.proofs.Common.{declared_twice, driven_twice, lines_of}
-use Rattle.flatten.proofs.Gathering.{some_or, none_or_is}
-use Rattle.flatten.proofs.Results.{handed_on}
+use Rattle.std.proofs.Common.{arith}
 use Rattle.flatten.proofs.link.drivers_of.Goals as goal
 
 pub returns-in_err-names-clause-fault : goal.returns-in_err-names-clause-fault

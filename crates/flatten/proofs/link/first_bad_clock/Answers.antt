@@ -1,7 +1,4 @@
-use Rattle.std.proofs.Common.{sym, ap, ◌∙◌, arith}
-use Rattle.flatten.proofs.Common.{find, has_bad_control}
-use Rattle.std.specs.Option.{option_copied}
-use Rattle.flatten.specs.Linking.{has_other_control}
+use Rattle.std.proofs.Common.{arith}
 use Rattle.flatten.proofs.Gathering.{find_other, find_none}
 use Rattle.flatten.proofs.link.first_bad_clock.Goals as goal
 

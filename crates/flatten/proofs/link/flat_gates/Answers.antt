@@ -1,6 +1,6 @@
-use Rattle.std.proofs.Common.{◌++◌, [], ◌∷◌, ℕ, List, map, subst, sym, ap, ◌∙◌, append_assoc, arith}
+use Rattle.std.proofs.Common.{[], ◌∷◌, ℕ, List, map, ap, append_assoc, arith}
 use Rattle.flatten.proofs.Common.{flat_map, GateLine, gate_with, sig_or}
-use Rattle.flatten.proofs.Reading.{IsLeft, fewer_left, fault_left, none_left}
+use Rattle.flatten.proofs.Reading.{fewer_left, fault_left}
 use Rattle.flatten.proofs.Results.{handed_on}
 use Rattle.flatten.proofs.link.flat_gates.Goals as goal
 

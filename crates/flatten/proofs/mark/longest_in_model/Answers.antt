@@ -1,4 +1,4 @@
-use Rattle.std.proofs.Common.{◌<◌, ◌+◌, length, take, arith}
+use Rattle.std.proofs.Common.{◌+◌, take, arith}
 use Rattle.flatten.proofs.Common.{flat_map, item_names}
 use Rattle.tildes.proofs.RunLemmas.{max_is}
 use Rattle.flatten.proofs.Marks.{longest_items, longest_model}

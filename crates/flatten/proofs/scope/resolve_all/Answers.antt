@@ -1,4 +1,4 @@
-use Rattle.std.proofs.Common.{◌<◌, ◌++◌, ◌∷◌, [], length, ap, ap₂, sym, ◌∙◌, arith}
+use Rattle.std.proofs.Common.{arith}
 use Rattle.std.proofs.lemmas.List.{map_more}
 use Rattle.flatten.proofs.Common.{resolved}
 use Rattle.flatten.proofs.scope.resolve_all.Goals as goal

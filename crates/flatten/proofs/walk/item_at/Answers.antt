@@ -1,6 +1,5 @@
-use Rattle.std.proofs.Common.{rules, ◌≡◌, suc, List, ◌∷◌, drop, sym, ap, subst, ◌∙◌, arith}
+use Rattle.std.proofs.Common.{arith}
 use Rattle.std.proofs.Math.Seq.{drop-cons}
-use Rattle.flatten.proofs.Common.{BlifModel, Item}
 use Rattle.flatten.proofs.walk.item_at.Goals as goal
 
 pub returns-then-next-body : goal.returns-then-next-body

@@ -1,5 +1,4 @@
 use Rattle.std.proofs.Common.{arith}
-use Rattle.flatten.proofs.Stepping.{line_passed}
 use Rattle.flatten.proofs.walk.pass_line.Goals as goal
 
 pub returns-clause-passed : goal.returns-clause-passed

@@ -1,7 +1,7 @@
 use Rattle.std.proofs.Common.{◌+◌, ◌*◌, ◌<◌, ap, subst, sym, arith}
 use Rattle.isolation.proofs.Common.{Arena}
 use Rattle.bdd_store.specs.Growth.{Grows}
-use Rattle.bdd_store.proofs.GrowthLemmas.{grows_then, grows_more, grows_refused, grows_answered}
+use Rattle.bdd_store.proofs.GrowthLemmas.{grows_then, grows_more, grows_answered}
 use Rattle.bdd_ops.specs.Least.{IsLayout}
 use Rattle.isolation.proofs.ColumnLemmas.{columns-more, columns-end}
 use Rattle.isolation.proofs.columns.column_rails.Goals as goal

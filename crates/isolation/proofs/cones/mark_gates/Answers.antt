@@ -1,6 +1,6 @@
-use Rattle.std.proofs.Common.{ℕ, length, subst, arith, ◌≡◌}
-use Rattle.isolation.proofs.Common.{AddMarks, IsNearOne}
-use Rattle.isolation.proofs.MarkLemmas.{add-none, near-none, near-more}
+use Rattle.std.proofs.Common.{arith}
+use Rattle.isolation.proofs.Common.{IsNearOne}
+use Rattle.isolation.proofs.MarkLemmas.{add-none, near-none}
 use Rattle.isolation.proofs.cones.mark_gates.Goals as goal
 
 pub loop-gate-init : goal.loop-gate-init

@@ -1,6 +1,5 @@
-use Rattle.std.proofs.Common.{◌≡◌, ◌+◌, ◌-◌, ◌∙◌, ℕ, ap, length, subst, arith}
-use Rattle.isolation.proofs.Common.{Blocks, AreMarkedFrom}
-use Rattle.isolation.proofs.MarkLemmas.{marked-first, marked-more, marked-all}
+use Rattle.std.proofs.Common.{◌-◌, arith}
+use Rattle.isolation.proofs.MarkLemmas.{marked-more, marked-all}
 use Rattle.isolation.proofs.cones.mark_upstream.Goals as goal
 
 pub loop-place-init : goal.loop-place-init

@@ -1,6 +1,4 @@
-use Rattle.std.proofs.Common.{subst, arith}
-use Rattle.isolation.proofs.Common.{IfSome, IsExcerpt}
-use Rattle.isolation.specs.Building.{IsNamedBy}
+use Rattle.std.proofs.Common.{arith}
 use Rattle.isolation.proofs.BuildingLemmas.{not_there}
 use Rattle.isolation.proofs.ValidLemmas.{numerable, excerpt-valid}
 use Rattle.isolation.proofs.excerpt.excerpt.Goals as goal

@@ -1,7 +1,7 @@
-use Rattle.std.proofs.Common.{◌∙◌, ap, refl, rules, map, arith}
+use Rattle.std.proofs.Common.{◌∙◌, ap, rules, map, arith}
 use Rattle.isolation.proofs.Common.{name_at}
 use Rattle.isolation.proofs.BuildingLemmas.{not_there}
-use Rattle.isolation.proofs.ValidLemmas.{parts_excerpt, parts_named}
+use Rattle.isolation.proofs.ValidLemmas.{parts_excerpt}
 use Rattle.isolation.proofs.excerpt.excerpt_parts.Goals as goal
 
 pub returns-in_default-clause-some : goal.returns-in_default-clause-some

@@ -1,5 +1,5 @@
-use Rattle.std.proofs.Common.{◌<◌, List, ℕ, All, Contains, map, refl, subst, sym, arith}
-use Rattle.isolation.proofs.Common.{Sig, Parts, count, gate_sig, block_at}
+use Rattle.std.proofs.Common.{List, ℕ, Contains, map, subst, sym, arith}
+use Rattle.isolation.proofs.Common.{Parts, gate_sig, block_at}
 use Rattle.isolation.specs.Building.{AreApart}
 use Rattle.loops.proofs.OrderLemmas.{block_rises, gates_within}
 use Rattle.isolation.proofs.BuildingLemmas.{outside_within, loop_is, found_then}

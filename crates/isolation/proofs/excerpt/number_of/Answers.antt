@@ -1,6 +1,5 @@
-use Rattle.std.proofs.Common.{map, arith, sym, subst, true≢false}
-use Rattle.isolation.proofs.Common.{length-append, length-map, gate_sig, origins}
-use Rattle.isolation.specs.Building.{IsPlaceOf}
+use Rattle.std.proofs.Common.{map, arith, sym, true≢false}
+use Rattle.isolation.proofs.Common.{length-append, length-map, gate_sig}
 use Rattle.isolation.proofs.excerpt.number_of.Goals as goal
 
 pub returns-in_err-place-clause-some : goal.returns-in_err-place-clause-some

@@ -1,6 +1,6 @@
-use Rattle.std.proofs.Common.{sym, subst, arith, take}
-use Rattle.isolation.proofs.Common.{origins, AreNumbersOf}
-use Rattle.isolation.proofs.BuildingLemmas.{numbers_none, numbers_more, numbers_all, not_there}
+use Rattle.std.proofs.Common.{arith}
+use Rattle.isolation.proofs.Common.{origins}
+use Rattle.isolation.proofs.BuildingLemmas.{numbers_more, numbers_all, not_there}
 use Rattle.isolation.proofs.excerpt.numbers_of.Goals as goal
 
 pub loop-pin-init : goal.loop-pin-init

@@ -1,6 +1,6 @@
 use Rattle.std.proofs.Common.{◌≡◌, ◌∙◌, ap, get_or, arith}
 use Rattle.isolation.proofs.Common.{Gate, Parts, block_at, gate_at}
-use Rattle.isolation.proofs.BuildingLemmas.{wires_at, wires_all, pin_at}
+use Rattle.isolation.proofs.BuildingLemmas.{wires_at, pin_at}
 use Rattle.isolation.proofs.excerpt.outside_of.Goals as goal
 use Rattle.isolation.proofs.excerpt.outside_of.Goals.{After-items-pins}
 

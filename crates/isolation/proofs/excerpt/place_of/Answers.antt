@@ -1,4 +1,4 @@
-use Rattle.std.proofs.Common.{None, Some, inl, inr, sym, true≢false, arith}
+use Rattle.std.proofs.Common.{None, Some, true≢false, arith}
 use Rattle.isolation.proofs.BuildingLemmas.{found_place, found_some, place_outside}
 use Rattle.isolation.proofs.excerpt.place_of.Goals as goal
 

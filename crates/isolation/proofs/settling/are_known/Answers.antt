@@ -1,7 +1,7 @@
 use Rattle.std.proofs.Common.{◌+◌, arith, true≢false}
 use Rattle.isolation.proofs.Common.{GrowsWithin, NoOtherCause, within_more, within_refused, within_answered, rails_at, unknown, BoundsKnown}
 use Rattle.bdd_store.proofs.GrowthLemmas.{within_then, within_one}
-use Rattle.isolation.proofs.UnknownLemmas.{known-next, unknown-back}
+use Rattle.isolation.proofs.UnknownLemmas.{known-next}
 use Rattle.isolation.proofs.WidthLemmas.{known-kept}
 use Rattle.isolation.proofs.settling.are_known.Goals as goal
 use Rattle.isolation.proofs.settling.are_known.Goals.{After-is_known}

@@ -1,5 +1,4 @@
-use Rattle.std.proofs.Common.{subst, arith}
-use Rattle.isolation.proofs.Common.{IsLawful}
+use Rattle.std.proofs.Common.{arith}
 use Rattle.bdd_store.proofs.GrowthLemmas.{grows_answered, grows_refused}
 use Rattle.isolation.proofs.UnknownLemmas.{unknown-vector}
 use Rattle.isolation.proofs.settling.is_known.Goals as goal

@@ -1,7 +1,7 @@
-use Rattle.std.proofs.Common.{◌+◌, ◌≤◌, length, ap, arith}
+use Rattle.std.proofs.Common.{◌+◌, ◌≤◌, arith}
 use Rattle.isolation.proofs.Common.{AddsWithin, NoOtherCause}
-use Rattle.bdd_store.proofs.GrowthLemmas.{within_each, adds_refused, adds_swept}
-use Rattle.fixpoint.proofs.KeptLemmas.{adds_lacking, adds_nothing}
+use Rattle.bdd_store.proofs.GrowthLemmas.{within_each, adds_refused}
+use Rattle.fixpoint.proofs.KeptLemmas.{adds_nothing}
 use Rattle.isolation.proofs.settling.kept_columns.Goals as goal
 use Rattle.isolation.proofs.settling.kept_columns.Goals.{After-column_rails}
 

@@ -1,5 +1,5 @@
 use Rattle.std.proofs.Common.{ℕ, List, map, sym, subst, arith}
-use Rattle.isolation.proofs.Common.{All, GrowsWithin, NoOtherCause, IsLawful, within_moved, within_more, within_refused, within_answered, AreRailsOf, IsWide, rails_under, order, AreKnown, HasUnknownRails, IsSolvedNetlist, IsLaid}
+use Rattle.isolation.proofs.Common.{All, GrowsWithin, NoOtherCause, IsLawful, within_moved, within_more, within_refused, within_answered, AreRailsOf, IsWide, rails_under, order, AreKnown, IsSolvedNetlist, IsLaid}
 use Rattle.bdd_store.proofs.GrowthLemmas.{within_then}
 use Rattle.fixpoint.specs.declared.kept.KeptRails.{KeptRails}
 use Rattle.fixpoint.specs.Kept.{AreKept}

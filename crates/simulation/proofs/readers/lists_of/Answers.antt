@@ -1,9 +1,7 @@
 -- One gate more is among the readers of its pins.
-use Rattle.std.proofs.Common.{◌≡◌, ◌+◌, ℕ, List, length, sym, ◌∙◌, ap, subst, arith}
+use Rattle.std.proofs.Common.{arith}
 use Rattle.std.proofs.lemmas.List.{with_items_is}
-use Rattle.netlist.specs.declared.parts.Gate.{Gate}
-use Rattle.simulation.proofs.Common.{gate_at, AreListed}
-use Rattle.simulation.proofs.ReaderLemmas.{AreReadersBelow, readers_more, readers_all}
+use Rattle.simulation.proofs.ReaderLemmas.{readers_more, readers_all}
 use Rattle.simulation.proofs.readers.lists_of.Goals as goal
 
 pub loop-number-preserved : goal.loop-number-preserved

@@ -1,4 +1,4 @@
-use Rattle.std.proofs.Common.{get_or, refl, arith}
+use Rattle.std.proofs.Common.{get_or, arith}
 use Rattle.simulation.proofs.Common.{get_or_default}
 use Rattle.simulation.proofs.MarkingLemmas.{marked_none, marked_more}
 use Rattle.simulation.proofs.wires.mark.Goals as goal

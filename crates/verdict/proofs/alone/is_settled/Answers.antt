@@ -1,5 +1,5 @@
-use Rattle.std.proofs.Common.{subst, arith}
-use Rattle.verdict.proofs.Common.{eqb-true, block_at, SettleInSweeps}
+use Rattle.std.proofs.Common.{arith}
+use Rattle.verdict.proofs.Common.{eqb-true}
 use Rattle.verdict.proofs.alone.is_settled.Goals as goal
 
 pub returns-in-Some : goal.returns-in-Some

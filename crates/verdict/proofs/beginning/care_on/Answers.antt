@@ -1,7 +1,7 @@
-use Rattle.std.proofs.Common.{◌≡◌, ◌∙◌, refl, ◌&&◌, ◌*◌, List, Bool, length, sym, ap₂, arith}
-use Rattle.verdict.proofs.Common.{within_only, within_one, within_then, within_moved, within_more, within_refused, conjunction, values_of, columns, is_care_vector, assume_effort, GrowsInDecision, SaysCare, laid}
+use Rattle.std.proofs.Common.{◌≡◌, ◌∙◌, refl, ◌*◌, List, Bool, length, sym, arith}
+use Rattle.verdict.proofs.Common.{within_only, within_one, within_then, within_moved, within_more, within_refused, conjunction, columns, is_care_vector, assume_effort, GrowsInDecision, SaysCare, laid}
 use Rattle.verdict.proofs.DecisionLemmas.{made-listed, made-one, wide-kept}
-use Rattle.verdict.proofs.PartLemmas.{IfOk-both, Tells-kept, assume-reads}
+use Rattle.verdict.proofs.PartLemmas.{assume-reads}
 use Rattle.verdict.proofs.WorkLemmas.{assume-bounded}
 use Rattle.verdict.proofs.beginning.care_on.Goals as goal
 use Rattle.verdict.proofs.beginning.care_on.Goals.{After-assume_on, After-and}

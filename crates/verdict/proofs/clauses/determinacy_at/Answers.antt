@@ -1,5 +1,4 @@
-use Rattle.std.proofs.Common.{subst, arith}
-use Rattle.clause_decision.specs.Tests.{TellsFirstUnknown}
+use Rattle.std.proofs.Common.{arith}
 use Rattle.verdict.proofs.CandidateLemmas.{open-known}
 use Rattle.verdict.proofs.clauses.determinacy_at.Goals as goal
 

@@ -1,6 +1,5 @@
-use Rattle.std.proofs.Common.{Some, None, ap₂, arith}
+use Rattle.std.proofs.Common.{None, arith}
 use Rattle.refusals.proofs.LawLemmas.{sources_determined}
-use Rattle.verdict.proofs.Common.{option_or}
 use Rattle.verdict.proofs.VerdictLemmas.{accepts-is, refused-on-care}
 use Rattle.verdict.proofs.clauses.verdict_by_invariance.Goals as goal
 

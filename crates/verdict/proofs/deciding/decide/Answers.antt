@@ -1,6 +1,5 @@
-use Rattle.std.proofs.Common.{◌≡◌, Err, length, ap, subst, ◌∙◌, rules, arith}
-use Rattle.verdict.proofs.Common.{StoreFault, Looped, IsFullFor}
-use Rattle.verdict.specs.Questions.{Asked}
+use Rattle.std.proofs.Common.{◌≡◌, length, rules, arith}
+use Rattle.verdict.proofs.Common.{IsFullFor}
 use Rattle.verdict.proofs.CauseLemmas.{out_of_nodes, below_enough}
 use Rattle.verdict.proofs.deciding.decide.Goals as goal
 use Rattle.verdict.proofs.deciding.decide.Goals.{In-Err-Full}

@@ -1,7 +1,5 @@
-use Rattle.std.proofs.Common.{◌∙◌, Err, inl, ◌+◌, ◌≤◌, ap, sym, subst, arith}
-use Rattle.verdict.proofs.Common.{StoreFault, within_only, adds_then, adds_refused, order, decision_cost, start_cost, AddsInDecision, HasCoverOver}
-use Rattle.bdd_store.proofs.GrowthLemmas.{within_each}
-use Rattle.verdict.specs.Costs.{whole_cost}
+use Rattle.std.proofs.Common.{arith}
+use Rattle.verdict.proofs.Common.{adds_then, order, AddsInDecision}
 use Rattle.verdict.proofs.CauseLemmas.{full_for}
 use Rattle.verdict.proofs.PartLemmas.{order-layout}
 use Rattle.verdict.proofs.deciding.decide_on.Goals as goal

@@ -8,7 +8,7 @@ use Rattle.verdict.proofs.CountLemmas.{count-on-care}
 use Rattle.verdict.proofs.DecisionLemmas.{decision-then}
 use Rattle.verdict.proofs.PartLemmas.{Tells-kept}
 use Rattle.verdict.proofs.SolutionLemmas.{compared-wide}
-use Rattle.verdict.proofs.VerdictLemmas.{refused-on-care, accepts-is}
+use Rattle.verdict.proofs.VerdictLemmas.{accepts-is}
 use Rattle.verdict.proofs.diagrams.judge_solved.Goals as goal
 use Rattle.verdict.proofs.diagrams.judge_solved.Goals.{After-sweeps, In-Determined}
 

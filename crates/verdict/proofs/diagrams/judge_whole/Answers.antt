@@ -1,10 +1,9 @@
 use Rattle.std.proofs.Common.{◌∙◌, ◌+◌, ◌*◌, ℕ, inl, length, sym, subst, arith}
-use Rattle.verdict.proofs.Common.{IsLawful, adds_then, adds_moved, adds_more, adds_refused, values_of, IsWide, loops_by, columns, HasLargeCover, effort, AddsInDecision, IsLaid, AreColumnVectors}
+use Rattle.verdict.proofs.Common.{adds_then, adds_moved, adds_more, adds_refused, values_of, IsWide, loops_by, HasLargeCover, effort, AddsInDecision, IsLaid, AreColumnVectors}
 use Rattle.bdd_store.proofs.GrowthLemmas.{adds_caused}
 use Rattle.verdict.specs.Verdicts.{IsSolvedWhole}
 use Rattle.verdict.proofs.CountLemmas.{column-vectors}
 use Rattle.verdict.proofs.DecisionLemmas.{decision-adds}
-use Rattle.verdict.proofs.PartLemmas.{Tells-same}
 use Rattle.isolation.proofs.SettlingLemmas.{loops-are}
 use Rattle.verdict.proofs.SolutionLemmas.{working-wide}
 use Rattle.verdict.proofs.VerdictLemmas.{fixed-is}

@@ -1,5 +1,5 @@
-use Rattle.std.proofs.Common.{◌≡◌, ◌∙◌, Option, None, sym, ap, ap₂, arith}
-use Rattle.verdict.proofs.Common.{option_or, within_more, within_answered, within_refused, Refusal, undetermined_refusal, leaves_refusal, AreLoose}
+use Rattle.std.proofs.Common.{◌≡◌, None, arith}
+use Rattle.verdict.proofs.Common.{within_more, within_answered, within_refused, undetermined_refusal, AreLoose}
 use Rattle.refusals.proofs.LawLemmas.{sources_determined}
 use Rattle.verdict.proofs.DecisionLemmas.{decision-then}
 use Rattle.verdict.proofs.PartLemmas.{AreFixed-kept}

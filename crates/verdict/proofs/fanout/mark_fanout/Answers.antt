@@ -1,6 +1,4 @@
-use Rattle.std.proofs.Common.{◌∙◌, length, ap, subst, arith}
-use Rattle.verdict.proofs.Common.{Parts, Blocks, AddMarks}
-use Rattle.verdict.specs.Fanout.{IsReached}
+use Rattle.std.proofs.Common.{arith}
 use Rattle.verdict.proofs.FanoutLemmas.{marked-more, marked-all}
 use Rattle.verdict.proofs.fanout.mark_fanout.Goals as goal
 

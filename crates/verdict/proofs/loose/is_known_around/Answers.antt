@@ -1,6 +1,6 @@
 use Rattle.std.proofs.Common.{◌≡◌, arith}
 use Rattle.verdict.proofs.Common.{block_at, gate_home}
-use Rattle.verdict.proofs.LooseLemmas.{all-known, says-not, unreached-known}
+use Rattle.verdict.proofs.LooseLemmas.{says-not, unreached-known}
 use Rattle.verdict.proofs.loose.is_known_around.Goals as goal
 
 pub returns-in-Nowhere : goal.returns-in-Nowhere

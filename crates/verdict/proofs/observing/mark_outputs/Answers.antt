@@ -1,5 +1,5 @@
-use Rattle.std.proofs.Common.{◌<◌, List, [], length, map, sym, ap, subst, ◌∙◌, arith}
-use Rattle.verdict.proofs.Common.{length-map, get_or_from_slice_get, Sig, Latch, AreMarksOf}
+use Rattle.std.proofs.Common.{◌<◌, List, [], length, map, sym, ap, arith}
+use Rattle.verdict.proofs.Common.{length-map, get_or_from_slice_get, Latch}
 use Rattle.std.proofs.lemmas.List.{append-nil}
 use Rattle.verdict.proofs.MarkLemmas.{marks-more, marks-end, source-more}
 use Rattle.verdict.proofs.observing.mark_outputs.Goals as goal

@@ -1,5 +1,5 @@
-use Rattle.std.proofs.Common.{◌≡◌, ◌∙◌, ℕ, Bool, false, true, List, length, drop, replicate, sym, ap, subst, arith}
-use Rattle.verdict.proofs.Common.{take_at, Observe, observed, gate_sigs, AreMarksOf}
+use Rattle.std.proofs.Common.{◌≡◌, ◌∙◌, ℕ, Bool, false, List, length, drop, replicate, ap, arith}
+use Rattle.verdict.proofs.Common.{take_at}
 use Rattle.verdict.proofs.MarkLemmas.{all-marked, none-marked}
 use Rattle.verdict.proofs.observing.observed_gates.Goals as goal
 use Rattle.verdict.proofs.observing.observed_gates.Goals.{After-deref_mut}

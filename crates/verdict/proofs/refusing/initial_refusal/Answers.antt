@@ -1,5 +1,5 @@
-use Rattle.std.proofs.Common.{◌∙◌, ◌&&◌, not, Some, None, Bool, List, ap, ap₂, drop, arith}
-use Rattle.verdict.proofs.Common.{Initial, Tells, starts, has_state_inside}
+use Rattle.std.proofs.Common.{◌&&◌, not, Some, None, arith}
+use Rattle.verdict.proofs.Common.{Tells, starts, has_state_inside}
 use Rattle.bdd_store.proofs.GrowthLemmas.{grows_refused}
 use Rattle.verdict.proofs.PartLemmas.{Tells-minus, initial-is}
 use Rattle.verdict.proofs.refusing.initial_refusal.Goals as goal

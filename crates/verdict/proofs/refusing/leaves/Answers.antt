@@ -4,7 +4,7 @@ use Rattle.verdict.proofs.Common.{Node, IsNodeOf, difference, den, KeepsNodes, w
 use Rattle.bdd_store.proofs.GrowthLemmas.{KeepsNodes-chain}
 use Rattle.verdict.specs.Costs.{leaving_cost}
 use Rattle.verdict.proofs.DecisionLemmas.{decision-then}
-use Rattle.verdict.proofs.LeavesLemmas.{within-set, leaves-fit}
+use Rattle.verdict.proofs.LeavesLemmas.{leaves-fit}
 use Rattle.verdict.proofs.WorkLemmas.{next-bounded}
 use Rattle.verdict.proofs.refusing.leaves.Goals as goal
 use Rattle.verdict.proofs.refusing.leaves.Goals.{After-invariant_on, After-minus}

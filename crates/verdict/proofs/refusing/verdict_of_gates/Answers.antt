@@ -1,4 +1,4 @@
-use Rattle.std.proofs.Common.{◌≡◌, ◌∙◌, ◌+◌, ◌*◌, ◌<◌, ◌≤◌, Some, Bool, false, List, length, get_or, refl, sym, ap₂, arith, true≢false}
+use Rattle.std.proofs.Common.{◌≡◌, ◌∙◌, ◌+◌, ◌*◌, ◌<◌, Some, Bool, false, List, length, get_or, refl, sym, ap₂, arith, true≢false}
 use Rattle.verdict.proofs.Common.{get_or_default, HasGrown, within_then, within_moved, within_more, within_answered, within_refused, within_memory, Sig, IsWide, columns, Undetermined, IsLaid, GrowsInDecision}
 use Rattle.verdict.proofs.DecisionLemmas.{wide-kept}
 use Rattle.verdict.proofs.PartLemmas.{IsKnownOnCare, none_found, undetermined-found, undetermined-none, known-more, loose-more, loose-same, loose-all, AreFixed-kept, Tells-kept}

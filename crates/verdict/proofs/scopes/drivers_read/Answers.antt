@@ -1,6 +1,6 @@
 use Rattle.std.proofs.Common.{◌≡◌, ◌<◌, ◌∙◌, ◌-◌, ◌++◌, ◌∷◌, [], ℕ, List, length, get_or, Contains, refl, subst, sym, ap, arith}
 use Rattle.std.proofs.lemmas.List.Elements.{All-push, Contains-append_left, Contains-append_right}
-use Rattle.verdict.proofs.Common.{get_or_from_slice_get, Sig, count, Latch, AreDriversBefore, slice_get_within}
+use Rattle.verdict.proofs.Common.{get_or_from_slice_get, Sig, Latch, AreDriversBefore, slice_get_within}
 use Rattle.verdict.proofs.ScopeLemmas.{drivers-more, drivers-all, same-gate}
 use Rattle.verdict.proofs.InvarianceLemmas.{read-columns}
 use Rattle.verdict.proofs.scopes.drivers_read.Goals as goal

@@ -1,4 +1,4 @@
-use Rattle.std.proofs.Common.{◌∙◌, ap, length, arith}
+use Rattle.std.proofs.Common.{arith}
 use Rattle.verdict.proofs.ScopeLemmas.{cone_closes}
 use Rattle.verdict.proofs.scopes.scope_of.Goals as goal
 

@@ -1,4 +1,4 @@
-use Rattle.std.proofs.Common.{◌≡◌, ◌<◌, ◌∙◌, ℕ, List, length, get_or, subst, sym, ap, arith}
+use Rattle.std.proofs.Common.{◌≡◌, length, subst, arith}
 use Rattle.verdict.proofs.Common.{get_or_default, ListsMarked, IsFirstToRefuse}
 use Rattle.isolation.specs.Excerpts.{gate_in}
 use Rattle.clause_decision.specs.Tests.{IsFirstUnknown}

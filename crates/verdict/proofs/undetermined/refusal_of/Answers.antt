@@ -1,5 +1,4 @@
-use Rattle.std.proofs.Common.{◌∙◌, Bool, List, Some, sym, ap₂, arith}
-use Rattle.verdict.proofs.Common.{Sig, Undetermined}
+use Rattle.std.proofs.Common.{arith}
 use Rattle.verdict.proofs.PartLemmas.{undetermined-found}
 use Rattle.verdict.proofs.undetermined.refusal_of.Goals as goal
 

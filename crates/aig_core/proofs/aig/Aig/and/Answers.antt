@@ -1,5 +1,5 @@
-use Rattle.std.proofs.Common.{◌≡◌, ◌+◌, ◌*◌, ◌&&◌, Some, None, Err, length, sym, ap, subst, ◌∙◌, arith, false}
-use Rattle.aig_core.proofs.Common.{position_or_len, list_any, Edge, And, Graph, with_ands, first_and, edge_to, den, IsSound, Made, simple_and, pair_of, same_pair, entered, hashed, conjunction}
+use Rattle.std.proofs.Common.{◌≡◌, ◌+◌, ◌*◌, ◌&&◌, Some, None, Err, sym, ap, ◌∙◌, arith, false}
+use Rattle.aig_core.proofs.Common.{position_or_len, list_any, Edge, And, Graph, with_ands, first_and, edge_to, den, simple_and, pair_of, same_pair, entered, hashed, conjunction}
 use Rattle.aig_core.specs.Conjunctions.{NeedsAnd}
 use Rattle.aig_core.proofs.ConjunctionLemmas.{IsMade, conjunction-some, conjunction-none, apart_at, simple_at, hashed_is}
 use Rattle.aig_core.proofs.AnswerLemmas.{handed, fault_from, too_many}

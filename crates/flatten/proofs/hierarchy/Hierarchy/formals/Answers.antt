@@ -1,5 +1,5 @@
-use Rattle.std.proofs.Common.{length, get_or, ap, ◌∙◌, arith}
-use Rattle.flatten.proofs.Common.{each_once, formals, model_at, NestedModels}
+use Rattle.std.proofs.Common.{arith}
+use Rattle.flatten.proofs.Common.{formals}
 use Rattle.flatten.proofs.Libraries.{formals_at}
 use Rattle.flatten.proofs.hierarchy.Hierarchy.formals.Goals as goal
 

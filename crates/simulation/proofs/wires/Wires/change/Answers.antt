@@ -1,7 +1,7 @@
 -- The blocks of the signal's readers are due, and the others stay stable.
-use Rattle.std.proofs.Common.{◌≡◌, List, Bool, length, set, sym, subst, arith}
+use Rattle.std.proofs.Common.{◌≡◌, length, arith}
 use Rattle.std.proofs.lemmas.List.{with_items_is}
-use Rattle.simulation.proofs.Common.{readers_of, AreKept}
+use Rattle.simulation.proofs.Common.{readers_of}
 use Rattle.simulation.proofs.MarkingLemmas.{changed, marked_from}
 use Rattle.simulation.proofs.wires.Wires.change.Goals as goal
 

@@ -1,10 +1,10 @@
 -- One gate more of the block is unknown.
-use Rattle.std.proofs.Common.{◌≡◌, ◌+◌, ◌<◌, List, length, get_or, set, sym, ap, ◌∙◌, subst, arith}
-use Rattle.simulation.proofs.Common.{get_or_default, Sig, Trit, X, gate_sig, home_of, AreSettled, vector_of}
+use Rattle.std.proofs.Common.{◌≡◌, get_or, sym, ap, ◌∙◌, arith}
+use Rattle.simulation.proofs.Common.{get_or_default, Sig, X, gate_sig, home_of}
 use Rattle.simulation.proofs.PinLemmas.{contains_at}
 use Rattle.simulation.proofs.LoadLemmas.{vector-set}
 use Rattle.simulation.proofs.GateLemmas.{settled_set}
-use Rattle.simulation.proofs.ForgetLemmas.{AreUnknown, begins, gate_of_block, unknown_more}
+use Rattle.simulation.proofs.ForgetLemmas.{begins, gate_of_block, unknown_more}
 use Rattle.simulation.proofs.wires.Wires.forget.Goals as goal
 
 pub gate_sig-requires : goal.gate_sig-requires

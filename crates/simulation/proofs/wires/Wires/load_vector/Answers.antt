@@ -1,6 +1,5 @@
 -- The inputs are loaded first, and the latches after them.
-use Rattle.std.proofs.Common.{◌≡◌, ℕ, ◌+◌, ◌<◌, length, get_or, subst, arith}
-use Rattle.simulation.proofs.Common.{X}
+use Rattle.std.proofs.Common.{arith}
 use Rattle.simulation.proofs.LoadLemmas.{vector_loaded}
 use Rattle.simulation.proofs.wires.Wires.load_vector.Goals as goal
 

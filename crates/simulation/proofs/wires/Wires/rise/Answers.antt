@@ -1,7 +1,6 @@
 -- The gate becomes known, and those that read it wait once more; or it needs to wait no longer.
-use Rattle.std.proofs.Common.{◌≡◌, true, set, refl, ap, ◌∙◌, arith}
-use Rattle.simulation.proofs.Common.{Sig, gate_sig, is_due, vector_of}
-use Rattle.simulation.proofs.GateLemmas.{due_at_gate}
+use Rattle.std.proofs.Common.{◌≡◌, true, set, refl, arith}
+use Rattle.simulation.proofs.Common.{is_due}
 use Rattle.simulation.proofs.LoadLemmas.{vector-set}
 use Rattle.simulation.proofs.LoopLemmas.{gate_determined_at, determined_falls_at, gate_unchanged, unchanged_falls, waiting_gate}
 use Rattle.simulation.proofs.wires.Wires.rise.Goals as goal

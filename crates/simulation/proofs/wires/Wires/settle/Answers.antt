@@ -1,7 +1,5 @@
 -- All blocks are settled, and so is the vector.
-use Rattle.std.proofs.Common.{◌≡◌, List, length, ap, ◌∙◌, subst, arith}
-use Rattle.simulation.proofs.Common.{fix, AreSettled}
-use Rattle.loops.specs.declared.structure.Block.{Block}
+use Rattle.std.proofs.Common.{arith}
 use Rattle.simulation.proofs.LoadLemmas.{all_settled}
 use Rattle.simulation.proofs.wires.Wires.settle.Goals as goal
 

@@ -1,7 +1,7 @@
 -- The gate has the value of its cover, where all that it reads is settled.
-use Rattle.std.proofs.Common.{◌≡◌, ◌+◌, List, set, sym, subst, ap, ◌∙◌, arith}
-use Rattle.simulation.proofs.Common.{Trit, gate_at, gate_sig, gate_value, AreSettled, vector_of}
-use Rattle.simulation.proofs.GateLemmas.{cleared, due_at_gate, gate_settled}
+use Rattle.std.proofs.Common.{◌≡◌, ◌+◌, List, set, sym, subst, arith}
+use Rattle.simulation.proofs.Common.{Trit, gate_at, gate_sig, gate_value, AreSettled}
+use Rattle.simulation.proofs.GateLemmas.{cleared, gate_settled}
 use Rattle.simulation.proofs.LoadLemmas.{vector-set}
 use Rattle.simulation.proofs.wires.Wires.settle_gate.Goals as goal
 

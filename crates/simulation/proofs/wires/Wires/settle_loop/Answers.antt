@@ -1,7 +1,6 @@
 -- No gate waits any longer, so the loop is settled.
-use Rattle.std.proofs.Common.{◌≡◌, ◌<◌, ℕ, List, [], sym, subst, ◌∙◌, arith}
+use Rattle.std.proofs.Common.{◌≡◌, [], arith}
 use Rattle.cyc_base.proofs.ListLemmas.{empty_list}
-use Rattle.simulation.proofs.Common.{IsRising, work_left}
 use Rattle.simulation.proofs.GateLemmas.{cleared}
 use Rattle.simulation.proofs.LoopLemmas.{risen}
 use Rattle.simulation.proofs.wires.Wires.settle_loop.Goals as goal
