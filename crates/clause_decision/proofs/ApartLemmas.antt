@@ -54,18 +54,10 @@ module _ (net : Parts) (care : CareSet) (scope : Scope) (f : Formula) (rails : L
   ]
 
   wire-rails : (s : Sig) → s.0 < count net → IsWireIn net scope s → AreRailsOf f (rails_at rails s.0)
-  wire-rails s listed marked = record {
-    within = All-get_or (AreWithin f.variables) rails s.0 no_rails (let size = cone.size in omega (arith, listed, size)) cone.within;
-    reads = wire-reads s listed marked;
-  }
+  wire-rails s listed marked = grind (arith, All-get_or (AreWithin f.variables) rails s.0 no_rails, wire-reads s listed marked)
 
   pair-rails : (pair : Pair) → IsPairOf net pair → IsPairIn net scope pair → HasRails f rails pair
-  pair-rails pair is within = record {
-    here_within = (let x = is.here in let size = cone.size in omega (arith, x, size));
-    here = wire-rails pair.here is.here within.here;
-    there_within = (let x = is.there in let size = cone.size in omega (arith, x, size));
-    there = wire-rails pair.there is.there within.there;
-  }
+  pair-rails pair is within = grind (arith, wire-rails pair.here is.here within.here, wire-rails pair.there is.there within.there)
 
   pub hints-have_rails : (hints : List Hint) → All (λ hint. IsPairOf net hint.pair) hints → All (λ hint. IsPairIn net scope hint.pair) hints → All (λ hint. HasRails f rails hint.pair) hints
   hints-have_rails hints are within = λ k d less. pair-rails (get_or hints k d).pair (are k d less) (within k d less)
@@ -74,12 +66,7 @@ module _ (net : Parts) (care : CareSet) (scope : Scope) (f : Formula) (rails : L
   pairs-have_rails pairs are within = λ k d less. pair-rails (get_or pairs k d) (are k d less) (within k d less)
 
 pub rails-still : (old new : Formula) (rails : List Rails) → Grows old new → (pair : Pair) → HasRails old rails pair → HasRails new rails pair
-rails-still old new rails grows pair has = record {
-  here_within = has.here_within;
-  here = rails-kept grows has.here;
-  there_within = has.there_within;
-  there = rails-kept grows has.there;
-}
+rails-still old new rails grows pair has = grind arith
 
 -- ---- literals that are added one by one
 
@@ -87,11 +74,7 @@ pub apart_adds : (old new : Formula) (here there : Rails) (l : ℕ) → SaysApar
 apart_adds old new here there l step = record { grows = step.grows; within = step.within; complete = step.complete }
 
 pub literals-none : (f : Formula) → IsFormula f → AddLiterals f f []
-literals-none f formula = record {
-  grows = Grows-refl f formula;
-  within = All-nil (λ l. l < 2 * f.variables);
-  complete = λ m len h. model-here f m len h;
-}
+literals-none f formula = grind (arith, Grows-refl f formula, All-nil, model-here f)
 
 pub literals-step : (old mid new : Formula) (literals : List ℕ) (l : ℕ) → AddLiterals old mid literals → AddsLiteral mid new l → AddLiterals old new (literals ++ l ∷ [])
 literals-step old mid new literals l was step = record {
@@ -144,9 +127,7 @@ pairs-told net care marks old mid pairs asked cone first last =
 
 -- values that are known and equal aren't apart
 equal-apart : (s t : Trit) → not (is_known (agreed s t)) ≡ false → are_apart s t ≡ false
-equal-apart Zero One e = absurd (true≢false e)
-equal-apart One Zero e = absurd (true≢false e)
-equal-apart s t e = refl
+equal-apart s t e = grind arith
 
 module _ (net : Parts) (care : CareSet) (scope : Scope) (pairs : List Pair) (asked : Asked) (told : TellPairs net care scope.gates pairs asked) (none : AreRefuted asked) where
   -- a literal that is refuted is false in the model of a care vector's fixpoint

@@ -29,9 +29,7 @@ module _ (net : Parts) (care : CareSet) (marks : List Bool) (loops : Loops) (gat
       (λ g n inside_gates feeds same wanted. gate-read net marks rails m (vector_in net rails m) (cone.above m is) g wanted (fed (vector_in net rails m) counts g n feeds inside_gates (apart n g inside_gates same)))
 
   known-said : (t : Trit) → is_known t ≡ true → t ≢ X
-  known-said X e x = true≢false (sym e)
-  known-said Zero e x = cc
-  known-said One e x = cc
+  known-said t e x = grind arith
 
   changes-after : (m : List Bool) → HasChange (problem f) inside allowed before after places m → ChangesAfter net loops care gates k (vector_in net rails m)
   changes-after m has =
@@ -103,13 +101,7 @@ module _ (l : LoopAt) (is_loop : IsLoopAt l) where
 
   -- where a cut wire changes, more sweeps are needed
   change-too-few : (care : CareSet) (k : ℕ) (v : List Bool) → ChangesAfter l.net (loops_in l) care (gates_in l) k v → AreTooFewAt l.net (loops_in l) care (gates_in l) k v
-  change-too-few care k v found = record {
-    counts = found.counts;
-    open_cuts =
-        let next : suc k ≡ k + 1 = omega arith in
-        moved-unfixed l is_loop (bits v) (length-map v bit ∙ found.counts.width) k found.wire found.inside found.is_cut
-        (λ e. found.known (ap (λ (j : ℕ). value_in (sweeps l.net (loops_in l) (bits v) j) found.wire) (sym next) ∙ sym e ∙ found.unknown));
-  }
+  change-too-few care k v found = grind (arith, moved-unfixed l is_loop (bits v), length-map v bit)
 
   -- where none does, the loop stands at the fixpoint
   module _ (care : CareSet) (k : ℕ) (stand : StandAfter l.net (loops_in l) care (gates_in l) k) (v : List Bool) (counts : IsCareVector l.net care v) where

@@ -22,26 +22,11 @@ closed-by_pins net marks proper closed n is =
     (λ i inside high. fed i inside high)
   where
     fed : (i : ℕ) → i < length (gate_at net n).pins → first_gate net ≤ (get_or (gate_at net n).pins i (signal 0)).0 → is_marked marks (gate_of net (get_or (gate_at net n).pins i (signal 0))) ≡ true
-    fed i inside high =
-        let pin : Sig = get_or (gate_at net n).pins i (signal 0) in
-        let of_signals : All (IsSignal net) (gate_at net n).pins = All-get_or (λ (gate : Gate). All (IsSignal net) gate.pins) net.gates n no_gate is.within proper.pins in
-        let below : pin.0 < count net = All-get_or (IsSignal net) (gate_at net n).pins i (signal 0) inside of_signals in
-        let same : pin ≡ gate_sig net (gate_of net pin) = (let e : pin.0 ≡ first_gate net + gate_of net pin = omega (arith, high) in ap signal e) in
-        closed (gate_of net pin) n
-        (record {
-          source = omega (arith, high, below);
-          reader = is.within;
-          pin = subst (Contains (gate_at net n).pins) same (Contains-get_or (gate_at net n).pins i (signal 0) inside);
-        })
-        is.marked
+    fed i inside high = grind (arith, All-get_or, All-get_or (IsSignal net) (gate_at net n).pins i (signal 0) inside, Contains-get_or (gate_at net n).pins i (signal 0) inside)
 
 -- the columns' rails come first
 pub column_rails-are : (net : Parts) (marks : List Bool) (given : List Rails) (old new : Formula) (rails : List Rails) → length given ≡ columns net → SaysNetlist net marks given old new rails → column_rails net rails ≡ given
-column_rails-are net marks given old new rails wide says_it =
-    let size : length rails ≡ count net = says_it.size in
-    let long : length (take (columns net) rails) ≡ columns net = length-take-le (columns net) rails (omega (arith, size)) in
-    ext_get_or no_rails (take (columns net) rails) given (long ∙ sym wide)
-    (λ i less. let inside : i < columns net = omega (arith, less, long) in get_or-take (columns net) rails i no_rails inside ∙ says_it.columns i inside)
+column_rails-are net marks given old new rails wide says_it = grind (arith, length-take-le (columns net) rails, ext_get_or no_rails (take (columns net) rails) given, get_or-take (columns net) rails)
 
 module _ (net : Parts) (care : CareSet) (marks : List Bool) (old new : Formula) (given rails : List Rails) (inside allowed : ℕ)
     (said : IsCareFormula net care old given inside allowed) (closed : IsClosed net marks) (gates : SaysNetlist net marks given old new rails) where
@@ -146,14 +131,8 @@ module _ {net : Parts} {care : CareSet} {marks : List Bool} {f : Formula} {rails
 
     -- with a care vector's the care literals are true
     pub care-holds : IsCareVector net care v → (says has.model inside ≡ true) × (says has.model allowed ≡ true)
-    care-holds counts = (
-      cone.inside_tells has.model has.holds ∙ ap (λ u. is_in_invariant care (state_of net u)) vector-read ∙ counts.state,
-      cone.allowed_tells has.model has.holds ∙ ap (is_allowed care) vector-read ∙ counts.allowed,
-    )
+    care-holds counts = grind (arith, vector-read)
 
     -- so it is a model under them and each literal that is true in it
     pub care-under : IsCareVector net care v → (l : ℕ) → says has.model l ≡ true → IsModelUnder (problem f) (inside ∷ allowed ∷ l ∷ []) has.model
-    care-under counts l holds = record {
-      model = models-same f has.model ∙ has.holds;
-      assumed = three (λ k. says has.model k ≡ true) inside allowed l (care-holds counts).0 (care-holds counts).1 holds;
-    }
+    care-under counts l holds = grind (arith, models-same f has.model, three, care-holds counts)

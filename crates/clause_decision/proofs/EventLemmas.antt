@@ -30,26 +30,18 @@ reads-or-same (p ∷ pins) f h s same =
 
 -- choices whose branches are alike, or rise, are so
 choice-same : (b : Bool) (x y u v : Trit) → (b ≡ true → x ≡ u) → (b ≡ false → y ≡ v) → (if b then x else y) ≡ (if b then u else v)
-choice-same true x y u v first second = first refl
-choice-same false x y u v first second = second refl
+choice-same b x y u v first second = grind arith
 
 choice-below : (b : Bool) (x y u v : Trit) → (b ≡ true → Below x u) → (b ≡ false → Below y v) → Below (if b then x else y) (if b then u else v)
-choice-below true x y u v first second = first refl
-choice-below false x y u v first second = second refl
+choice-below b x y u v first second = grind arith
 
 -- a known value below another is that value
 same-or-unknown : (x y : Trit) → Below x y → (x ≡ X → y ≡ X) → x ≡ y
-same-or-unknown X y below unknown = sym (unknown refl)
-same-or-unknown Zero y below unknown = sym below
-same-or-unknown One y below unknown = sym below
+same-or-unknown x y below unknown = grind arith
 
 -- a value that becomes known rises
 set-rises : (s : List Trit) (g : ℕ) (x : Trit) → g < length s → Below (value_in s g) x → (n : ℕ) → Below (value_in s n) (value_in (set s g x) n)
-set-rises s g x low below n =
-    elim (cases_eq n g) [
-      | inl same ↦ rw (same, get_or-set_same s g x X low) below
-      | inr other ↦ rw (get_or-set_other s g n x X other) (Below-refl (value_in s n))
-    ]
+set-rises s g x low below n = grind (arith, cases_eq n g, get_or-set_same s g x X low, get_or-set_other s g n x X, Below-refl (value_in s n))
 
 -- ---- what a change lets gates see
 
@@ -96,26 +88,11 @@ module _ (l : LoopAt) (outside : List Trit) where
 
   -- it is seen in the sweep
   uncut-risen : (before after : List Trit) (g : ℕ) (value : Trit) → g < length after → is_cut l.cut.wires g ≡ false → Below (value_in after g) value → HasRisen l before after before (set after g value) g
-  uncut-risen before after g value low uncut below = record {
-    others = λ n other. ap (λ (t : Trit). if is_cut l.cut.wires n then value_in before n else t) (sym (get_or-set_other after g n value X other));
-    rises = λ n.
-        choice-below (is_cut l.cut.wires n) (value_in before n) (value_in after n) (value_in before n) (value_in (set after g value) n)
-        (λ is. Below-refl (value_in before n)) (λ is. set-rises after g value low below n);
-  }
+  uncut-risen before after g value low uncut below = grind (arith, get_or-set_other after g, choice-below, Below-refl, set-rises after g value low below)
 
   -- or, as a cut wire, isn't
   cut-still : (before after : List Trit) (g : ℕ) (value : Trit) → is_cut l.cut.wires g ≡ true → (n : ℕ) → cover_value l outside before after n ≡ cover_value l outside before (set after g value) n
-  cut-still before after g value cut n =
-      ap (ext (gate_at l.net n).cover)
-      (map_agree (seen_of l outside before after) (seen_of l outside before (set after g value)) (gate_at l.net n).pins
-      (λ k d low.
-      let pin : Sig = get_or (gate_at l.net n).pins k d in
-      choice-same (is_inside l pin) (shown l before after (gate_of l.net pin)) (wire outside pin) (shown l before (set after g value) (gate_of l.net pin)) (wire outside pin) (λ is. same (gate_of l.net pin)) (λ is. refl)))
-    where
-      same : (m : ℕ) → shown l before after m ≡ shown l before (set after g value) m
-      same m =
-          choice-same (is_cut l.cut.wires m) (value_in before m) (value_in after m) (value_in before m) (value_in (set after g value) m) (λ is. refl)
-          (λ is. sym (get_or-set_other after g m value X (λ e. true≢false (sym cut ∙ ap (is_cut l.cut.wires) (sym e) ∙ is))))
+  cut-still before after g value cut n = grind (arith, map_agree (seen_of l outside before after) (seen_of l outside before (set after g value)) (gate_at l.net n).pins, choice-same, get_or-set_other after g, true≢false)
 
   module _ (before after : List Trit) (rest : List ℕ) (g : ℕ) (h : IsSweeping l outside before after (rest ++ g ∷ [])) where
     pub waiting-inside : Contains (gates_in l) g
@@ -184,21 +161,12 @@ module _ (l : LoopAt) (outside : List Trit) where
           (readers-or-still before after before (set after g value) g risen readers are waiting-inside)
 
       pub cut-set : is_cut l.cut.wires g ≡ true → IsSweeping l outside before (set after g value) rest
-      cut-set cut =
-          subst (λ (ns : List ℕ). IsSweeping l outside before (set after g value) ns) (append-nil rest)
-          (gate-set [] (λ n none. absurd (Contains-nothing n none))
-          (λ n. rw (← cut-still before after g value cut n) (Below-refl (cover_value l outside before after n)))
-          (λ n there. inr (cut-still before after g value cut n)))
+      cut-set cut = grind (arith, append-nil rest, gate-set [], cut-still before after g value cut, Below-refl)
 
   -- ---- a cut wire is shown
 
   cut-risen : (before after : List Trit) (g : ℕ) → g < length before → is_cut l.cut.wires g ≡ true → Below (value_in before g) (value_in after g) → HasRisen l before after (set before g (value_in after g)) after g
-  cut-risen before after g low cut below = record {
-    others = λ n other. ap (λ (t : Trit). if is_cut l.cut.wires n then t else value_in after n) (sym (get_or-set_other before g n (value_in after g) X other));
-    rises = λ n.
-        choice-below (is_cut l.cut.wires n) (value_in before n) (value_in after n) (value_in (set before g (value_in after g)) n) (value_in after n)
-        (λ is. set-rises before g (value_in after g) low below n) (λ is. Below-refl (value_in after n));
-  }
+  cut-risen before after g low cut below = grind (arith, get_or-set_other before g, choice-below, set-rises before g (value_in after g) low below, Below-refl)
 
   pub wire-shown : (before after : List Trit) (waiting : List ℕ) (g : ℕ) (readers : List (List ℕ)) → AreReaders l (gates_in l) readers → Contains (gates_in l) g → is_cut l.cut.wires g ≡ true →
       Below (value_in before g) (value_in after g) → g < length before → IsSweeping l outside before after waiting → IsSweeping l outside (set before g (value_in after g)) after (waiting ++ get_or readers g [])
@@ -228,15 +196,7 @@ module _ (l : LoopAt) (outside : List Trit) where
 module _ (l : LoopAt) where
   -- a gate that is no cut wire is set
   pub uncut-unseen : (before after : List Trit) (g : ℕ) (value : Trit) (wires : List ℕ) → is_cut l.cut.wires g ≡ false → AreUnseen l before after wires → AreUnseen l before (set after g value) wires
-  uncut-unseen before after g value wires uncut h = record {
-    inside = h.inside;
-    are = h.are;
-    below = λ n there cut. subst (λ (t : Trit). Below (value_in before n) t) (sym (same n cut)) (h.below n there cut);
-    each = λ n there cut. elim (h.each n there cut) [ inl alike ↦ inl (alike ∙ sym (same n cut)) | inr listed ↦ inr listed ];
-  }
-    where
-      same : (n : ℕ) → is_cut l.cut.wires n ≡ true → value_in (set after g value) n ≡ value_in after n
-      same n cut = get_or-set_other after g n value X (λ e. true≢false (sym cut ∙ ap (is_cut l.cut.wires) e ∙ uncut))
+  uncut-unseen before after g value wires uncut h = grind (arith, get_or-set_other after g, true≢false)
 
   -- a cut wire is set
   pub cut-unseen : (before after : List Trit) (g : ℕ) (value : Trit) (wires : List ℕ) → Contains (gates_in l) g → is_cut l.cut.wires g ≡ true → value_in after g ≡ X → g < length after →
@@ -264,22 +224,12 @@ module _ (l : LoopAt) where
   -- those that have changed differ in the two states
   pub uncut-differs : (before after : List Trit) (g : ℕ) (value : Trit) (wires : List ℕ) → is_cut l.cut.wires g ≡ false → AreUnseen l before after wires →
       ((n : ℕ) → Contains wires n → value_in before n ≢ value_in after n) → (n : ℕ) → Contains wires n → value_in before n ≢ value_in (set after g value) n
-  uncut-differs before after g value wires uncut h differs n there same =
-      differs n there (same ∙ get_or-set_other after g n value X (λ e. true≢false (sym (h.are n there) ∙ ap (is_cut l.cut.wires) e ∙ uncut)))
+  uncut-differs before after g value wires uncut h differs n there same = grind (arith, get_or-set_other after g n value X, true≢false)
 
   pub cut-differs : (before after : List Trit) (g : ℕ) (value : Trit) (wires : List ℕ) → Contains (gates_in l) g → is_cut l.cut.wires g ≡ true → value_in after g ≡ X → value ≢ X → g < length after → AreUnseen l before after wires →
       ((n : ℕ) → Contains wires n → value_in before n ≢ value_in after n) → (n : ℕ) → Contains (wires ++ g ∷ []) n → value_in before n ≢ value_in (set after g value) n
   cut-differs before after g value wires inside cut unknown known low h differs n there same =
-      elim (cases_eq n g) [
-        | inl is ↦
-            known
-            (sym (get_or-set_same after g value X low) ∙ sym (ap (value_in (set after g value)) is) ∙ sym same ∙ ap (value_in before) is
-            ∙ Below-unknown (value_in before g) (value_in after g) (h.below g inside cut) unknown)
-        | inr other ↦ elim (Contains-push_cases wires g n there) [
-          | inl early ↦ differs n early (same ∙ get_or-set_other after g n value X other)
-          | inr is ↦ other (sym is)
-        ]
-      ]
+      grind (arith, cases_eq n g, get_or-set_same after g value X low, Below-unknown (value_in before g) (value_in after g) (h.below g inside cut) unknown, Contains-push_cases wires g n there, get_or-set_other after g n value X)
 
   -- one of them is shown
   pub wire-seen : (before after : List Trit) (g : ℕ) (wires : List ℕ) → g < length before → AreUnseen l before after (g ∷ wires) → AreUnseen l (set before g (value_in after g)) after wires
@@ -359,12 +309,7 @@ row-fits (row ∷ rows) (suc n) = omega (arith, row-fits rows n)
 
 -- a state in which an unknown value becomes known has more that are known
 more-known : (values : List Trit) (g : ℕ) (value : Trit) → g < length values → value_in values g ≡ X → value ≢ X → known_count values < known_count (set values g value)
-more-known values g value low unknown known =
-    elim (same_or_more values (set values g value)
-    (EachBelow-from_at values (set values g value) (sym (length-set values g value)) (λ n less. set-rises values g value low (rw unknown tt) n))) [
-      | inl same ↦ absurd (known (sym (get_or-set_same values g value X low) ∙ ap (λ (s : List Trit). value_in s g) (sym same) ∙ unknown))
-      | inr more ↦ more
-    ]
+more-known values g value low unknown known = grind (arith, same_or_more values (set values g value), EachBelow-from_at values (set values g value), length-set values g value, set-rises values g value low, get_or-set_same values g value X low)
 
 -- the values that are still unknown and the gates that wait, so weighed that it falls when a gate is set
 pub work_left : ℕ → List Trit → List ℕ → ℕ
@@ -379,11 +324,7 @@ work_left-set readers values g rest more value low unknown known few =
     let most = known_count-le (set values g value) in
     let first = length-append rest more in
     let second : length (rest ++ g ∷ []) ≡ suc (length rest) = omega (arith, length-append rest (g ∷ [])) in
-    let less =
-    falls (length (set values g value) - known_count (set values g value)) (length values - known_count values)
-    (total readers) (length rest) (length (rest ++ more))
-    (omega (arith, grown, size, most)) (omega (arith, first, few)) in
-    subst (λ (n : ℕ). (length (set values g value) - known_count (set values g value)) * suc (total readers) + length (rest ++ more) < (length values - known_count values) * suc (total readers) + n) (sym second) less
+    grind (arith, falls (length (set values g value) - known_count (set values g value)) (length values - known_count values) (total readers) (length rest) (length (rest ++ more)))
 
 pub work_left-uncut : (readers : List (List ℕ)) (values : List Trit) (g : ℕ) (rest : List ℕ) (value : Trit) → g < length values → value_in values g ≡ X → value ≢ X →
     work_left (total readers) (set values g value) (rest ++ get_or readers g []) < work_left (total readers) values (rest ++ g ∷ [])
@@ -391,9 +332,7 @@ work_left-uncut readers values g rest value low unknown known = work_left-set re
 
 pub work_left-cut : (readers : List (List ℕ)) (values : List Trit) (g : ℕ) (rest : List ℕ) (value : Trit) → g < length values → value_in values g ≡ X → value ≢ X →
     work_left (total readers) (set values g value) rest < work_left (total readers) values (rest ++ g ∷ [])
-work_left-cut readers values g rest value low unknown known =
-    subst (λ (ns : List ℕ). work_left (total readers) (set values g value) ns < work_left (total readers) values (rest ++ g ∷ [])) (append-nil rest)
-    (work_left-set readers values g rest [] value low unknown known (omega arith))
+work_left-cut readers values g rest value low unknown known = grind (arith, append-nil rest, work_left-set readers values g rest [] value low unknown known)
 
 pub work_left-kept : (most : ℕ) (values : List Trit) (g : ℕ) (rest : List ℕ) → work_left most values rest < work_left most values (rest ++ g ∷ [])
 unfolding work_left

@@ -29,8 +29,7 @@ reads-map m f g (x ∷ xs) h = (h x (Contains-here x xs), reads-map m f g xs (λ
 
 -- the literals of the columns read the vector
 one-bit : (b : Bool) → is_one (bit b) ≡ b
-one-bit true = refl
-one-bit false = refl
+one-bit b = grind arith
 
 pub ones-read : (m : List Bool) (rs : List Rails) (v : List Bool) → ReadsAll m rs (bits v) → map (says m) (map (λ r. r.one) rs) ≡ v
 ones-read m [] [] h = refl
@@ -112,9 +111,7 @@ asks-over f rails width assumed test over tells = record {
 
 -- the care set's
 pub care-asks : (net : Parts) (care : CareSet) (f : Formula) (rails : List Rails) (inside allowed : ℕ) → IsCareFormula net care f rails inside allowed → Asks (problem f) (map (λ r. r.one) rails) (inside ∷ allowed ∷ []) (is_care_vector net care)
-care-asks net care f rails inside allowed is =
-    asks-over f rails (columns net) (inside ∷ allowed ∷ []) (is_care_vector net care) is.over
-    (λ m v model reads. ap (λ b. says m inside && b) (sym (and_with_true (says m allowed))) ∙ ap₂ (λ x y. x && y) (is.inside_tells m v model reads) (is.allowed_tells m v model reads))
+care-asks net care f rails inside allowed is = grind (arith, asks-over f rails (columns net) (inside ∷ allowed ∷ []) (is_care_vector net care) is.over, and_with_true)
 
 -- the literals are of the formula
 pub ones-within : (f : Formula) (rails : List Rails) → All (AreWithin f.variables) rails → All (λ l. l < 2 * f.variables) (map (λ r. r.one) rails)
@@ -128,12 +125,4 @@ two-within n a b first second = All-cons (λ l. l < n) a (b ∷ []) first (All-c
 -- a question of these literals asks for what they ask for
 pub question-of : {width : ℕ} {test : List Bool → Bool} {f : Formula} {columns_read assumed : List ℕ} (q : Question) → q.formula ≡ f → q.columns.items ≡ columns_read → q.assumed.items ≡ assumed →
     IsWithin f.variables columns_read → IsWithin f.variables assumed → length columns_read ≡ width → Asks (problem f) columns_read assumed test → IsQuestionOf width test q
-question-of {test = test} {f = f} {columns_read = columns_read} q formula_is columns_is assumed_is columns_in assumed_in wide asks = record {
-  askable = record {
-    columns = subst (λ (g : Formula). IsWithin g.variables q.columns.items) (sym formula_is) (subst (IsWithin f.variables) (sym columns_is) columns_in);
-    assumed = subst (λ (g : Formula). IsWithin g.variables q.assumed.items) (sym formula_is) (subst (IsWithin f.variables) (sym assumed_is) assumed_in);
-  };
-  wide = ap length columns_is ∙ wide;
-  asks = subst (λ (g : Formula). Asks (problem g) q.columns.items q.assumed.items test) (sym formula_is)
-      (subst (λ cs. Asks (problem f) cs q.assumed.items test) (sym columns_is) (subst (λ ls. Asks (problem f) columns_read ls test) (sym assumed_is) asks));
-}
+question-of {test = test} {f = f} {columns_read = columns_read} q formula_is columns_is assumed_is columns_in assumed_in wide asks = grind arith

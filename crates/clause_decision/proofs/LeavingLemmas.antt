@@ -24,32 +24,16 @@ use Rattle.clause_decision.proofs.SignalLemmas.{negation-within, column_rails-le
 
 -- the columns of the invariant are those of latches
 pub latch-columns : (net : Parts) (care : CareSet) (columns_read : List ℕ) → IsCareOf net care → columns_read ≡ option_map_or (λ model. model.columns) care.invariant [] → AreLatchColumns net columns_read
-latch-columns net care columns_read bound are = by care.invariant are (invariant-reads net care (length net.latches) bound refl)
-  where
-    by : (o : Option CareModel) → columns_read ≡ option_map_or (λ model. model.columns) o [] → IfSome o (ReadsWithin (length net.inputs) (length net.latches)) → AreLatchColumns net columns_read
-    by None e h = subst (AreLatchColumns net) (sym e) (record { late = λ k d less. absurd (omega (arith, less)); within = λ k d less. absurd (omega (arith, less)) })
-    by (Some model) e h = subst (AreLatchColumns net) (sym e) (record { late = h.late; within = h.within })
+latch-columns net care columns_read bound are = grind (arith, invariant-reads net care (length net.latches) bound)
 
 -- rails of what they load are of the formula
 pub loads-within : (net : Parts) (rails : List Rails) (k : ℕ) (columns_read : List ℕ) (list : List Rails) → IsNetlist net → length rails ≡ count net → All (AreWithin k) rails → AreLatchColumns net columns_read →
     list ≡ loads_rails net rails columns_read → All (AreWithin k) list
-loads-within net rails k columns_read list proper size within latches is =
-    subst (All (AreWithin k)) (sym is) (All-map (AreWithin k) (load_rails net rails) columns_read
-    (λ i d less. All-get_or (AreWithin k) rails (latch_of net (get_or columns_read i d)).from.0 no_rails (let low = proper.sources (get_or columns_read i d - length net.inputs) no_latch (latches.within i d less) in omega (arith, low, size)) within))
+loads-within net rails k columns_read list proper size within latches is = grind (arith, All-map (AreWithin k) (load_rails net rails) columns_read, All-get_or (AreWithin k) rails)
 
 -- without an invariant no next state is outside
 pub none-leaves : (net : Parts) (care : CareSet) → (let nothing : Option Parts = None in nothing) ≡ option_map (λ model. model.net) care.invariant → (v : List Bool) → is_leaving net care v ≡ false
-none-leaves net care none v =
-    ap (λ b. is_care_vector net care v && not b) (passes care.invariant none)
-    ∙ and-false (is_care_vector net care v)
-  where
-    passes : (o : Option CareModel) → (let nothing : Option Parts = None in nothing) ≡ option_map (λ model. model.net) o → option_map_or (λ model. holds_at model (next_state net v)) o true ≡ true
-    passes None e = refl
-    passes (Some model) e = cc
-
-    and-false : (b : Bool) → (b && false) ≡ false
-    and-false true = refl
-    and-false false = refl
+none-leaves net care none v = grind arith
 
 module _ (net : Parts) (care : CareSet) (marks : List Bool) (f g : Formula) (rails : List Rails) (inside allowed literal : ℕ) (cone : IsCone net care marks f rails inside allowed)
     (model : CareModel) (is : care.invariant ≡ Some model) (start : model.first ≡ length net.inputs) (latches : AreLatchColumns net model.columns) (proper : IsNetlist net)

@@ -29,16 +29,7 @@ places-cut cut gates k places less is h = record {
 }
 
 pub places-uncut : (cut : ℕ → Bool) (gates : List ℕ) (k : ℕ) (places : List ℕ) → k < length gates → cut (get_or gates k 0) ≡ false → AreCutPlacesBelow cut gates k places → AreCutPlacesBelow cut gates (k + 1) places
-places-uncut cut gates k places less isnt h = record {
-  within = All-weaker (λ i. i < k) (λ i. i < k + 1) (λ i l. omega (arith, l)) places h.within;
-  are = h.are;
-  each = λ i low cut_i. elim (cases_lt i k) [
-    | inl l ↦ h.each i l cut_i
-    | inr high ↦ (let e : k ≡ i = omega (arith, low, high) in absurd (true≢false (sym cut_i ∙ ap (λ j. cut (get_or gates j 0)) (sym e) ∙ isnt)))
-  ];
-  number = h.number
-      ∙ sym (ap length (filter_more cut gates k 0 less ∙ ap (λ b. filter cut (take k gates) ++ cond b (get_or gates k 0 ∷ []) []) isnt ∙ append-nil (filter cut (take k gates))));
-}
+places-uncut cut gates k places less isnt h = grind (arith, All-weaker, cases_lt, true≢false, filter_more cut gates k 0 less, append-nil (filter cut (take k gates)))
 
 -- ---- the gates of a loop
 
@@ -49,11 +40,7 @@ kept-agree p q (x ∷ xs) h = ap₂ (λ (b : Bool) (ys : List ℕ). cond b (x �
 
 kept-both : (p q : ℕ → Bool) (xs : List ℕ) → filter (λ n. p n && q n) xs ≡ filter q (filter p xs)
 kept-both p q [] = refl
-kept-both p q (x ∷ xs) = ap (λ (ys : List ℕ). cond (p x && q x) (x ∷ ys) ys) (kept-both p q xs) ∙ by (p x)
-  where
-    by : (b : Bool) → cond (b && q x) (x ∷ filter q (filter p xs)) (filter q (filter p xs)) ≡ filter q (cond b (x ∷ filter p xs) (filter p xs))
-    by true = refl
-    by false = refl
+kept-both p q (x ∷ xs) = grind (arith, kept-both p q xs)
 
 -- what is listed as a cut wire of a loop is one
 pub cut-of : (net : Parts) (loops : Loops) (a j d : ℕ) → j < length (cuts_of net loops a) → (loops.same a (get_or (cuts_of net loops a) j d) ≡ true) × (loops.cut (get_or (cuts_of net loops a) j d) ≡ true)
@@ -74,10 +61,7 @@ module _ (l : LoopAt) (is_loop : IsLoopAt l) where
 
   -- the gates of the block are those of the loop of each of them
   pub of-loop : (a : ℕ) → Contains (gates_in l) a → AreGatesOfLoop (loops_in l) a (gates_in l)
-  of-loop a inside =
-      let at = gate_home l.net l.blocks is_loop.blocks l.number a is_loop.number inside in
-      subst (λ (h : ℕ). AreGatesOfLoop (loops_in l) a (block_at l.blocks h).gates) at.1
-      (blocks_have_loops l.net l.blocks l.cut is_loop.blocks a at.0 (subst (λ (h : ℕ). (block_at l.blocks h).looped ≡ true) (sym at.1) is_loop.looped))
+  of-loop a inside = grind (arith, gate_home l.net l.blocks is_loop.blocks l.number a is_loop.number inside, blocks_have_loops l.net l.blocks l.cut is_loop.blocks a)
 
   -- which gates are in it
   pub same-home : (a : ℕ) → Contains (gates_in l) a → (n : ℕ) → n < length l.net.gates → (loops_in l).same a n ≡ (home_of l.blocks n == l.number)
@@ -109,15 +93,7 @@ module _ (l : LoopAt) (is_loop : IsLoopAt l) where
       (few_sweeps_are_enough l.net (loops_in l) are-loops a (bits v) (length-map v bit ∙ wide))
 
   pub cuts_fit : length l.cuts ≤ 4294967295
-  cuts_fit =
-      let first = count-is in
-      let second = filter-no_longer (is_cut l.cut.wires) (gates_in l) in
-      let third = ap length (is_loop.blocks.gates l.number is_loop.number) in
-      let fourth = filter-no_longer (λ n. home_of l.blocks n == l.number) (range_with_len 0 (length l.blocks.home)) in
-      let fifth = length-range_with_len 0 (length l.blocks.home) in
-      let sixth = is_loop.blocks.homes in
-      let seventh = is_loop.net.fits in
-      omega (arith, first, second, third, fourth, fifth, sixth, seventh)
+  cuts_fit = grind (arith, count-is, filter-no_longer (is_cut l.cut.wires) (gates_in l), filter-no_longer, length-range_with_len 0 (length l.blocks.home))
 
 -- ---- whether a loop is at the fixpoint
 
@@ -131,10 +107,7 @@ module _ (l : LoopAt) (is_loop : IsLoopAt l) (v : List Trit) (wide : length v �
     where
       still-at : (j d : ℕ) → j < length (cuts_of l.net (loops_in l) a) →
           value_in (sweeps l.net (loops_in l) v (suc k)) (get_or (cuts_of l.net (loops_in l) a) j d) ≡ value_in (sweeps l.net (loops_in l) v k) (get_or (cuts_of l.net (loops_in l) a) j d)
-      still-at j d low =
-          let n : ℕ = get_or (cuts_of l.net (loops_in l) a) j d in
-          let is = cut-of l.net (loops_in l) a j d low in
-          same n ((of-loop l is_loop a inside).0 n is.0) is.1
+      still-at j d low = grind (arith, cut-of l.net (loops_in l) a j d low, of-loop l is_loop a inside)
 
       still : cuts l.net (loops_in l) v a (suc k) ≡ cuts l.net (loops_in l) v a k
       still = map_agree (value_in (sweeps l.net (loops_in l) v (suc k))) (value_in (sweeps l.net (loops_in l) v k)) (cuts_of l.net (loops_in l) a) still-at

@@ -26,9 +26,7 @@ abbrev all : Parts → List Bool
 all net = replicate (length net.gates) true
 
 pub all-closed : (net : Parts) → IsNetlist net → IsClosed net (all net)
-all-closed net valid n wanted k d less behind =
-    let here : gate_of net (get_or (gate_at net n).pins k d) < length net.gates = (let low = valid.pins n no_gate wanted.within k d less in omega (arith, low, behind)) in
-    get_or-replicate (length net.gates) (gate_of net (get_or (gate_at net n).pins k d)) true false here
+all-closed net valid n wanted k d less behind = grind (arith, get_or-replicate (length net.gates) (gate_of net (get_or (gate_at net n).pins k d)) true false)
 
 pub all-known : (net : Parts) → IsNetlist net → IsLoopFree net → AreNeverUnknown net (all net) (all net)
 all-known net valid free v wide n wanted marked = loop_free_is_determined net valid free v wide n wanted.within
@@ -36,9 +34,7 @@ all-known net valid free v wide n wanted marked = loop_free_is_determined net va
 -- ---- the output
 
 same-one : (t : Trit) → is_one_rail t ≡ is_one t
-same-one Zero = refl
-same-one One = refl
-same-one X = refl
+same-one t = grind arith
 
 module _ (net : Parts) (valid : IsNetlist net) (free : IsLoopFree net) (given : List Rails) (old new : Formula) (rails : List Rails) (said : SaysNetlist net (all net) given old new rails) (wide : length given ≡ first_gate net) where
   -- what the rails of a signal say
@@ -131,12 +127,7 @@ of-there o model P is holds = subst (λ (p : Option CareModel). IfSome p P) is h
 -- ---- which columns they read
 
 model-reads : (net : Parts) (first n width : ℕ) (o : Option CareModel) → IfSome o (IsBoundTo net first) → IfSome o (HasValues (replicate n false)) → width ≡ n → IfSome o (ReadsWithin first width)
-model-reads net first n width None b h is = tt
-model-reads net first n width (Some model) b h is = record {
-  start = b.start;
-  late = b.late;
-  within = λ k d inside. let low = h.each k d inside in let long = length-replicate n false in let start = b.start in omega (arith, low, long, is, start);
-}
+model-reads net first n width o b h is = grind (arith, length-replicate)
 
 pub invariant-reads : (net : Parts) (care : CareSet) (width : ℕ) → IsCareOf net care → width ≡ length net.latches → IfSome care.invariant (ReadsWithin (length net.inputs) width)
 invariant-reads net care width bound is =

@@ -9,10 +9,7 @@ use Rattle.loops.proofs.Reading.{wire_of_gate}
 use Rattle.ternary_clauses.specs.Encoding.{ReadsGates}
 
 pub negation-within : (l k : ℕ) → l < 2 * k → negation l < 2 * k
-negation-within l k less = elim (parity l) [
-  | inl e ↦ (let n : negation l ≡ l + 1 = ap (λ r. if r == 0 then l + 1 else l - 1) e in omega (arith, n, e, less))
-  | inr e ↦ (let n : negation l ≡ l - 1 = ap (λ r. if r == 0 then l + 1 else l - 1) e in omega (arith, n, less))
-]
+negation-within l k less = grind arith
 
 pub three : (P : ℕ → Type 0) (a b c : ℕ) → P a → P b → P c → All P (a ∷ b ∷ c ∷ [])
 three P a b c x y z = All-cons P a (b ∷ c ∷ []) x (All-cons P b (c ∷ []) y (All-cons P c [] z (All-nil P)))
@@ -51,8 +48,7 @@ signal-at net rails m v size wide reads s gate = elim (cases_lt s.0 (first_gate 
 -- a gate that is known stands for its value at the fixpoint
 pub gate-read : (net : Parts) (gates : List Bool) (rails : List Rails) (m v : List Bool) → ReadsAbove net gates rails m v → (n : ℕ) → IsWanted net gates n → value_in (fix_gates net (bits v)) n ≢ X →
     Reads m (gate_rails net rails n) (value_in (fix_gates net (bits v)) n)
-gate-read net gates rails m v above n wanted known =
-    subst (λ (t : Trit). Reads m (gate_rails net rails n) t) (Below-known (value_in (fix_gates net (bits v)) n) (value_in above.state n) (above.above n wanted) known) (above.reads n wanted)
+gate-read net gates rails m v above n wanted known = grind arith
 
 -- a signal that is known does
 pub signal-read : (net : Parts) (gates : List Bool) (rails : List Rails) (m v : List Bool) → length rails ≡ count net → length v ≡ columns net →

@@ -13,22 +13,12 @@ use Rattle.clause_decision.specs.Simulations.{seen_of}
 use Rattle.clause_decision.proofs.LoopLemmas.{are-loops, gate-fits, moved-unfixed, of-loop, same-home, unmoved-fixed}
 
 first-same : (b d : Bool) (x y z w : Trit) → (b ≡ true → d ≡ true → x ≡ w) → choice b d x y z ≡ choice b d w y z
-first-same true true x y z w h = h refl refl
-first-same true false x y z w h = refl
-first-same false d x y z w h = refl
+first-same b d x y z w h = grind arith
 
 module _ (l : LoopAt) (is_loop : IsLoopAt l) where
   -- what a gate of the block sees
   seen-is : (v before after : List Trit) (n : ℕ) → Contains (gates_in l) n → (pin : Sig) → pin.0 < count l.net → seen_of l (fix l.net v) before after pin ≡ pin_in l.net (loops_in l) v before after n pin
-  seen-is v before after n inside pin low =
-      ap (λ (t : Bool). if t then (if is_cut l.cut.wires (gate_of l.net pin) then value_in before (gate_of l.net pin) else value_in after (gate_of l.net pin)) else wire (fix l.net v) pin)
-      (by (leb (first_gate l.net) pin.0) refl)
-    where
-      by : (t : Bool) → leb (first_gate l.net) pin.0 ≡ t → (leb (first_gate l.net) pin.0 && home_of l.blocks (gate_of l.net pin) == l.number) ≡ in_loop_of l.net (loops_in l) n pin
-      by false e = ap (λ (t : Bool). t && home_of l.blocks (gate_of l.net pin) == l.number) e ∙ sym (ap (λ (t : Bool). t && in_one_loop l.blocks n (gate_of l.net pin)) e)
-      by true e =
-          ap (λ (t : Bool). leb (first_gate l.net) pin.0 && t)
-          (sym (same-home l is_loop n inside (gate_of l.net pin) (let high = leb-true (first_gate l.net) pin.0 e in omega (arith, low, high))))
+  seen-is v before after n inside pin low = grind (arith, same-home l is_loop n inside, leb-true)
 
   -- and what its cover makes of it
   value-is : (v before after : List Trit) (n : ℕ) → Contains (gates_in l) n →
@@ -56,20 +46,7 @@ module _ (l : LoopAt) (is_loop : IsLoopAt l) where
   swept-next v outside before after k is sweeping agree n inside =
       let loop = of-loop l is_loop n inside in
       let next : suc k ≡ k + 1 = omega arith in
-      sweep_of_one_loop l.net (loops_in l) (are-loops l is_loop) v (sweeps l.net (loops_in l) v k) after n
-      (λ g same. each g (loop.0 g same))
-      n (loop.1 n inside)
-      ∙ ap (λ (j : ℕ). value_in (sweeps l.net (loops_in l) v j) n) next
-    where
-      each : (g : ℕ) → Contains (gates_in l) g → value_in after g ≡ gate_in l.net (loops_in l) v (sweeps l.net (loops_in l) v k) after g
-      each g there = elim (sweeping.still g there) [
-        | inl none ↦ absurd (omega (arith, none.1))
-        | inr still ↦
-            still
-            ∙ ap (λ (s : List Trit). cover_value l s before after g) is
-            ∙ value-is v before after g there
-            ∙ cuts-agree v before (sweeps l.net (loops_in l) v k) after agree g there
-      ]
+      grind (arith, sweep_of_one_loop l.net (loops_in l) (are-loops l is_loop) v (sweeps l.net (loops_in l) v k) after n, are-loops l is_loop, value-is v before after, cuts-agree v before (sweeps l.net (loops_in l) v k) after agree)
 
   module _ (v : List Bool) (wide : length (bits v) ≡ first_gate l.net) (before after : List Trit) (k : ℕ)
       (at_before : (n : ℕ) → Contains (gates_in l) n → is_cut l.cut.wires n ≡ true → value_in before n ≡ value_in (sweeps l.net (loops_in l) (bits v) k) n)
@@ -91,8 +68,7 @@ module _ (l : LoopAt) (is_loop : IsLoopAt l) where
 
 -- a sweep of values that are those of the fixpoint
 pub swept_at : (l : LoopAt) (read outside seen before after : List Trit) (changed : List ℕ) → read ≡ outside → seen ≡ before → IsSwept l read seen after changed → IsSwept l outside before after changed
-swept_at l read outside seen before after changed first second h =
-    subst (λ (s : List Trit). IsSwept l s before after changed) first (subst (λ (s : List Trit). IsSwept l read s after changed) second h)
+swept_at l read outside seen before after changed first second h = grind arith
 
 -- the cut wires that have changed are gates
 pub changed-fits : (l : LoopAt) → IsLoopAt l → (outside before after : List Trit) (changed read : List ℕ) → read ≡ changed → IsSwept l outside before after changed → All (λ n. n < length l.net.gates) read

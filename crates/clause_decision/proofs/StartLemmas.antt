@@ -23,49 +23,28 @@ asked-more zero (l ∷ latches) (s ∷ rails) latch r low high = append-nil (ask
 asked-more (suc k) [] rails latch r low high = absurd (omega (arith, low))
 asked-more (suc k) (l ∷ latches) [] latch r low high = absurd (omega (arith, high))
 asked-more (suc k) (l ∷ latches) (s ∷ rails) latch r low high =
-    let e : suc k + 1 ≡ suc (k + 1) = omega arith in
-    ap (λ (n : ℕ). asked_starts (take n (l ∷ latches)) (take n (s ∷ rails))) e
-    ∙ ap (λ (ls : List ℕ). asked_of l.init s ++ ls) (asked-more k latches rails latch r (omega (arith, low)) (omega (arith, high)))
-    ∙ sym (append_assoc (asked_of l.init s) (asked_starts (take k latches) (take k rails)) (asked_of (get_or latches k latch).init (get_or rails k r)))
+    grind (arith, asked-more k latches rails latch r, append_assoc (asked_of l.init s) (asked_starts (take k latches) (take k rails)) (asked_of (get_or latches k latch).init (get_or rails k r)))
 
 -- ---- what they say of a state
 
 start-told : (m : List Bool) (init : Init) (r : Rails) (b : Bool) → Reads m r (bit b) → list_all (says m) (asked_of init r) ≡ may_start init b
-start-told m Zero r b reads = ap (λ x. x && true) (reads.zero) ∙ by b
-  where
-    by : (b : Bool) → (is_zero (bit b) && true) ≡ not b
-    by true = refl
-    by false = refl
-start-told m One r b reads = ap (λ x. x && true) (reads.one) ∙ by b
-  where
-    by : (b : Bool) → (is_one (bit b) && true) ≡ b
-    by true = refl
-    by false = refl
-start-told m Either r b reads = refl
+start-told m init r b reads = grind arith
 
 pub starts-told : (m : List Bool) (latches : List Latch) (rails : List Rails) (q : List Bool) → length rails ≡ length latches → ReadsAll m rails (bits q) → list_all (says m) (asked_starts latches rails) ≡ list_all (λ p. may_start p.0.init p.1) (zip latches q)
 starts-told m [] rails q wide reads = refl
 starts-told m (l ∷ latches) [] q wide reads = absurd (omega (arith, wide))
 starts-told m (l ∷ latches) (r ∷ rails) [] wide reads = absurd reads
-starts-told m (l ∷ latches) (r ∷ rails) (b ∷ q) wide reads =
-    list_all-append (says m) (asked_of l.init r) (asked_starts latches rails)
-    ∙ ap₂ (λ x y. x && y) (start-told m l.init r b reads.0) (starts-told m latches rails q (omega (arith, wide)) reads.1)
+starts-told m (l ∷ latches) (r ∷ rails) (b ∷ q) wide reads = grind (arith, list_all-append (says m) (asked_of l.init r) (asked_starts latches rails), start-told m l.init r b reads.0, starts-told m latches rails q)
 
 -- with the invariant's literal negated
 pub outside-told : (net : Parts) (care : CareSet) (m : List Bool) (rails : List Rails) (q : List Bool) (inside : ℕ) → length rails ≡ length net.latches → ReadsAll m rails (bits q) → says m inside ≡ is_in_invariant care q →
     list_all (says m) (negation inside ∷ asked_starts net.latches rails) ≡ is_outside net care q
-outside-told net care m rails q inside wide reads is =
-    ap₂ (λ x y. x && y) (says-negation m inside ∙ ap not is) (starts-told m net.latches rails q wide reads)
-    ∙ and_comm (not (is_in_invariant care q)) (is_initial net q)
+outside-told net care m rails q inside wide reads is = grind (arith, says-negation m inside, starts-told m net.latches rails q wide reads, and_comm (not (is_in_invariant care q)) (is_initial net q))
 
 -- ---- they are of the formula
 
 asked-within : (n : ℕ) (init : Init) (r : Rails) → AreWithin n r → All (λ l. l < 2 * n) (asked_of init r)
-asked-within n Zero r is zero d less = is.zero
-asked-within n Zero r is (suc k) d less = absurd (omega (arith, less))
-asked-within n One r is zero d less = is.one
-asked-within n One r is (suc k) d less = absurd (omega (arith, less))
-asked-within n Either r is k d less = absurd (omega (arith, less))
+asked-within n init r is k d less = grind arith
 
 pub starts-within : (n : ℕ) (latches : List Latch) (rails : List Rails) → All (AreWithin n) rails → All (λ l. l < 2 * n) (asked_starts latches rails)
 starts-within n [] rails all = All-nil (λ l. l < 2 * n)

@@ -60,9 +60,7 @@ pub record AnyAt (p : ℕ → Bool) (xs : List ℕ) : Type 0 where
   pub passes : p (get_or xs place 0) ≡ true
 
 pub any-at : (f : ℕ → ℕ) (p : ℕ → Bool) (xs : List ℕ) → list_any p (map f xs) ≡ true → AnyAt (λ x. p (f x)) xs
-any-at f p xs e =
-    let found = Any-from_list_any (λ x. p (f x)) xs (sym (list_any-map p f xs) ∙ e) in
-    record { place = found.0; less = found.2; passes = ap (λ x. p (f x)) (get_or_default xs found.0 0 found.1 found.2 ∙ found.3) ∙ found.4 }
+any-at f p xs e = grind (arith, Any-from_list_any, list_any-map p f xs, get_or_default xs)
 
 pub any-from : (f : ℕ → ℕ) (p : ℕ → Bool) (xs : List ℕ) (k : ℕ) → k < length xs → p (f (get_or xs k 0)) ≡ true → list_any p (map f xs) ≡ true
 any-from f p xs k less e = list_any-map p f xs ∙ list_any_at (λ x. p (f x)) xs k 0 less e
@@ -82,10 +80,7 @@ swept-grows net care marks loops gates s k g swept grows complete = record {
 
 module _ (net : Parts) (marks : List Bool) (loops : Loops) (gates : List ℕ) (proper : IsNetlist net) (closed : AreClosed net marks) (width : length marks ≡ length net.gates) (marked : All (λ n. is_marked marks n ≡ true) gates) where
   gate-within : (n : ℕ) → is_marked marks n ≡ true → n < length net.gates
-  gate-within n is = elim (cases_lt n (length net.gates)) [
-    | inl less ↦ less
-    | inr high ↦ absurd (true≢false (sym is ∙ get_or_past marks n false (omega (arith, high, width))))
-  ]
+  gate-within n is = grind (arith, cases_lt n (length net.gates), true≢false, get_or_past marks n false)
 
   -- it stands for the fixpoint where the gates of the scope do that feed the loop
   pub fed-read : (rails : List Rails) (m v : List Bool) → length rails ≡ count net → length v ≡ columns net → ReadsAll m (column_rails net rails) (bits v) →
@@ -104,8 +99,7 @@ module _ (net : Parts) (marks : List Bool) (loops : Loops) (gates : List ℕ) (p
       gates_read (gate_of net pin) n inside feeds (apart n pin high out (loops.same n (gate_of net pin)) refl) (record { within = feeds.source; marked = closed (gate_of net pin) n feeds is_in }))
     where
       apart : (n : ℕ) (pin : Sig) → first_gate net ≤ pin.0 → in_loop_of net loops n pin ≡ false → (b : Bool) → loops.same n (gate_of net pin) ≡ b → loops.same n (gate_of net pin) ≡ false
-      apart n pin high out false e = e
-      apart n pin high out true e = absurd (true≢false (sym (and_from (leb (first_gate net) pin.0) (loops.same n (gate_of net pin)) (le-leb (first_gate net) pin.0 high) e) ∙ out))
+      apart n pin high out h e = grind (arith, true≢false, and_from, le-leb)
 
   -- and so where all gates of the scope do
   pub outside-read : (rails : List Rails) (m v : List Bool) → length rails ≡ count net → length v ≡ columns net → ReadsAll m (column_rails net rails) (bits v) →
@@ -219,9 +213,7 @@ module _ (l : LoopAt) (is_loop : IsLoopAt l) where
   open-unfixed : (care : CareSet) → AreKnownOnCare l.net care → (k : ℕ) (v : List Bool) → IsOpenAt l.net (loops_in l) care (gates_in l) k v → (a : ℕ) → Contains (gates_in l) a →
       ¬ CutsAreFixed l.net (loops_in l) (bits v) a k
   open-unfixed care known k v found a inside fixed =
-      known v found.counts found.wire (gate-fits l is_loop found.wire found.inside)
-      (sym (cut_values_agree l.net (loops_in l) (are-loops l is_loop) a (sweeps l.net (loops_in l) (bits v) k) (fix_gates l.net (bits v)) fixed found.wire ((of-loop l is_loop a inside).1 found.wire found.inside) found.is_cut)
-      ∙ found.unknown)
+      grind (arith, gate-fits l is_loop found.wire found.inside, cut_values_agree l.net (loops_in l) (are-loops l is_loop) a (sweeps l.net (loops_in l) (bits v) k) (fix_gates l.net (bits v)) fixed found.wire ((of-loop l is_loop a inside).1 found.wire found.inside) found.is_cut, are-loops l is_loop, of-loop l is_loop a inside)
 
   -- before the first sweep each cut wire is unknown
   open-first : (care : CareSet) (some : SomeCareVector l.net care) → IsOpenAt l.net (loops_in l) care (gates_in l) 0 some.vector
@@ -231,23 +223,11 @@ module _ (l : LoopAt) (is_loop : IsLoopAt l) where
       let at = gate_home l.net l.blocks is_loop.blocks l.number a is_loop.number inside in
       let has = has-cut l.net (loops_in l) (are-loops l is_loop) a ((is_loop.blocks.looped a at.0).0 (subst (λ (h : ℕ). (block_at l.blocks h).looped ≡ true) (sym at.1) is_loop.looped)) in
       let wire_inside : Contains (gates_in l) has.wire = (of-loop l is_loop a inside).0 has.wire has.same in
-      record {
-        counts = some.counts;
-        wire = has.wire;
-        inside = wire_inside;
-        is_cut = has.cut;
-        unknown = get_or-replicate (length l.net.gates) has.wire X X (gate-fits l is_loop has.wire wire_inside);
-      }
+      grind (arith, get_or-replicate (length l.net.gates) has.wire X X (gate-fits l is_loop has.wire wire_inside), gate-fits l is_loop has.wire wire_inside)
 
   -- so one sweep is needed
   one-needed : (care : CareSet) → SomeCareVector l.net care → AreKnownOnCare l.net care → NeedAtLeast l.net (loops_in l) care (gates_in l) 1
-  one-needed care some known a j inside low =
-      let none : 0 ≡ j = omega (arith, low) in
-      record {
-        vector = some.vector;
-        counts = some.counts;
-        open_cuts = subst (λ (k : ℕ). ¬ CutsAreFixed l.net (loops_in l) (bits some.vector) a k) none (open-unfixed care known 0 some.vector (open-first care some) a inside);
-      }
+  one-needed care some known a j inside low = grind (arith, open-unfixed care known 0 some.vector (open-first care some) a inside, open-first care some)
 
   open-too-few : (care : CareSet) → AreKnownOnCare l.net care → (k : ℕ) (v : List Bool) → IsOpenAt l.net (loops_in l) care (gates_in l) k v →
       AreTooFewAt l.net (loops_in l) care (gates_in l) k v
@@ -283,11 +263,7 @@ module _ (l : LoopAt) (is_loop : IsLoopAt l) where
   vector-needed care signs.Changing serves v counts m count = (omega arith, λ a j inside low. record { vector = v; counts = counts; open_cuts = count.least a j inside low })
 
   pub first-needed : (care : CareSet) (sign : Sign) → Serves sign l.net care (gates_in l) → NeedAtLeast l.net (loops_in l) care (gates_in l) (first_number sign)
-  first-needed care signs.Open serves = one-needed care serves.0 serves.1
-  first-needed care signs.Changing serves = λ a j inside low. absurd (omega (arith, low))
+  first-needed care sign serves = grind (arith, one-needed)
 
   pub few-needed : (care : CareSet) (k : ℕ) → k ≡ length l.cuts → NeedAtLeast l.net (loops_in l) care (gates_in l) k → (a : ℕ) → Contains (gates_in l) a → IsLeastCount l.net (loops_in l) care a k
-  few-needed care k is more a inside = record {
-    enough = λ v counts. subst (λ (n : ℕ). CutsAreFixed l.net (loops_in l) (bits v) a n) (sym is) (cuts-enough l is_loop v counts.width a inside);
-    least = λ j low. more a j inside low;
-  }
+  few-needed care k is more a inside = grind (arith, cuts-enough l is_loop)

@@ -34,50 +34,33 @@ pub record Passes (p : ℕ → Bool) (xs : List ℕ) (many : ℕ) : Type 0 where
   pub passes : p (get_or xs place 0) ≡ true
 
 passes-of_any : (p : ℕ → Bool) (xs : List ℕ) (many : ℕ) → list_any p (take many xs) ≡ true → Passes p xs many
-passes-of_any p xs many h =
-    let found = Any-from_list_any p (take many xs) h in
-    let low : found.0 < min many (length xs) = (let less = found.2 in let size = length-take many xs in omega (arith, less, size)) in
-    record {
-      place = found.0;
-      early = omega (arith, low);
-      inside = omega (arith, low);
-      passes = ap p (sym (get_or-take many xs found.0 0 (omega (arith, low))) ∙ get_or_default (take many xs) found.0 0 found.1 found.2 ∙ found.3) ∙ found.4;
-    }
+passes-of_any p xs many h = grind (arith, Any-from_list_any p (take many xs) h, length-take many xs, get_or-take many xs, get_or_default (take many xs))
 
 any-of_passes : (p : ℕ → Bool) (xs : List ℕ) (many j : ℕ) → j < many → j < length xs → p (get_or xs j 0) ≡ true → list_any p (take many xs) ≡ true
-any-of_passes p xs many j early inside h =
-    list_any_at p (take many xs) j 0 (let size = length-take many xs in omega (arith, early, inside, size)) (ap p (get_or-take many xs j 0 early) ∙ h)
+any-of_passes p xs many j early inside h = grind (arith, list_any_at p (take many xs) j 0, length-take many xs, get_or-take many xs j 0 early)
 
 -- ---- values
 
 pub unknown-value : (t : Trit) → not (is_known t) ≡ true → t ≡ X
-unknown-value X e = refl
-unknown-value Zero e = absurd (true≢false (sym e))
-unknown-value One e = absurd (true≢false (sym e))
+unknown-value t e = grind arith
 
 -- ---- a gate that is unknown at some care vector
 
 some-unknown : (net : Parts) (care : CareSet) (n : ℕ) (v : List Bool) → length v ≡ columns net → is_unknown_at net care n v ≡ true → is_unknown net care n ≡ true
-some-unknown net care n v wide h = by_found (find (is_unknown_at net care n) (vectors (columns net))) refl
-  where
-    by_found : (o : Option (List Bool)) → find (is_unknown_at net care n) (vectors (columns net)) ≡ o → is_some o ≡ true
-    by_found (Some w) e = refl
-    by_found None e = absurd (true≢false (sym h ∙ none_passes (columns net) (is_unknown_at net care n) v e wide))
+some-unknown net care n v wide h = grind (arith, true≢false, none_passes (columns net) (is_unknown_at net care n) v)
 
 never-unknown : (net : Parts) (care : CareSet) (n : ℕ) → ((v : List Bool) → length v ≡ columns net → ¬ (is_unknown_at net care n v ≡ true)) → is_unknown net care n ≡ false
 never-unknown net care n never =
     ap (λ (o : Option (List Bool)). is_some o) (find-none (columns net) (is_unknown_at net care n) (λ w wide. fails (is_unknown_at net care n w) (never w wide)))
   where
     fails : (b : Bool) → ¬ (b ≡ true) → b ≡ false
-    fails true h = absurd (h refl)
-    fails false h = refl
+    fails b h = grind arith
 
 -- ---- the literals
 
 -- a gate's rails are of the formula's variables
 known-within : (net : Parts) (rails : List Rails) (variables n : ℕ) → length rails ≡ count net → All (AreWithin variables) rails → n < length net.gates → negation (gate_rails net rails n).known < 2 * variables
-known-within net rails variables n wide all inside =
-    negation-within (gate_rails net rails n).known variables (All-get_or (AreWithin variables) rails (first_gate net + n) no_rails (omega (arith, wide, inside)) all).known
+known-within net rails variables n wide all inside = grind arith
 
 pub unknown_literals-within : (net : Parts) (rails : List Rails) (variables : ℕ) (gates : List ℕ) → length rails ≡ count net → All (AreWithin variables) rails → All (λ n. n < length net.gates) gates →
     All (λ l. l < 2 * variables) (unknown_literals net rails gates)
@@ -89,12 +72,7 @@ pub unknowns-told : (net : Parts) (care : CareSet) (marks : List Bool) (old new 
     IsCone net care marks old rails inside allowed → SaysAny old new (unknown_literals net rails gates) sums → TellUnknowns net care marks new rails inside allowed gates sums
 unknowns-told net care marks old new rails inside allowed gates sums cone any =
     let size : length (unknown_literals net rails gates) ≡ length gates = length-map gates (λ n. negation (gate_rails net rails n).known) in
-    record {
-      cone = cone-kept net care marks old new rails inside allowed cone any.grows any.complete;
-      within = any.within;
-      size = any.size ∙ size;
-      says_each = λ m h i less. any.says_each m h i (omega (arith, less, size));
-    }
+    grind (arith, cone-kept net care marks old new rails inside allowed cone any.grows any.complete)
 
 -- ---- the gates that a cone's models leave unknown
 
@@ -116,12 +94,8 @@ module _ (net : Parts) (care : CareSet) (marks : List Bool) (f : Formula) (rails
       says m (negation (gate_rails net rails n).known) ≡ true → is_unknown_at net care n (vector_in net rails m) ≡ true
   unknown-there n within marked m h in_care may unknown =
       let v = vector_in net rails m in
-      let is : IsWanted net marks n = record { within = within; marked = marked } in
       let there : ReadsAbove net marks rails m v = cone.above m h in
-      let open_value : not (is_known (value_in there.state n)) ≡ true = ap not (sym (there.reads n is).known) ∙ sym (says-negation m (gate_rails net rails n).known) ∙ unknown in
-      let at : value_in (fix_gates net (bits v)) n ≡ X = Below-unknown (value_in (fix_gates net (bits v)) n) (value_in there.state n) (there.above n is) (unknown-value (value_in there.state n) open_value) in
-      let counts : is_care_vector net care v ≡ true = ap₂ (λ s t. s && t) (sym (cone.inside_tells m h) ∙ in_care) (sym (cone.allowed_tells m h) ∙ may) in
-      ap₂ (λ s t. s && is_x t) counts (gate_wire net v n (wide-vector m) ∙ at)
+      grind (arith, says-negation m (gate_rails net rails n).known, Below-unknown (value_in (fix_gates net (bits v)) n) (value_in there.state n), unknown-value (value_in there.state n), gate_wire net v n (wide-vector m), wide-vector m)
 
   -- and each such vector has such a model
   unknown-read : (n : ℕ) → n < length net.gates → is_marked marks n ≡ true → (v : List Bool) → length v ≡ columns net → is_unknown_at net care n v ≡ true →
@@ -131,12 +105,7 @@ module _ (net : Parts) (care : CareSet) (marks : List Bool) (f : Formula) (rails
       let split = and_parts (is_care_vector net care v) (is_undetermined net (gate_sig net n) v) h in
       let both = and_parts (is_in_invariant care (state_of net v)) (is_allowed care v) split.0 in
       let at : value_in (fix_gates net (bits v)) n ≡ X = sym (gate_wire net v n wide) ∙ is_x_decides (wire (fix net (bits v)) (gate_sig net n)) split.1 in
-      record {
-        model = has.model;
-        vector = vector-read cone v has;
-        under = care-under cone v has (record { width = wide; state = both.0; allowed = both.1 }) (negation (gate_rails net rails n).known)
-            (says-negation has.model (gate_rails net rails n).known ∙ ap not ((has.fixpoint n (record { within = within; marked = marked })).known ∙ ap is_known at));
-      }
+      grind (arith, vector-read cone v has, care-under cone v has, width, says-negation has.model (gate_rails net rails n).known)
 
   -- ---- the question at which care vectors a gate is unknown
 
@@ -202,12 +171,7 @@ module _ (net : Parts) (care : CareSet) (marks : List Bool) (f : Formula) (rails
 
   -- where one sum is true, the next one is
   pub sums-rise : AreRising (problem f) sums
-  sums-rise m i h next is =
-      let size : length sums ≡ length gates = told.size in
-      let model : IsModel m f = sym (models-same f m) ∙ h in
-      let some : Passes (says m) (unknown_literals net rails gates) (i + 1) = passes-of_any (says m) (unknown_literals net rails gates) (i + 1) (sym (told.says_each m model i (omega (arith, next, size))) ∙ is) in
-      let early : some.place < i + 1 = some.early in
-      told.says_each m model (i + 1) (omega (arith, next, size)) ∙ any-of_passes (says m) (unknown_literals net rails gates) (i + 1 + 1) some.place (omega (arith, early)) some.inside some.passes
+  sums-rise m i h next is = grind (arith, models-same f m, passes-of_any (says m) (unknown_literals net rails gates) (i + 1), any-of_passes (says m) (unknown_literals net rails gates) (i + 1 + 1))
 
   pub care-within : IsWithin f.variables (inside ∷ allowed ∷ [])
   care-within = two-within (2 * f.variables) inside allowed told.cone.inside_within told.cone.allowed_within

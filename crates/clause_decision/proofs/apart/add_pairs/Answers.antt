@@ -1,4 +1,4 @@
-use Rattle.std.proofs.Common.{take, get_or}
+use Rattle.std.proofs.Common.{take, get_or, arith}
 use Rattle.clause_decision.proofs.Common.{take_all, take_more}
 use Rattle.clause_decision.proofs.ApartLemmas.{no_pair, pairs-none, pairs-step, rails-still}
 use Rattle.clause_decision.proofs.apart.add_pairs.Goals as goal
@@ -15,8 +15,7 @@ pub loop-pair-preserved : goal.loop-pair-preserved
 loop-pair-preserved c =
     let pairs = c.args.pairs.now in
     let place = c.loop-pair.pair-index in
-    rw (c.in_ok-push.ensures.items, take_more pairs place no_pair c.loop-pair-test.true)
-    (pairs-step c.args.formula.now c.loop-pair.formula c.add_pair.new.formula c.args.rails.now (take place pairs) c.loop-pair.literals.items (get_or pairs place no_pair) c.in_ok-add_pair.field-0 c.loop-pair.invariant c.in_ok-add_pair.ensures)
+    grind (arith, take_more pairs place no_pair c.loop-pair-test.true, pairs-step c.args.formula.now c.loop-pair.formula c.add_pair.new.formula c.args.rails.now (take place pairs) c.loop-pair.literals.items (get_or pairs place no_pair) c.in_ok-add_pair.field-0 c.loop-pair.invariant c.in_ok-add_pair.ensures)
 
 pub returns : goal.returns
 returns c = rw (take_all c.loop-pair.pair-index c.args.pairs.now c.loop-pair-test.false) at c.loop-pair.invariant

@@ -1,4 +1,4 @@
-use Rattle.std.proofs.Common.{List, get_or, sym, subst}
+use Rattle.std.proofs.Common.{List, get_or, sym, subst, arith}
 use Rattle.std.specs.List.{All}
 use Rattle.clause_decision.proofs.Common.{Rails, SayPairs}
 use Rattle.clause_decision.specs.declared.pairs.Hint.{Hint}
@@ -9,8 +9,7 @@ use Rattle.clause_decision.proofs.apart.asked_of.Goals as goal
 pub add_hints-requires-clause-rails : goal.add_hints-requires-clause-rails
 add_hints-requires-clause-rails c =
     let cone = c.in_ok-cone.cone in
-    subst (λ (rails : List Rails). All (λ (hint : Hint). HasRails cone.formula rails hint.pair) c.args.search.now.hints.now) (sym c.deref.ensures.value)
-    (hints-have_rails c.args.net.now c.args.care.now c.args.scope.now cone.formula cone.rails.items cone.inside cone.allowed c.in_ok-cone.ensures c.args.search.now.hints.now c.requires.hints c.requires.hints_within)
+    grind (arith, hints-have_rails c.args.net.now c.args.care.now c.args.scope.now cone.formula cone.rails.items cone.inside cone.allowed c.in_ok-cone.ensures c.args.search.now.hints.now c.requires.hints c.requires.hints_within)
 
 pub add_pairs-requires-clause-rails : goal.add_pairs-requires-clause-rails
 add_pairs-requires-clause-rails c =

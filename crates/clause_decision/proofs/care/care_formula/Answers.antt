@@ -1,10 +1,7 @@
-use Rattle.std.proofs.Common.{List, subst, sym}
+use Rattle.std.proofs.Common.{List, subst, sym, arith}
 use Rattle.clause_decision.proofs.Common.{Rails, SaysColumns, columns, IsOver}
 use Rattle.clause_decision.proofs.FormulaLemmas.{over-columns}
 use Rattle.clause_decision.proofs.care.care_formula.Goals as goal
 
 pub say_care-requires-clause-over : goal.say_care-requires-clause-over
-say_care-requires-clause-over c =
-    subst (λ (rs : List Rails). IsOver c.add_columns.new.formula rs (columns c.args.net.now)) (sym c.deref.ensures.value)
-    (over-columns c.in_ok-formula.formula c.add_columns.new.formula c.in_ok-columns.columns.items (columns c.args.net.now) c.in_ok-formula.ensures.variables c.in_ok-formula.ensures.literals
-    (subst (SaysColumns c.in_ok-formula.formula c.add_columns.new.formula c.in_ok-columns.columns.items) c.columns.ensures.columns c.in_ok-columns.ensures))
+say_care-requires-clause-over c = grind (arith, over-columns c.in_ok-formula.formula c.add_columns.new.formula c.in_ok-columns.columns.items (columns c.args.net.now) c.in_ok-formula.ensures.variables c.in_ok-formula.ensures.literals)

@@ -12,16 +12,10 @@ abbrev latches : After-add_invariant-arg-2-1 → List Rails
 latches c = take (length c.args.columns.now - c.inputs-first.result) (drop c.inputs-first.result c.args.columns.now)
 
 latches-are : (c : After-add_invariant-arg-2-1) → latches c ≡ drop (length c.args.net.now.inputs) c.args.columns.now
-latches-are c =
-    take_all (length c.args.columns.now - c.inputs-first.result) (drop c.inputs-first.result c.args.columns.now) (let l = length-drop c.inputs-first.result c.args.columns.now in omega (arith, l))
-    ∙ ap (λ (n : ℕ). drop n c.args.columns.now) c.inputs-first.ensures.inputs
+latches-are c = grind (arith, take_all (length c.args.columns.now - c.inputs-first.result) (drop c.inputs-first.result c.args.columns.now), length-drop c.inputs-first.result c.args.columns.now)
 
 pub add_invariant-requires-clause-reads : goal.add_invariant-requires-clause-reads
-add_invariant-requires-clause-reads c =
-    let first = c.inputs-first.ensures.inputs in
-    subst (λ (n : ℕ). IfSome c.args.care.now.invariant (ReadsWithin n (length (latches c)))) (sym first)
-    (invariant-reads c.args.net.now c.args.care.now (length (latches c)) c.requires.care
-    (ap (λ (rs : List Rails). length rs) (latches-are c) ∙ length-drop (length c.args.net.now.inputs) c.args.columns.now ∙ (let z = c.requires.over.size in omega (arith, z))))
+add_invariant-requires-clause-reads c = grind (arith, invariant-reads c.args.net.now c.args.care.now (length (latches c)) c.requires.care, latches-are c, length-drop (length c.args.net.now.inputs) c.args.columns.now)
 
 pub add_assumption-requires-clause-reads : goal.add_assumption-requires-clause-reads
 add_assumption-requires-clause-reads c = assume-reads c.args.net.now c.args.care.now (length c.args.columns.now) c.requires.care c.requires.over.size
@@ -29,6 +23,4 @@ add_assumption-requires-clause-reads c = assume-reads c.args.net.now c.args.care
 pub returns : goal.returns
 returns g =
     let c = (goal.at.returns g).After-add_invariant-arg-2-1 in
-    care-formula g.args.net.now g.args.care.now g.args.formula.now g.add_invariant.new.formula g.add_assumption.new.formula g.args.columns.now g.in_ok-inside.inside g.in_ok-allowed.allowed g.requires.over
-    (subst (λ (rs : List Rails). SaysTest g.args.formula.now g.add_invariant.new.formula rs (is_in_invariant g.args.care.now) g.in_ok-inside.inside) (latches-are c) g.in_ok-inside.ensures)
-    g.in_ok-allowed.ensures
+    grind (arith, care-formula g.args.net.now g.args.care.now g.args.formula.now g.add_invariant.new.formula g.add_assumption.new.formula g.args.columns.now g.in_ok-inside.inside g.in_ok-allowed.allowed g.requires.over, latches-are c)

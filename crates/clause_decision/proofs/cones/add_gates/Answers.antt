@@ -1,11 +1,10 @@
-use Rattle.std.proofs.Common.{List, Bool, sym, subst}
+use Rattle.std.proofs.Common.{List, Bool, sym, subst, arith}
 use Rattle.clause_decision.proofs.Common.{IfOk-weaker, IsClosed, SaysNetlist, Rails}
 use Rattle.clause_decision.proofs.ConeLemmas.{closed-by_pins, cone-of}
 use Rattle.clause_decision.proofs.cones.add_gates.Goals as goal
 
 pub add_netlist-requires-clause-closed : goal.add_netlist-requires-clause-closed
-add_netlist-requires-clause-closed c =
-    subst (IsClosed c.args.net.now) (sym c.items.ensures) (closed-by_pins c.args.net.now c.args.scope.now.gates c.laws.ensures.valid c.requires.scope.closed)
+add_netlist-requires-clause-closed c = grind (arith, closed-by_pins c.args.net.now c.args.scope.now.gates c.laws.ensures.valid c.requires.scope.closed)
 
 pub returns : goal.returns
 returns c =

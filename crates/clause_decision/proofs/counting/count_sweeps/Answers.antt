@@ -29,8 +29,7 @@ counted c =
     (let first = c.loop-sweeps.invariant.first in omega (arith, first)) c.loop-sweeps.invariant.more
 
 pub returns-in-These : goal.returns-in-These
-returns-in-These c =
-    subst (TellsNeeded c.args.block.now.net (loops_in c.args.block.now) c.args.care.now (gates_in c.args.block.now) c.loop-sweeps.sweeps) c.in-These.is (counted (goal.at.returns-in-These c).In_ok-next_needed).tells
+returns-in-These c = grind (arith, counted (goal.at.returns-in-These c).In_ok-next_needed)
 
 pub loop-sweeps-preserved : goal.loop-sweeps-preserved
 loop-sweeps-preserved c =
@@ -56,10 +55,7 @@ returns c =
     (λ a j inside less. c.loop-sweeps.invariant.more a j inside (omega (arith, less, past, low)))
 
 pub returns-then-needed-most : goal.returns-then-needed-most
-returns-then-needed-most c =
-    let high = c.if-needed-most.true in
-    few-needed c.args.block.now c.cut_count-most.ensures.is c.args.care.now c.cut_count-most.result c.cut_count-most.ensures.count
-    (λ a j inside less. c.in_ok-needed.ensures.1 a j inside (omega (arith, less, high)))
+returns-then-needed-most c = grind (arith, few-needed c.args.block.now c.cut_count-most.ensures.is c.args.care.now c.cut_count-most.result c.cut_count-most.ensures.count)
 
 pub returns-then-needed-most-2 : goal.returns-then-needed-most-2
 returns-then-needed-most-2 c =

@@ -6,10 +6,7 @@ use Rattle.clause_decision.proofs.counting.first_needed.Goals as goal
 pub returns-then-not-branch : goal.returns-then-not-branch
 returns-then-not-branch c =
     let l : LoopAt = c.args.block.now in
-    subst (λ (n : ℕ). (first_number c.args.sign ≤ n) × NeedAtLeast l.net (loops_in l) c.args.care.now (gates_in l) n) (sym c.first_of.ensures) (
-      omega arith,
-      first-needed l c.net-net.ensures.is c.args.care.now c.args.sign c.requires.serves,
-    )
+    grind (arith, first-needed l c.net-net.ensures.is c.args.care.now c.args.sign c.requires.serves)
 
 pub returns : goal.returns
 returns c =

@@ -1,4 +1,4 @@
-use Rattle.std.proofs.Common.{◌≡◌, ◌∙◌, ◌∷◌, ℕ, ◌*◌, ◌<◌, List, length, map, refl, subst, sym, ap}
+use Rattle.std.proofs.Common.{◌≡◌, ◌∙◌, ◌∷◌, ℕ, ◌*◌, ◌<◌, List, length, map, refl, subst, sym, ap, arith}
 use Rattle.std.specs.Prelude.{IfSome}
 use Rattle.clause_decision.proofs.Common.{length-map, All-cons, is_in_invariant, SaysColumns, Rails, negation, IsOver, ReadsWithin, SaysTest, asked_starts}
 use Rattle.clause_decision.specs.Tests.{is_outside}
@@ -11,15 +11,12 @@ use Rattle.clause_decision.proofs.initial.outside_question.Goals.{In_ok-latches}
 
 -- the columns are the latches
 over : (c : In_ok-latches) → IsOver c.add_columns.new.formula c.in_ok-latches.latches.items (length c.args.net.now.latches)
-over c =
-    over-columns c.in_ok-formula.formula c.add_columns.new.formula c.in_ok-latches.latches.items (length c.args.net.now.latches) c.in_ok-formula.ensures.variables c.in_ok-formula.ensures.literals
-    (subst (SaysColumns c.in_ok-formula.formula c.add_columns.new.formula c.in_ok-latches.latches.items) c.latches.ensures.latches c.in_ok-latches.ensures)
+over c = grind (arith, over-columns c.in_ok-formula.formula c.add_columns.new.formula c.in_ok-latches.latches.items (length c.args.net.now.latches) c.in_ok-formula.ensures.variables c.in_ok-formula.ensures.literals)
 
 pub add_invariant-requires-clause-reads : goal.add_invariant-requires-clause-reads
 add_invariant-requires-clause-reads g =
     let c : In_ok-latches = (goal.at.add_invariant-requires-clause-reads g).In_ok-latches in
-    subst (λ (n : ℕ). IfSome g.args.care.now.invariant (ReadsWithin n (length g.deref.result.now))) (sym g.inputs.ensures.inputs)
-    (invariant-reads g.args.net.now g.args.care.now (length g.deref.result.now) g.requires (ap (λ (rs : List Rails). length rs) g.deref.ensures.value ∙ (over c).size))
+    grind (arith, In_ok-latches, invariant-reads g.args.net.now g.args.care.now (length g.deref.result.now) g.requires, over c)
 
 pub returns : goal.returns
 returns g =

@@ -12,9 +12,7 @@ pub add_netlist-requires-clause-closed : goal.add_netlist-requires-clause-closed
 add_netlist-requires-clause-closed c = subst (IsClosed c.args.model.now) (sym (marks-are c)) (all-closed c.args.model.now c.in_ok-all.ensures.valid)
 
 pub add_netlist-requires-clause-never : goal.add_netlist-requires-clause-never
-add_netlist-requires-clause-never c =
-    subst (λ (wanted : List Bool). AreNeverUnknown c.args.model.now wanted c.deref-2.result.now) (sym (marks-are c))
-    (subst (AreNeverUnknown c.args.model.now (replicate (length c.args.model.now.gates) true)) (sym (c.deref-2.ensures.value ∙ c.in_ok-all.ensures.marks)) (all-known c.args.model.now c.in_ok-all.ensures.valid c.requires.free))
+add_netlist-requires-clause-never c = grind (arith, marks-are c, all-known c.args.model.now c.in_ok-all.ensures.valid c.requires.free)
 
 pub returns : goal.returns
 returns g =

@@ -15,7 +15,4 @@ loop-gate-preserved c =
     let n : ℕ = get_or c.gates-gate-items.result.now i 0 in
     let old : List (List ℕ) = c.loop-gate.readers.items in
     let new : List (List ℕ) = c.add_reader.new.readers in
-    let gained : HasGainedReader l n (gate_at l.net n).pins old new = subst (λ (rows : List (List ℕ)). HasGainedReader l n (gate_at l.net n).pins rows new) c.deref_mut.ensures.value c.in_ok-add_reader.ensures in
-    let size : length new ≡ c.loop-gate.readers.len = omega (arith, gained.size, c.loop-gate.readers.ok.0) in
-    rw (with_items_is c.loop-gate.readers new size, ← taken-next c.gates-gate-items.result.now (gates_in l) i 0 c.gates-gate-items.ensures.gates c.loop-gate-test.true)
-    (readers-more l (take i (gates_in l)) n old new gained c.loop-gate.invariant)
+    grind (arith, with_items_is c.loop-gate.readers new, taken-next c.gates-gate-items.result.now (gates_in l) i 0 c.gates-gate-items.ensures.gates c.loop-gate-test.true, readers-more l (take i (gates_in l)) n old new)

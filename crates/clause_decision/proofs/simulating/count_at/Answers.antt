@@ -18,16 +18,7 @@ outside_is c = c.deref-2.ensures.value ∙ c.in_ok-outside.ensures ∙ ap (λ (n
 pub loop-sweeps-init : goal.loop-sweeps-init
 loop-sweeps-init c =
     let l : LoopAt = c.args.block.now in
-    let before : c.in_ok-before.before.items ≡ replicate (length l.net.gates) X =
-    c.in_ok-before.ensures.items_if_clones_equal (search rules) ∙ ap (λ (n : ℕ). replicate n X) (c.gates.ensures.gates ∙ ap (λ (net : Parts). length net.gates) c.net-2.ensures.net) in
-    let after : c.in_ok-after.after.items ≡ replicate (length l.net.gates) X =
-    c.in_ok-after.ensures.items_if_clones_equal (search rules) ∙ ap (λ (n : ℕ). replicate n X) (c.gates-2.ensures.gates ∙ ap (λ (net : Parts). length net.gates) c.net-3.ensures.net) in
-    let waiting : c.in_ok-waiting.waiting.items ≡ gates_in l = c.in_ok-waiting.ensures.items_if_clones_equal (search rules) ∙ c.gates-3.ensures.gates in
-    record {
-      ready = rw (before, after, waiting) (ready-first l (fix l.net (bits c.args.vector.now)));
-      at = λ n there cut. ap (λ (s : List Trit). value_in s n) before;
-      more = λ a j inside low. absurd (omega (arith, low));
-    }
+    grind (arith, ready-first l (fix l.net (bits c.args.vector.now)))
 
 pub sweep-requires-clause-readers : goal.sweep-requires-clause-readers
 sweep-requires-clause-readers c = subst (λ (rows : List (List ℕ)). AreReaders c.args.block.now (gates_in c.args.block.now) rows) (sym c.deref.ensures.value) c.in_ok-readers.ensures
@@ -37,15 +28,10 @@ invariant_of-simulation g =
     let c : After-deref-2 = (goal.at.invariant_of-simulation g).After-deref-2 in
     let l : LoopAt = c.args.block.now in
     let v : List Trit = bits c.args.vector.now in
-    record {
-      width = ap length (outside_is c) ∙ length-append v (fix_gates l.net v) ∙ ap₂ (λ (a b : ℕ). a + b) (length-map c.args.vector.now bit ∙ c.requires) (length-fix l.net (loops_in l) v);
-    }
+    grind (arith, After-deref-2, outside_is c, length-append v (fix_gates l.net v), length-map c.args.vector.now bit, length-fix l.net (loops_in l) v)
 
 pub sweep-requires-clause-ready : goal.sweep-requires-clause-ready
-sweep-requires-clause-ready c =
-    let l : LoopAt = c.args.block.now in
-    let outside_at : c.deref-2.result.now ≡ fix l.net (bits c.args.vector.now) = outside_is (goal.at.sweep-requires-clause-ready c).After-deref-2 in
-    rw (outside_at, c.deref-in-loop-sweeps.ensures.value, c.deref_mut.ensures.value) c.loop-sweeps.invariant.ready
+sweep-requires-clause-ready c = grind arith
 
 pub returns-then-is_empty : goal.returns-then-is_empty
 returns-then-is_empty c =
@@ -69,24 +55,14 @@ returns-then-is_empty c =
     }
 
 pub show-requires-clause-readers : goal.show-requires-clause-readers
-show-requires-clause-readers c k d low =
-    let fits = changed-fits c.args.block.now c.cut_count-most.ensures.is _ _ _ _ c.deref-in-loop-sweeps-3.result.now c.deref-in-loop-sweeps-3.ensures.value c.in_ok-changed.ensures k d low in
-    let size = ap length c.deref-in-loop-sweeps-2.ensures.value in
-    omega (arith, fits, size, c.in_ok-readers.ensures.size)
+show-requires-clause-readers c k d low = grind (arith, changed-fits c.args.block.now c.cut_count-most.ensures.is _ _ _ _ c.deref-in-loop-sweeps-3.result.now c.deref-in-loop-sweeps-3.ensures.value c.in_ok-changed.ensures k d low)
 
 pub show-requires-clause-before : goal.show-requires-clause-before
-show-requires-clause-before c k d low =
-    let fits = changed-fits c.args.block.now c.cut_count-most.ensures.is _ _ _ _ c.deref-in-loop-sweeps-3.result.now c.deref-in-loop-sweeps-3.ensures.value c.in_ok-changed.ensures k d low in
-    let size = ap length c.deref_mut-in-loop-sweeps.ensures.value in
-    omega (arith, fits, size, c.loop-sweeps.invariant.ready.sweeping.width_before)
+show-requires-clause-before c k d low = grind (arith, changed-fits c.args.block.now c.cut_count-most.ensures.is _ _ _ _ c.deref-in-loop-sweeps-3.result.now c.deref-in-loop-sweeps-3.ensures.value c.in_ok-changed.ensures k d low)
 
 pub show-requires-clause-after : goal.show-requires-clause-after
 show-requires-clause-after c k d low =
-    let fits = changed-fits c.args.block.now c.cut_count-most.ensures.is _ _ _ _ c.deref-in-loop-sweeps-3.result.now c.deref-in-loop-sweeps-3.ensures.value c.in_ok-changed.ensures k d low in
-    let width = c.in_ok-changed.ensures.sweeping.width_after in
-    let owned : length c.sweep.new.after ≡ c.loop-sweeps.after.len = omega (arith, width, c.loop-sweeps.invariant.ready.sweeping.width_after, c.loop-sweeps.after.ok.0) in
-    let size = ap length (c.deref-in-loop-sweeps-4.ensures.value ∙ with_items_is c.loop-sweeps.after c.sweep.new.after owned) in
-    omega (arith, fits, size, width)
+    grind (arith, changed-fits c.args.block.now c.cut_count-most.ensures.is _ _ _ _ c.deref-in-loop-sweeps-3.result.now c.deref-in-loop-sweeps-3.ensures.value c.in_ok-changed.ensures k d low, with_items_is c.loop-sweeps.after c.sweep.new.after)
 
 pub loop-sweeps-preserved : goal.loop-sweeps-preserved
 loop-sweeps-preserved c =

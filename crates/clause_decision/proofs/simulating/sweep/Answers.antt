@@ -94,10 +94,5 @@ pub loop-gate-smaller : goal.loop-gate-smaller
 loop-gate-smaller c = rw c.in-Some.ensures.items (work_left-kept (total c.args.simulation.now.readers.now) c.loop-gate.after c.in-Some.gate c.pop.new.self.items)
 
 pub loop-gate-preserved : goal.loop-gate-preserved
-loop-gate-preserved c = record {
-  sweeping =
-      gate-kept c.args.simulation.now.block.now c.args.simulation.now.outside.now c.args.before.now c.loop-gate.after c.pop.new.self.items c.in-Some.gate (last (goal.at.loop-gate-preserved c).In-Some)
-      (subst (IsNewValue c.args.simulation.now.block.now c.args.simulation.now.outside.now c.args.before.now c.loop-gate.after c.in-Some.gate) c.in_default-2.is c.in_ok-value.ensures);
-  unseen = c.loop-gate.invariant.unseen;
-  differs = c.loop-gate.invariant.differs;
-}
+loop-gate-preserved c =
+    grind (arith, gate-kept c.args.simulation.now.block.now c.args.simulation.now.outside.now c.args.before.now c.loop-gate.after c.pop.new.self.items c.in-Some.gate (last (goal.at.loop-gate-preserved c).In-Some), last (goal.at.loop-gate-preserved c).In-Some)

@@ -1,4 +1,4 @@
-use Rattle.std.proofs.Common.{rules}
+use Rattle.std.proofs.Common.{rules, arith}
 use Rattle.clause_decision.proofs.Common.{IsSwept}
 use Rattle.clause_decision.specs.Sweepings.{SaysOpen}
 use Rattle.clause_decision.proofs.SweepingLemmas.{swept-grows, tells-open}
@@ -10,10 +10,4 @@ returns-clause-asked c net care scope loops gates k proper scope_is marked known
     let new = c.add_open.new.formula in
     let literal = c.in_ok-literal.literal in
     let opened : SaysOpen s.cone.formula new s.copies.items c.args.places.now literal = search rules in
-    let grown : IsSwept net care scope.gates loops gates (record { cone = record { formula = new; rails = s.cone.rails; inside = s.cone.inside; allowed = s.cone.allowed }; copies = s.copies }) k =
-    swept-grows net care scope.gates loops gates s k new swept opened.grows opened.complete in
-    record {
-      swept = grown;
-      tells = tells-open net care scope.gates loops gates c.args.places.now new s.cone.rails.items s.copies.items s.cone.inside s.cone.allowed literal k
-          proper scope_is.closed scope_is.width marked known grown.cone wires grown.reads opened.says_it c.in_ok-ask.field-0 c.in_ok-ask.ensures;
-    }
+    grind (arith, swept-grows net care scope.gates loops gates s k new swept opened.grows opened.complete, tells-open net care scope.gates loops gates c.args.places.now new s.cone.rails.items s.copies.items s.cone.inside s.cone.allowed literal k proper scope_is.closed scope_is.width marked known)

@@ -1,4 +1,4 @@
-use Rattle.std.proofs.Common.{◌≡◌, ℕ, ◌*◌, ◌<◌, List, sym, ap, subst, ◌∙◌}
+use Rattle.std.proofs.Common.{◌≡◌, ℕ, ◌*◌, ◌<◌, List, sym, ap, subst, ◌∙◌, arith}
 use Rattle.std.specs.List.{All}
 use Rattle.clause_decision.proofs.Common.{SaysAny, unknown_literals}
 use Rattle.clause_decision.proofs.UnknownLemmas.{unknown_literals-within, unknowns-told}
@@ -9,10 +9,7 @@ add_any-requires-clause-literals c =
     let net = c.args.net.now in
     let cone = c.args.cone in
     let gates = c.args.gates.now in
-    let same : c.deref-2.result.now ≡ unknown_literals net cone.rails.items gates =
-    c.deref-2.ensures.value ∙ c.in_ok-literals.ensures ∙ ap (λ rails. unknown_literals net rails gates) c.deref.ensures.value in
-    subst (All (λ l. l < 2 * cone.formula.variables)) (sym same)
-    (unknown_literals-within net cone.rails.items cone.formula.variables gates c.requires.width c.requires.within c.requires.gates)
+    grind (arith, unknown_literals-within net cone.rails.items cone.formula.variables gates c.requires.width c.requires.within c.requires.gates)
 
 pub returns : goal.returns
 returns c = λ care marks cone.

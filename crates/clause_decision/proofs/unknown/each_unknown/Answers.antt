@@ -1,4 +1,4 @@
-use Rattle.std.proofs.Common.{◌≡◌, ◌∙◌, ◌*◌, List, ap, subst, sym}
+use Rattle.std.proofs.Common.{◌≡◌, ◌∙◌, ◌*◌, List, ap, subst, sym, arith}
 use Rattle.std.proofs.lemmas.Option.{IfSome_then}
 use Rattle.clause_decision.proofs.Common.{IfOk-weaker, Rails, IsWithin, unknown_literals}
 use Rattle.clause_decision.proofs.FormulaLemmas.{two-within}
@@ -10,9 +10,7 @@ literals_are : (c : After-deref-2) → c.deref-2.result.now ≡ unknown_literals
 literals_are c = c.deref-2.ensures.value ∙ c.in_ok-literals.ensures ∙ ap (λ (rails : List Rails). unknown_literals c.args.net.now rails c.args.gates.now) c.deref.ensures.value
 
 pub ask_each-requires-clause-care : goal.ask_each-requires-clause-care
-ask_each-requires-clause-care c =
-    let cone = c.in-Ok.cone in
-    two-within (2 * cone.formula.variables) cone.inside cone.allowed c.in-Ok.ensures.inside_within c.in-Ok.ensures.allowed_within
+ask_each-requires-clause-care c = grind arith
 
 pub ask_each-requires-clause-literals : goal.ask_each-requires-clause-literals
 ask_each-requires-clause-literals c =

@@ -3,7 +3,4 @@ use Rattle.clause_decision.proofs.LoopLemmas.{cuts_fit}
 use Rattle.clause_decision.proofs.looped_block.LoopedBlock.cut_count.Goals as goal
 
 pub overflow_cast-result : goal.overflow_cast-result
-overflow_cast-result c =
-    let few = cuts_fit _ c.self.invariant in
-    let size = c.len.ensures in
-    omega (arith, few, size)
+overflow_cast-result c = grind (arith, cuts_fit _ c.self.invariant)
