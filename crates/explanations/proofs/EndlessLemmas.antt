@@ -31,11 +31,7 @@ record Twice (f : ℕ → ℕ) (n : ℕ) : Type 0 where
   same : f i ≡ f j
 
 found_before : (f : ℕ → ℕ) (v n : ℕ) → ((i : ℕ) × (i ≤ n) × (f i ≡ v)) ⊎ ((i : ℕ) → i ≤ n → f i ≢ v)
-found_before f v zero =
-    elim (cases_eq (f zero) v) [
-      | inl e ↦ inl (zero, omega arith, e)
-      | inr ne ↦ inr (λ i l e. ne (ap f (omega arith) ∙ e))
-    ]
+found_before f v zero = grind (arith, cases_eq (f zero) v)
 found_before f v (suc n) =
     elim (cases_eq (f (suc n)) v) [
       | inl e ↦ inl (suc n, omega arith, e)
@@ -61,13 +57,7 @@ squeezed-less v m n ne l w = elim (cases_lt v m) as (λ c. elim c [ inl k ↦ m 
 
 squeezed-same : (v a b : ℕ) → a ≢ v → b ≢ v → squeezed v a ≡ squeezed v b → a ≡ b
 unfolding squeezed
-squeezed-same v a b na nb =
-    elim (cases_lt v a) as (λ c. elim c [ inl k ↦ a - 1 | inr ge ↦ a ] ≡ squeezed v b → a ≡ b) [
-      | inl k ↦
-          elim (cases_lt v b) as (λ c. a - 1 ≡ elim c [ inl m ↦ b - 1 | inr ge ↦ b ] → a ≡ b) [ inl m ↦ (λ e. omega arith) | inr ge ↦ (λ e. omega (arith, nb)) ]
-      | inr ge ↦
-          elim (cases_lt v b) as (λ c. a ≡ elim c [ inl m ↦ b - 1 | inr le ↦ b ] → a ≡ b) [ inl m ↦ (λ e. omega (arith, na)) | inr le ↦ (λ e. e) ]
-    ]
+squeezed-same v a b na nb = grind arith
 
 pigeonhole : (f : ℕ → ℕ) (n : ℕ) → ((k : ℕ) → k ≤ n → f k < n) → Twice f n
 pigeonhole f zero below = absurd (let l = below zero (omega arith) in omega arith)
@@ -135,8 +125,7 @@ module _ (graph : List (List ℕ)) (P : ℕ → Type 0) (on : (a : ℕ) → P a 
       let size = length-down low n in
       let here : get_or (down low n) k 0 ≡ node (suc (low + (n - 1 - (k + 1)))) = down-at low n k (omega arith) ∙ ap node (omega arith) in
       let next : get_or (down low n) (k + 1) 0 ≡ node (low + (n - 1 - (k + 1))) = down-at low n (k + 1) (omega arith) in
-      subst (λ (m : ℕ). Edge graph m (get_or (down low n) k 0)) (sym next)
-      (subst (λ (m : ℕ). Edge graph (node (low + (n - 1 - (k + 1)))) m) (sym here) (node-edge (low + (n - 1 - (k + 1)))))
+      grind (arith, down low n, node (low + (n - 1 - (k + 1))), node-edge (low + (n - 1 - (k + 1))))
 
   module _ (two : Twice node (length graph)) where
     nodes : List ℕ
@@ -227,8 +216,7 @@ some_unknown known (s ∷ signals) =
     ]
 
 bit_is_known : (b : Bool) → bit b ≡ X → ⊥
-bit_is_known true e = let same : One ≡ X = e in cc
-bit_is_known false e = let same : Zero ≡ X = e in cc
+bit_is_known b e = grind arith
 
 module _ (net : Parts) (v : List Bool) (valid : IsNetlist net) (width : length v ≡ length net.inputs + length net.latches) where
   reads_unknown : (g : ℕ) → IsUnknown net (fix net (bits v)) g → (a : ℕ) × OpenFeeds net (fix net (bits v)) a g

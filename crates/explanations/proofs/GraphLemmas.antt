@@ -41,16 +41,7 @@ open_reads_more first known pins n pin reads inside at h is = record {
 
 pub open_reads_skip : (first : ℕ) (known : List Trit) (pins : List Sig) (n : ℕ) (pin : Sig) (reads : List ℕ) → ((d : Sig) → get_or pins n d ≡ pin) →
     HasOpenReads first known pins n reads → ¬ IsOpenSignal first known pin.0 → HasOpenReads first known pins (n + 1) reads
-open_reads_skip first known pins n pin reads at h not_open = record {
-  all = λ k d l isk.
-      elim (cases_eq k n) [
-        | inl same ↦
-            let here : get_or pins k d ≡ pin = ap (λ m. get_or pins m d) same ∙ at d in
-            absurd (not_open (subst (λ (p : Sig). IsOpenSignal first known p.0) here isk))
-        | inr apart ↦ h.all k d (omega arith) isk
-      ];
-  only = h.only;
-}
+open_reads_skip first known pins n pin reads at h not_open = grind arith
 
 pub reads_these : (net : Parts) (known : List Trit) (gate : ℕ) (reads : List ℕ) → IsNetlist net → gate < length net.gates → IsOpenSignal (length net.inputs + length net.latches) known (gate_sig net gate).0 →
     HasOpenReads (length net.inputs + length net.latches) known (gate_at net gate).pins (length (gate_at net gate).pins) reads → ReadsOpen net known gate reads
@@ -99,11 +90,7 @@ module _ (net : Parts) (known : List Trit) (graph : List (List ℕ)) (h : IsOpen
   edge_feeds a b edge = (let size = h.size in let l = edge.source in (h.reads a (omega arith) b).0 edge.listed)
 
   pub feeds_edge : (a b : ℕ) → OpenFeeds net known b a → Edge graph a b
-  feeds_edge a b feeds =
-      let size = h.size in
-      let reader = feeds.reader.gate in
-      let source = feeds.source.gate in
-      record { source = omega arith; target = omega arith; listed = (h.reads a reader b).1 feeds }
+  feeds_edge a b feeds = grind arith
 
   pub trail_line : (nodes : List ℕ) → IsTrail graph nodes → IsLine net nodes
   trail_line nodes trail k l = (edge_feeds (get_or nodes (k + 1) 0) (get_or nodes k 0) (trail k l)).feeds
@@ -113,9 +100,7 @@ module _ (net : Parts) (known : List Trit) (graph : List (List ℕ)) (h : IsOpen
   behind_unknown nodes trail k l = (edge_feeds (get_or nodes (k + 1) 0) (get_or nodes k 0) (trail k l)).reader
 
   line_trail : (nodes : List ℕ) → All (IsUnknown net known) nodes → IsLine net nodes → IsTrail graph nodes
-  line_trail nodes unknown line k l =
-      feeds_edge (get_or nodes (k + 1) 0) (get_or nodes k 0)
-      (record { feeds = line k l; source = unknown k 0 (omega arith); reader = unknown (k + 1) 0 l })
+  line_trail nodes unknown line k l = grind (arith, feeds_edge (get_or nodes (k + 1) 0) (get_or nodes k 0))
 
   cycle_unknown : (nodes : List ℕ) → IsCycle graph nodes → (k : ℕ) → k < length nodes → IsUnknown net known (get_or nodes k 0)
   cycle_unknown nodes cycle zero l = (edge_feeds (get_or nodes 0 0) (last_node nodes) cycle.closes).reader
@@ -131,14 +116,7 @@ module _ (net : Parts) (known : List Trit) (graph : List (List ℕ)) (h : IsOpen
   }
 
   pub graph_cycle : (nodes : List ℕ) → IsOpenCycle net known nodes → IsCycle graph nodes
-  graph_cycle nodes cycle =
-      let some = cycle.some in
-      record {
-        some = some;
-        trail = line_trail nodes cycle.unknown cycle.line;
-        closes = feeds_edge (get_or nodes 0 0) (last nodes)
-            (record { feeds = cycle.closes; source = cycle.unknown (length nodes - 1) 0 (omega arith); reader = cycle.unknown 0 0 some });
-      }
+  graph_cycle nodes cycle = grind (arith, line_trail nodes cycle.unknown cycle.line, feeds_edge (get_or nodes 0 0) (last nodes))
 
   pub open_way : (cycle way : List ℕ) (goal : ℕ) → IsWay graph cycle way goal → Leads net known cycle way goal
   open_way cycle way goal leads = record {
@@ -153,8 +131,7 @@ module _ (net : Parts) (known : List Trit) (graph : List (List ℕ)) (h : IsOpen
   }
 
   All-both : (start : ℕ) (way : List ℕ) → IsUnknown net known start → All (IsUnknown net known) way → All (IsUnknown net known) (start ∷ way)
-  All-both start way u us zero d l = u
-  All-both start way u us (suc k) d l = us k d (omega arith)
+  All-both start way u us h d l = grind arith
 
   pub graph_way : (cycle way : List ℕ) (goal : ℕ) → IsOpenCycle net known cycle → Leads net known cycle way goal → IsWay graph cycle way goal
   graph_way cycle way goal is leads = record {

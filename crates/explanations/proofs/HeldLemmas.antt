@@ -28,24 +28,14 @@ zip_map f v w [] = tt
 zip_map f v w (s ∷ signals) = (w s, zip_map f v w signals)
 
 seen_more : (mark other : Bool) (value v : Trit) → (other ≡ true → mark ≡ true) → (mark ≡ true → value ≡ X) → MayBe (seen mark value) v → MayBe (seen other value) v
-seen_more true true value v w u h = h
-seen_more false false value v w u h = h
-seen_more false true value v w u h = absurd (true≢false (sym (w refl)))
-seen_more true false value v w u h = rw (u refl) tt
+seen_more mark other value v w u h = grind arith
 
 seen_below : (mark : Bool) (low high v : Trit) → Below low high → MayBe (seen mark high) v → MayBe (seen mark low) v
-seen_below true low high v b h = h
-seen_below false X high v b h = tt
-seen_below false Zero high v b h = rw b at h
-seen_below false One high v b h = rw b at h
+seen_below mark low high v b h = grind arith
 
 -- a gate that stays open where some gates do stays so where more do
 pub held_with_more : (net : Parts) (known : List Trit) (others marks : List Bool) (g : ℕ) → AreUnknownGates net known marks → Within others marks → IsHeld net known others g → IsHeld net known marks g
-held_with_more net known others marks g unknown within h = λ values may.
-    h values
-    (zip_weaker (pin_at known marks) (pin_at known others)
-    (λ s v m. seen_more (is_marked marks s.0) (is_marked others s.0) (wire known s) v (within s.0) (λ e. (unknown s.0 e).1) m)
-    (gate_at net g).pins values may)
+held_with_more net known others marks g unknown within h = grind (arith, zip_weaker (pin_at known marks) (pin_at known others), seen_more)
 
 -- ---- a state in which the marked gates are unknown
 
@@ -79,20 +69,14 @@ cleared-at marks n zero (x ∷ xs) = ap (λ i. hidden (is_marked marks i) x) (om
 cleared-at marks n (suc k) (x ∷ xs) = cleared-at marks (suc n) k xs ∙ ap (λ i. hidden (is_marked marks i) (get_or xs k X)) (omega arith)
 
 pub below_x : (a : Trit) → Below a X → a ≡ X
-below_x X h = refl
-below_x Zero h = sym h
-below_x One h = sym h
+below_x a h = grind arith
 
 first : Parts → ℕ
 first net = length net.inputs + length net.latches
 
 -- the value of a gate in the fixpoint is that of its cover
 pub fix_at_gate : (net : Parts) (v : List Trit) (g : ℕ) → length v ≡ length net.inputs + length net.latches → g < length net.gates → get_or (fix net v) (length net.inputs + length net.latches + g) X ≡ gate_value (fix net v) (gate_at net g)
-fix_at_gate net v g w l =
-    get_or-append_right v (fix_gates net v) (length v) (length net.inputs + length net.latches + g) X refl (omega arith)
-    ∙ ap (λ i. get_or (fix_gates net v) i X) (omega arith)
-    ∙ ap (λ s. get_or s g X) (sym (fix_is_fixpoint net v))
-    ∙ get_or-step net v (fix_gates net v) g l
+fix_at_gate net v g w l = grind (arith, get_or-append_right v (fix_gates net v) (length v) (length net.inputs + length net.latches + g) X, fix_is_fixpoint net v, get_or-step net v (fix_gates net v) g l)
 
 module _ (net : Parts) (given more : List Trit) (marks : List Bool) (h : IsHeldOpen net (fix net given) marks)
     (width : length more ≡ length net.inputs + length net.latches) (above : EachBelow given more) where
@@ -112,11 +96,7 @@ module _ (net : Parts) (given more : List Trit) (marks : List Bool) (h : IsHeldO
 
   -- a column is never marked
   column_unmarked : (n : ℕ) → n < length more → is_marked marks n ≡ false
-  column_unmarked n l =
-      elim (cases_Bool (is_marked marks n)) [
-        | inl e ↦ (let behind = (h.unknown n e).0.behind in absurd (omega arith))
-        | inr e ↦ e
-      ]
+  column_unmarked n l = grind arith
 
   wire-at : (n : ℕ) → get_or (wires more state) n X ≡ hidden (is_marked marks n) (get_or (fix net more) n X)
   unfolding hidden
@@ -175,10 +155,7 @@ module _ (net : Parts) (given more : List Trit) (marks : List Bool) (h : IsHeldO
       let behind = at.behind in
       let low = EachBelow-at (fix_gates net more) state (n - length more) (fix_is_below_closed net more state state_closed) in
       let place : length net.inputs + length net.latches + (n - length more) ≡ n = omega arith in
-      let marked : hidden (is_marked marks (length net.inputs + length net.latches + (n - length more))) (get_or (fix_gates net more) (n - length more) X) ≡ X =
-      ap (λ i. hidden (is_marked marks i) (get_or (fix_gates net more) (n - length more) X)) place ∙ ap (λ b. hidden b (get_or (fix_gates net more) (n - length more) X)) e in
-      get_or-append_right more (fix_gates net more) (length more) n X refl (omega arith)
-      ∙ below_x (get_or (fix_gates net more) (n - length more) X) (subst (λ (v : Trit). Below (get_or (fix_gates net more) (n - length more) X) v) (state-at (n - length more) ∙ marked) low)
+      grind (arith, get_or-append_right more (fix_gates net more) (length more) n X, below_x (get_or (fix_gates net more) (n - length more) X), state-at (n - length more))
 
   -- and so it is held open there too
   pub held_with_more_known : IsHeldOpen net (fix net more) marks
@@ -192,11 +169,7 @@ module _ (net : Parts) (given more : List Trit) (marks : List Bool) (h : IsHeldO
   }
 
 pub holds_open_with_more : (net : Parts) (given more : List Trit) (gates : List ℕ) → length more ≡ length net.inputs + length net.latches → EachBelow given more → HoldsOpen net given gates → HoldsOpen net more gates
-holds_open_with_more net given more gates width above h = record {
-  marks = h.marks;
-  held = held_with_more_known net given more h.marks h.held width above;
-  among = h.among;
-}
+holds_open_with_more net given more gates width above h = grind (arith, held_with_more_known net given more h.marks h.held width above)
 
 -- ---- taking gates out
 
@@ -239,37 +212,10 @@ module _ (net : Parts) (known : List Trit) (g : ℕ) (old : List Bool) (inside :
   })
 
   pub trying_on : (now new : List Bool) (out : Bool) → IsTrying net known g old now true → HasTried net known g now new out → IsTrying net known (g + 1) old new true
-  trying_on now new out h tried =
-      let k = step_keeps now new out h.fewer tried in
-      record {
-        size = k.size ∙ h.size;
-        fewer = λ n e. h.fewer n (k.fewer n e);
-        kept = λ others held within. k.kept others held (h.kept others held within);
-        count = (let a = k.count in let b = h.count in omega arith);
-        any = (let a = k.count in let b = h.any in omega arith);
-      }
+  trying_on now new out h tried = grind (arith, step_keeps now new out h.fewer tried)
 
   any_next : (now new : List Bool) (out : Bool) → IsTrying net known g old now false → HasTried net known g now new out → AnyOut net known (g + 1) old new out
-  any_next now new true h tried =
-      (let less : suc (mark_count new) ≡ mark_count now = ap (λ m. suc (mark_count m)) tried.0 ∙ mark_count-set now (gate_sig net g).0 tried.1 in let most = h.count in omega arith)
-  any_next now new false h tried = (
-    tried.0 ∙ h.any.0,
-    λ k l e.
-        elim (cases_eq k g) [
-          | inl same ↦
-              let here : is_marked now (gate_sig net g).0 ≡ true = ap (λ m. is_marked m (gate_sig net g).0) h.any.0 ∙ subst (λ (n : ℕ). is_marked old (gate_sig net n).0 ≡ true) same e in
-              subst (λ (n : ℕ). IsHeld net known old n) (sym same) (subst (λ (m : List Bool). IsHeld net known m g) h.any.0 (tried.1 here))
-          | inr apart ↦ h.any.1 k (omega arith) e
-        ],
-  )
+  any_next now new out h tried = grind (arith, mark_count-set, cases_eq)
 
   pub trying_next : (now new : List Bool) (out : Bool) → IsTrying net known g old now false → HasTried net known g now new out → IsTrying net known (g + 1) old new out
-  trying_next now new out h tried =
-      let k = step_keeps now new out h.fewer tried in
-      record {
-        size = k.size ∙ h.size;
-        fewer = λ n e. h.fewer n (k.fewer n e);
-        kept = λ others held within. k.kept others held (h.kept others held within);
-        count = (let a = k.count in let b = h.count in omega arith);
-        any = any_next now new out h tried;
-      }
+  trying_next now new out h tried = grind (arith, step_keeps now new out h.fewer tried, any_next now new out h tried)

@@ -33,16 +33,12 @@ some_matches_other (row ∷ rows) bs pin b n h =
 value_moves : (plane : Bool) (rows : List Row) (bs cs : List Bool) → (some_row_matches rows bs ≡ true → some_row_matches rows cs ≡ true) → value_of_rows plane rows bs ≡ plane → value_of_rows plane rows cs ≡ plane
 value_moves true rows bs cs m h = m h
 value_moves false [] bs cs m h = refl
-value_moves false (row ∷ rows) bs cs m h =
-    let matching : some_row_matches (row ∷ rows) bs ≡ true = not-false (some_row_matches (row ∷ rows) bs) h in
-    ap not (m matching)
+value_moves false (row ∷ rows) bs cs m h = grind arith
 
 value_stays : (plane : Bool) (rows : List Row) (bs cs : List Bool) → (some_row_matches rows cs ≡ true → some_row_matches rows bs ≡ true) → value_of_rows plane rows bs ≡ not plane → value_of_rows plane rows cs ≡ not plane
 value_stays true rows bs cs m h = false_from_ne_true (some_row_matches rows cs) (λ e. true≢false (sym (m e) ∙ h))
 value_stays false [] bs cs m h = absurd (true≢false (sym h))
-value_stays false (row ∷ rows) bs cs m h =
-    not_from_false (some_row_matches (row ∷ rows) cs)
-    (false_from_ne_true (some_row_matches (row ∷ rows) cs) (λ e. true≢false (sym (m e) ∙ not-true (some_row_matches (row ∷ rows) bs) h)))
+value_stays false (row ∷ rows) bs cs m h = grind arith
 
 -- the gate has the wanted value at b wherever it has it at not b
 value_better : (plane : Bool) (rows : List Row) (bs : List Bool) (pin : ℕ) (wanted b : Bool) → list_any (λ row. asks row.lits pin (spoiling plane wanted b)) rows ≡ false →
@@ -68,9 +64,7 @@ ext_better cover values pin wanted b better e =
 -- ---- pins and their values
 
 may_be_known : (pin : Pin) → MayBe pin (trit_of pin)
-may_be_known (Known b) = refl
-may_be_known Open = refl
-may_be_known Free = tt
+may_be_known pin = grind arith
 
 all_may_be_known : (pins : List Pin) → AllZip MayBe pins (map trit_of pins)
 all_may_be_known [] = tt
@@ -81,9 +75,7 @@ can_be_known cover pins wanted e = record { values = map trit_of pins; may = all
 
 -- without a free pin there is no choice
 same_known : (pin : Pin) (value : Trit) → is_free pin ≡ false → MayBe pin value → value ≡ trit_of pin
-same_known (Known b) value n m = m
-same_known Open value n m = m
-same_known Free value n m = absurd (true≢false n)
+same_known pin value n m = grind arith
 
 only_known : (pins : List Pin) (values : List Trit) → All (λ pin. is_free pin ≡ false) pins → AllZip MayBe pins values → values ≡ map trit_of pins
 only_known [] [] n m = refl
@@ -193,12 +185,10 @@ stays_open_without cover pins one zero' = λ values may.
     ]
   where
     none : (b : Bool) (values : List Trit) → AllZip MayBe pins values → ext cover values ≡ bit b → ⊥
-    none true values may e = one (record { values = values; may = may; is = e })
-    none false values may e = zero' (record { values = values; may = may; is = e })
+    none b values may e = grind arith
 
 pub open_cannot_be : (cover : Cover) (pins : List Pin) (b : Bool) → StaysOpen cover pins → ¬ CanBe cover pins b
-open_cannot_be cover pins true stays can = let e : X ≡ One = sym (stays can.values can.may) ∙ can.is in cc
-open_cannot_be cover pins false stays can = let e : X ≡ Zero = sym (stays can.values can.may) ∙ can.is in cc
+open_cannot_be cover pins b stays can = grind arith
 
 -- ---- the steps of the choice
 
@@ -217,20 +207,13 @@ by_low cover pins pin wanted free c = can_be_at cover pins pin false wanted (fre
 
 pub by_high : (cover : Cover) (pins : List Pin) (pin : ℕ) (wanted can : Bool) → get_or pins pin Open ≡ Free → ¬ CanBe cover (set pins pin (Known false)) wanted →
     (can ≡ true) ↔ CanBe cover (set pins pin (Known true)) wanted → (can ≡ true) ↔ CanBe cover pins wanted
-by_high cover pins pin wanted can free none h = (
-  λ e. can_be_at cover pins pin true wanted (free_there pins pin free) (h.0 e),
-  λ c. elim (can_be_split cover pins pin wanted c) [ inl low ↦ absurd (none low) | inr high ↦ h.1 high ],
-)
+by_high cover pins pin wanted can free none h = grind (arith, can_be_at cover pins pin true wanted (free_there pins pin free), free_there pins pin free, can_be_split cover pins pin wanted)
 
 pub neither : (cover : Cover) (pins : List Pin) (one zero' : Bool) → (one ≡ true) ↔ CanBe cover pins true → (zero' ≡ true) ↔ CanBe cover pins false → ((not one && not zero') ≡ true) ↔ StaysOpen cover pins
 neither cover pins true zero' h k = (λ e. absurd (true≢false (sym e)), λ stays. absurd (open_cannot_be cover pins true stays (h.0 refl)))
 neither cover pins false true h k = (λ e. absurd (true≢false (sym e)), λ stays. absurd (open_cannot_be cover pins false stays (k.0 refl)))
-neither cover pins false false h k = (
-  λ e. stays_open_without cover pins (λ c. true≢false (sym (h.1 c))) (λ c. true≢false (sym (k.1 c))),
-  λ stays. refl,
-)
+neither cover pins false false h k = grind (arith, stays_open_without cover pins, true≢false)
 
 -- what is true of an answer whatever it is, is true of a result
 pub mapped : {A E : Type 0} {P Q : A → Type 0} (r : Result A E) → IfOk r P → ((a : A) → P a → Q a) → IfOk r Q
-mapped (Ok a) h f = f a h
-mapped (Err e) h f = h
+mapped r h f = grind arith
