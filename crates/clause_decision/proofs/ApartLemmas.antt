@@ -1,14 +1,14 @@
 -- Pairs of wires in a cone's models, and at care vectors.
 use Rattle.std.proofs.Common.{◌≡◌, inl, inr, ℕ, suc, ◌<◌, ◌+◌, ◌*◌, Bool, true, false, not, List, [], ◌∷◌, ◌++◌, get_or, Some, refl, sym, subst, ◌∙◌, arith, true≢false}
 use Rattle.std.specs.List.{All, AllZip}
-use Rattle.clause_decision.proofs.Common.{cases_lt, get_or_default, get_or-take, All-nil, All-cons, All-get_or, All-push, All-weaker, Sig, Trit, Zero, One, X, bits, Parts, wire, fix, count, first_gate, gate_of, value_in, CareSet, columns, IsCareVector, Formula, Rails, IsWanted, gate_rails, says, IsModel, HasModelFrom, Grows, is_known, no_rails, rails_at, Reads, AreWithin, ReadsAll-at, Problem, problem, HasNoModelUnder, column_rails, vector_in, ReadsAbove, ReadsFix, IsCone, AddLiterals, SayPairs}
+use Rattle.clause_decision.proofs.Common.{cases_lt, get_or_default, get_or-take, All-nil, All-cons, All-get_or, All-push, All-weaker, Sig, Trit, X, bits, Parts, wire, fix, count, first_gate, gate_of, value_in, CareSet, columns, IsCareVector, Formula, Rails, IsWanted, gate_rails, says, IsModel, HasModelFrom, Grows, is_known, no_rails, rails_at, Reads, AreWithin, ReadsAll-at, Problem, problem, HasNoModelUnder, column_rails, vector_in, ReadsAbove, ReadsFix, IsCone, AddLiterals, SayPairs}
 use Rattle.std.proofs.lemmas.List.Folds.{list_any_none}
 use Rattle.std.proofs.lemmas.Slice.Zip.{all_zipped_more}
 use Rattle.ternary_clauses.specs.Apart.{SaysApart}
 use Rattle.ternary_clauses.specs.Formulas.{IsFormula}
 use Rattle.ternary_clauses.specs.Nodes.{agreed}
 use Rattle.ternary_clauses.specs.Rails.{exchanged, value_read, AreRailsOf}
-use Rattle.ternary_clauses.proofs.GrowthLemmas.{Grows-refl, Grows-chain, model-here, model-after, rails-kept}
+use Rattle.ternary_clauses.proofs.GrowthLemmas.{Grows-refl, Grows-chain, model-here, model-after}
 use Rattle.ternary_clauses.proofs.NodeLemmas.{value-is}
 use Rattle.ternary_clauses.proofs.PickLemmas.{opposite, Reads-opposite}
 use Rattle.clause_queries.specs.Each.{AreNever, IsAnyPossible}

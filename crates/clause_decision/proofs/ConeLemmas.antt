@@ -1,12 +1,10 @@
 -- The gates of a scope on top of the clauses of a care set.
 use Rattle.std.proofs.Common.{◌≡◌, ℕ, ◌<◌, ◌≤◌, ◌+◌, Bool, true, List, [], ◌∷◌, ◌++◌, length, map, take, get_or, sym, ap, subst, ◌∙◌, arith}
-use Rattle.std.specs.Prelude.{Contains}
 use Rattle.std.specs.List.{All}
-use Rattle.clause_decision.proofs.Common.{length-map, length-take-le, get_or-take, All-get_or, All-take, Contains-get_or, Sig, bit, bits, Parts, fix_gates, count, gate_sig, gate_at, no_gate, signal, IsNetlist, first_gate, gate_of, value_in, CareSet, columns, is_allowed, is_in_invariant, state_of, IsCareVector, Formula, Rails, IsClosed, SaysNetlist, gate_rails, says, IsModel, HasModelFrom, Grows, ReadsAll, AreWithin, no_rails, ReadsAll-more, All-within-more, problem, models-same, column_rails, vector_in, ReadsAbove, ReadsFix, IsCone, is_marked, AreClosed, IsModelUnder}
+use Rattle.clause_decision.proofs.Common.{length-map, length-take-le, get_or-take, All-get_or, All-take, Contains-get_or, Sig, bit, bits, Parts, fix_gates, gate_at, signal, IsNetlist, first_gate, gate_of, value_in, CareSet, columns, is_allowed, is_in_invariant, state_of, IsCareVector, Formula, Rails, IsClosed, SaysNetlist, gate_rails, says, IsModel, HasModelFrom, Grows, ReadsAll, AreWithin, no_rails, ReadsAll-more, All-within-more, problem, models-same, column_rails, vector_in, ReadsAbove, ReadsFix, IsCone, is_marked, AreClosed, IsModelUnder}
 use Rattle.std.proofs.lemmas.List.{ext_get_or}
 use Rattle.std.proofs.lemmas.Simd.{map-map}
 use Rattle.std.proofs.lemmas.List.Elements.{All-from_get_or}
-use Rattle.netlist.specs.declared.parts.Gate.{Gate}
 use Rattle.netlist.specs.Netlists.{IsSignal}
 use Rattle.ternary_clauses.specs.Encoding.{ReadsStill, HasState}
 use Rattle.ternary_clauses.proofs.LawLemmas.{still_is_above_fix}

@@ -1,6 +1,6 @@
 -- Setting the gates of a loop that read something new.
 use Rattle.std.proofs.Common.{◌≡◌, ◌≢◌, ◌⊎◌, inl, inr, ℕ, zero, suc, ◌+◌, ◌-◌, ◌*◌, ◌<◌, ◌≤◌, ◌==◌, Bool, true, false, ◌&&◌, leb, if◌then◌else◌, List, [], ◌∷◌, ◌++◌, length, drop, map, get_or, set, replicate, None, refl, sym, ap, ap₂, subst, ◌∙◌, arith, Contains, append-nil, true≢false}
-use Rattle.clause_decision.proofs.Common.{and_parts, length-set, Contains-append_left, Contains-push, Contains-push_cases, Sig, Trit, Zero, One, X, Below, gate_at, gate_sig, wire, home_of, is_cut, first_gate, gate_of, value_in, map_agree, IsSweeping, AreUnseen, IsReady, LoopAt, IsLoopAt, gates_in, AreReaders}
+use Rattle.clause_decision.proofs.Common.{and_parts, length-set, Contains-append_left, Contains-push, Contains-push_cases, Sig, Trit, X, Below, gate_at, gate_sig, wire, home_of, is_cut, first_gate, gate_of, value_in, map_agree, IsSweeping, AreUnseen, IsReady, LoopAt, IsLoopAt, gates_in, AreReaders}
 use Rattle.std.proofs.lemmas.Bool.{cases_eq, leb-true}
 use Rattle.std.proofs.lemmas.List.{drop_more, get_or-set_same, get_or-set_other, length-append, length-replicate}
 use Rattle.std.proofs.lemmas.List.Elements.{Contains-append_cases, Contains-append_right}

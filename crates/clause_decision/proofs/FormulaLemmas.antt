@@ -1,5 +1,5 @@
 -- Formulas over columns, and literals that tell tests of their vectors.
-use Rattle.std.proofs.Common.{◌≡◌, ℕ, zero, suc, ◌*◌, ◌<◌, Bool, true, false, ◌&&◌, List, [], ◌∷◌, ◌++◌, length, map, drop, refl, sym, ap, ap₂, ◌∙◌, subst, arith}
+use Rattle.std.proofs.Common.{◌≡◌, ℕ, zero, suc, ◌*◌, ◌<◌, Bool, true, List, [], ◌∷◌, ◌++◌, length, map, drop, refl, sym, ap, ap₂, ◌∙◌, subst, arith}
 use Rattle.clause_decision.proofs.Common.{list_all, length-map, All-cons, All-nil, All-map, Trit, bits, Parts, CareSet, columns, state_of, is_allowed, is_in_invariant, is_care_vector, Formula, Rails, SaysColumns, says, IsModel, HasModelFrom, Grows, Reads, ReadsAll, AreWithin, All-within-more, ReadsAll-more, IsWithin, problem, Asks, models-same, SaysTest, IsOver, bit, is_one, Question, IsQuestionOf}
 use Rattle.std.proofs.lemmas.List.{drop-map}
 use Rattle.std.proofs.lemmas.List.Sums.{AllPass-from_list_all, list_all-from_AllPass}

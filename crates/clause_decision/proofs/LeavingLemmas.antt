@@ -1,7 +1,7 @@
 -- The invariant of the next state, as a literal of a cone.
-use Rattle.std.proofs.Common.{◌≡◌, ℕ, ◌<◌, ◌+◌, ◌-◌, ◌*◌, Bool, true, false, not, ◌&&◌, List, [], ◌∷◌, ◌++◌, length, map, get_or, Option, Some, None, IfSome, refl, sym, ap, ap₂, subst, ◌∙◌, arith}
+use Rattle.std.proofs.Common.{◌≡◌, ℕ, ◌<◌, ◌+◌, ◌-◌, ◌*◌, Bool, true, false, not, ◌&&◌, List, [], ◌∷◌, ◌++◌, length, map, get_or, Option, Some, None, refl, sym, ap, ap₂, subst, ◌∙◌, arith}
 use Rattle.std.specs.List.{All}
-use Rattle.clause_decision.proofs.Common.{option_map_or, and_parts, length-map, get_or-map, All-take, All-map, All-get_or, Trit, X, bit, bits, Sig, Latch, Parts, IsNetlist, count, gate_sig, signal, wire, fix, first_gate, gate_of, CareModel, CareSet, columns, holds_at, state_of, is_allowed, is_in_invariant, is_care_vector, IsCareVector, Formula, Rails, says, negation, IsModel, HasModelFrom, Reads, ReadsAll, AreWithin, no_rails, rails_at, says-negation, ReadsAll-more, All-within-more, IsWithin, problem, Asks, models-same, column_rails, vector_in, ReadsAbove, ReadsFix, IsCone, SaysTest, ReadsWithin, All-contains, IsModelUnder, Question, IsQuestionOf}
+use Rattle.clause_decision.proofs.Common.{option_map_or, and_parts, length-map, get_or-map, All-take, All-map, All-get_or, Trit, X, bit, bits, Sig, Latch, Parts, IsNetlist, count, gate_sig, signal, wire, fix, first_gate, gate_of, CareModel, CareSet, columns, holds_at, state_of, is_allowed, is_in_invariant, is_care_vector, IsCareVector, Formula, Rails, says, negation, IsModel, HasModelFrom, Reads, ReadsAll, AreWithin, rails_at, says-negation, ReadsAll-more, All-within-more, IsWithin, problem, Asks, models-same, column_rails, vector_in, ReadsAbove, ReadsFix, IsCone, SaysTest, ReadsWithin, All-contains, IsModelUnder, Question, IsQuestionOf}
 use Rattle.std.specs.Option.{option_map}
 use Rattle.std.specs.Prelude.{Contains}
 use Rattle.std.proofs.lemmas.Option.{same_Some}

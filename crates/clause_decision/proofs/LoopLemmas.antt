@@ -1,7 +1,7 @@
 -- A loop at its place among the blocks, and its cut wires.
 use Rattle.std.proofs.Common.{◌≡◌, ◌≢◌, inl, inr, ℕ, ◌<◌, ◌≤◌, ◌+◌, ◌==◌, Bool, true, false, ◌&&◌, cond, List, [], ◌∷◌, ◌++◌, length, filter, take, get_or, Contains, suc, sym, ap, ap₂, subst, refl, ◌∙◌, arith, true≢false, append-nil}
 use Rattle.std.specs.List.{All, range_with_len}
-use Rattle.clause_decision.proofs.Common.{cases_lt, and_parts, eq-eqb, length-map, take_all, All-push, All-weaker, Contains-get_or, Contains-append_left, Contains-push, Trit, bit, bits, Parts, fix_gates, block_at, home_of, Loops, is_cut, CutsAreFixed, cuts_of, first_gate, sweeps, value_in, map_agree, cut_values_agree, fixed_cuts_give_fix, gate_home, columns, AreCutPlacesBelow, LoopAt, IsLoopAt, gates_in, loops_in}
+use Rattle.clause_decision.proofs.Common.{cases_lt, and_parts, eq-eqb, length-map, take_all, All-push, All-weaker, Contains-get_or, Contains-append_left, Contains-push, Trit, bit, bits, Parts, fix_gates, home_of, Loops, is_cut, CutsAreFixed, cuts_of, first_gate, sweeps, value_in, map_agree, cut_values_agree, fixed_cuts_give_fix, gate_home, columns, AreCutPlacesBelow, LoopAt, IsLoopAt, gates_in, loops_in}
 use Rattle.std.proofs.lemmas.List.{length_push}
 use Rattle.std.proofs.lemmas.List.FromFn.{length-range_with_len}
 use Rattle.std.proofs.lemmas.List.Elements.{filter_more}

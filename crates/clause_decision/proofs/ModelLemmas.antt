@@ -1,8 +1,8 @@
 -- The literals of care models.
-use Rattle.std.proofs.Common.{◌≡◌, inl, inr, ℕ, ◌+◌, ◌-◌, ◌<◌, Bool, true, false, List, [], length, map, get_or, Option, Some, None, IfSome, refl, sym, ap, ap₂, ◌∙◌, subst, arith}
+use Rattle.std.proofs.Common.{◌≡◌, inl, inr, ℕ, ◌+◌, ◌-◌, ◌<◌, Bool, true, false, List, [], length, map, get_or, Option, Some, None, IfSome, sym, ap, ap₂, ◌∙◌, subst, arith}
 use Rattle.std.specs.Prelude.{replicate}
 use Rattle.std.specs.List.{All}
-use Rattle.clause_decision.proofs.Common.{option_map_or, cases_lt, get_or-map, length-map, All-map, All-nil, All-get_or, Sig, Trit, Zero, One, X, bit, bits, Parts, IsNetlist, count, gate_at, no_gate, wire, fix, fix_gates, first_gate, gate_of, value_in, CareModel, CareSet, columns, holds_at, Formula, Rails, IsWanted, IsClosed, SaysNetlist, says, IsModel, Reads, ReadsAll, AreWithin, rails_at, no_rails, ReadsAll-at, SaysTest, ReadsWithin, All-contains}
+use Rattle.clause_decision.proofs.Common.{option_map_or, cases_lt, get_or-map, length-map, All-map, All-nil, All-get_or, Sig, Trit, X, bit, bits, Parts, IsNetlist, count, gate_at, wire, fix, fix_gates, first_gate, gate_of, value_in, CareModel, CareSet, columns, holds_at, Formula, Rails, IsWanted, IsClosed, SaysNetlist, says, IsModel, Reads, ReadsAll, AreWithin, rails_at, no_rails, ReadsAll-at, SaysTest, ReadsWithin, All-contains}
 use Rattle.std.specs.Option.{option_map}
 use Rattle.std.proofs.lemmas.List.{get_or-replicate, get_or_append_left, length-replicate}
 use Rattle.std.proofs.lemmas.Option.{same_Some}

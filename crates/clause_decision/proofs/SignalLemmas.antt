@@ -1,10 +1,9 @@
 -- What signals stand for in a cone, where they are known at the fixpoint.
-use Rattle.std.proofs.Common.{◌≡◌, ◌≢◌, inl, inr, ℕ, ◌==◌, if◌then◌else◌, ◌<◌, ◌≤◌, ◌+◌, ◌-◌, ◌*◌, Bool, true, List, [], ◌∷◌, length, map, get_or, sym, ap, subst, ◌∙◌, arith}
+use Rattle.std.proofs.Common.{◌≡◌, ◌≢◌, inl, inr, ℕ, ◌<◌, ◌≤◌, ◌+◌, ◌-◌, ◌*◌, Bool, true, List, [], ◌∷◌, length, map, get_or, sym, subst, ◌∙◌, arith}
 use Rattle.std.specs.List.{All}
-use Rattle.clause_decision.proofs.Common.{cases_lt, length-map, length-take-le, get_or-take, All-cons, All-nil, All-map, All-take, All-get_or, Sig, Trit, X, bit, bits, Parts, count, wire, fix, fix_gates, first_gate, gate_of, value_in, columns, Rails, IsWanted, gate_rails, negation, Reads, ReadsAll, AreWithin, no_rails, rails_at, ReadsAll-at, IsWithin, column_rails, ReadsAbove, is_marked, Below-known}
+use Rattle.clause_decision.proofs.Common.{cases_lt, length-map, length-take-le, get_or-take, All-cons, All-nil, All-map, All-take, All-get_or, Sig, Trit, X, bit, bits, Parts, count, wire, fix, fix_gates, first_gate, gate_of, value_in, columns, Rails, IsWanted, gate_rails, negation, Reads, ReadsAll, AreWithin, no_rails, rails_at, ReadsAll-at, IsWithin, column_rails, ReadsAbove, is_marked}
 use Rattle.std.proofs.lemmas.List.{get_or_append_left}
 use Rattle.cyc_base.proofs.OrderLemmas.{Below-refl}
-use Rattle.cyc_base.proofs.ListLemmas.{parity}
 use Rattle.loops.proofs.Reading.{wire_of_gate}
 use Rattle.ternary_clauses.specs.Encoding.{ReadsGates}
 

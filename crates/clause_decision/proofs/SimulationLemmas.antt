@@ -1,14 +1,13 @@
 -- A loop at one vector, sweep by sweep.
-use Rattle.std.proofs.Common.{◌≡◌, ◌≢◌, inl, inr, ℕ, suc, ◌<◌, ◌+◌, ◌==◌, Bool, true, false, ◌&&◌, leb, if◌then◌else◌, List, [], length, map, get_or, Contains, refl, sym, ap, subst, ◌∙◌, arith}
+use Rattle.std.proofs.Common.{◌≡◌, ◌≢◌, ℕ, suc, ◌<◌, ◌+◌, Bool, true, List, [], length, map, get_or, Contains, sym, ap, subst, ◌∙◌, arith}
 use Rattle.std.specs.List.{All}
 use Rattle.std.proofs.lemmas.Bool.{leb-true}
-use Rattle.clause_decision.proofs.Common.{Contains-get_or, Sig, Trit, bits, count, gate_at, no_gate, wire, fix, home_of, is_cut, CutsAreFixed, first_gate, gate_of, sweeps, value_in, map_agree, IsSweeping, LoopAt, IsLoopAt, gates_in, loops_in}
+use Rattle.clause_decision.proofs.Common.{Contains-get_or, Sig, Trit, bits, count, gate_at, no_gate, wire, fix, is_cut, CutsAreFixed, first_gate, gate_of, sweeps, value_in, map_agree, IsSweeping, LoopAt, IsLoopAt, gates_in, loops_in}
 use Rattle.cover_logic.specs.Extensions.{ext}
-use Rattle.loops.specs.Cuts.{in_one_loop}
 use Rattle.loops.specs.Sweeps.{gate_in, in_loop_of, pin_in}
 use Rattle.loops.proofs.OrderedSweeps.{sweep_of_one_loop}
 use Rattle.loops.proofs.Reading.{choice, in_loop_from}
-use Rattle.clause_decision.specs.Events.{cover_value, IsSwept}
+use Rattle.clause_decision.specs.Events.{IsSwept}
 use Rattle.clause_decision.specs.Simulations.{seen_of}
 use Rattle.clause_decision.proofs.LoopLemmas.{are-loops, gate-fits, moved-unfixed, of-loop, same-home, unmoved-fixed}
 

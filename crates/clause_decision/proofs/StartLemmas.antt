@@ -1,16 +1,14 @@
 -- What inits ask of a state.
-use Rattle.std.proofs.Common.{◌≡◌, ℕ, zero, suc, ◌+◌, ◌*◌, ◌<◌, Bool, true, false, not, ◌&&◌, List, [], ◌∷◌, ◌++◌, length, take, get_or, refl, sym, ap, ap₂, ◌∙◌, arith}
+use Rattle.std.proofs.Common.{◌≡◌, ℕ, zero, suc, ◌+◌, ◌*◌, ◌<◌, Bool, not, List, [], ◌∷◌, ◌++◌, length, take, get_or, refl, arith}
 use Rattle.std.specs.Prelude.{zip}
-use Rattle.clause_decision.proofs.Common.{list_all, All-nil, bit, bits, Latch, Parts, CareSet, is_in_invariant, Rails, says, negation, Reads, ReadsAll, AreWithin, is_one, says-negation, asked_starts}
+use Rattle.clause_decision.proofs.Common.{list_all, All-nil, bit, bits, Latch, Parts, CareSet, is_in_invariant, Rails, says, negation, Reads, ReadsAll, AreWithin, says-negation, asked_starts}
 use Rattle.std.specs.List.{All}
 use Rattle.std.proofs.lemmas.List.{append_assoc, append-nil}
 use Rattle.std.proofs.lemmas.List.Elements.{All-append}
 use Rattle.std.proofs.lemmas.List.Folds.{list_all-append}
 use Rattle.cyc_base.proofs.TruthLemmas.{and_comm}
 use Rattle.netlist.specs.declared.parts.Init.{Init}
-use Rattle.netlist.specs.declared.parts.Init.TheVariants.{Zero, One, Either}
 use Rattle.refusals.specs.Refusals.{is_initial, may_start}
-use Rattle.ternary_clauses.specs.Rails.{is_zero}
 use Rattle.clause_decision.specs.Starts.{asked_of}
 use Rattle.clause_decision.specs.Tests.{is_outside}
 

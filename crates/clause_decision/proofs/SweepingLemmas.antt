@@ -1,5 +1,5 @@
 -- Sweeps of a loop on top of a cone, and how many are needed.
-use Rattle.std.proofs.Common.{◌≡◌, inl, inr, ℕ, zero, suc, ◌<◌, ◌≤◌, ◌+◌, ◌-◌, ◌*◌, Bool, true, false, not, List, [], ◌∷◌, length, map, get_or, leb, Contains, refl, sym, ap, subst, ◌∙◌, arith, true≢false}
+use Rattle.std.proofs.Common.{◌≡◌, inl, inr, ℕ, zero, suc, ◌<◌, ◌≤◌, ◌+◌, ◌-◌, ◌*◌, Bool, true, false, not, List, [], ◌∷◌, length, map, get_or, Contains, refl, sym, ap, subst, ◌∙◌, arith, true≢false}
 use Rattle.std.specs.List.{All, list_any}
 use Rattle.clause_decision.proofs.Common.{cases_lt, length-map, get_or_default, take_all, All-map, All-get_or, Contains-get_or, Sig, Trit, X, bit, bits, Parts, IsNetlist, count, gate_at, no_gate, signal, fix_gates, block_at, Loops, CutsAreFixed, cuts_of, first_gate, gate_of, sweeps, value_in, map_agree, cut_values_agree, fixed_cuts_give_fix, gate_home, CareSet, columns, IsCareVector, Formula, Rails, IsWanted, gate_rails, says, negation, IsModel, HasModelFrom, Grows, Reads, ReadsAll, AreWithin, no_rails, rails_at, is_known, SaysAny, ReadsPlaces, says-negation, All-within-more, problem, HasNoModelUnder, models-same, column_rails, vector_in, ReadsFix, IsCone, first_number, AreTooFewAt, NeedAtLeast, TellsTooFew, AreCutPlaces, LoopAt, IsLoopAt, gates_in, loops_in, is_marked, AreClosed, IsCountAt, IsLeastCount, IsSwept, All-contains, Below-known, IsModelUnder}
 use Rattle.std.proofs.lemmas.Bool.{and_from, le-leb}

@@ -1,8 +1,8 @@
 -- Which gates the models of a cone leave unknown.
-use Rattle.std.proofs.Common.{◌≡◌, inl, inr, ℕ, ◌<◌, ◌+◌, ◌*◌, Bool, true, false, not, ◌&&◌, List, [], ◌∷◌, length, map, take, get_or, min, Option, Some, None, refl, sym, ap, ap₂, subst, ◌∙◌, arith, true≢false}
-use Rattle.std.specs.Prelude.{find, is_some}
+use Rattle.std.proofs.Common.{◌≡◌, inl, inr, ℕ, ◌<◌, ◌+◌, ◌*◌, Bool, true, false, not, List, [], ◌∷◌, length, map, take, get_or, Option, refl, sym, ap, subst, ◌∙◌, arith, true≢false}
+use Rattle.std.specs.Prelude.{is_some}
 use Rattle.std.specs.List.{All, list_any}
-use Rattle.clause_decision.proofs.Common.{cases_lt, length-map, length-take-le, get_or-map, get_or-take, get_or_default, All-get_or, All-map, All-weaker, Trit, Zero, One, X, bits, Parts, wire, fix, fix_gates, count, gate_sig, first_gate, value_in, CareSet, columns, is_allowed, is_in_invariant, is_care_vector, state_of, Formula, Rails, IsWanted, gate_rails, says, negation, IsModel, AreWithin, is_known, no_rails, SaysAny, says-negation, IsWithin, problem, HasNoModelUnder, Asks, models-same, column_rails, vector_in, ReadsAbove, ReadsFix, IsCone, is_marked, unknown_literals, IsModelUnder, Question, IsQuestionOf}
+use Rattle.clause_decision.proofs.Common.{cases_lt, length-map, length-take-le, get_or-map, get_or-take, get_or_default, All-map, All-weaker, Trit, X, bits, Parts, wire, fix, fix_gates, count, gate_sig, value_in, CareSet, columns, is_allowed, is_in_invariant, is_care_vector, state_of, Formula, Rails, gate_rails, says, negation, IsModel, AreWithin, is_known, SaysAny, says-negation, IsWithin, problem, HasNoModelUnder, Asks, models-same, column_rails, vector_in, ReadsAbove, ReadsFix, IsCone, is_marked, unknown_literals, IsModelUnder, Question, IsQuestionOf}
 use Rattle.std.proofs.lemmas.List.{length-take}
 use Rattle.std.proofs.lemmas.List.Folds.{Any-from_list_any, list_any_at}
 use Rattle.std.proofs.lemmas.Simd.{map-map}
@@ -10,11 +10,11 @@ use Rattle.std.proofs.lemmas.Bool.{and_parts}
 use Rattle.cyc_base.specs.Vectors.{vectors}
 use Rattle.cyc_base.proofs.OrderLemmas.{Below-unknown}
 use Rattle.cyc_base.proofs.VectorLemmas.{find-none}
-use Rattle.refusals.specs.Refusals.{is_x, is_undetermined}
+use Rattle.refusals.specs.Refusals.{is_undetermined}
 use Rattle.refusals.proofs.FirstLemmas.{none_passes}
 use Rattle.refusals.proofs.RefusalLemmas.{gate_wire}
 use Rattle.refusals.proofs.ShowingLemmas.{is_x_decides}
-use Rattle.clause_decision.proofs.SignalLemmas.{negation-within, ones-within, three}
+use Rattle.clause_decision.proofs.SignalLemmas.{ones-within, three}
 use Rattle.clause_queries.specs.Each.{CanBe, CannotBe, TellEach}
 use Rattle.clause_queries.specs.Queries.{HasModelUnder, AreRising, IsFirst, IsFirstAt}
 use Rattle.clause_queries.specs.declared.first.First.{First}

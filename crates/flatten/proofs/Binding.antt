@@ -1,5 +1,5 @@
 -- Tables of formals: what they have, and where a pair or an input is at fault.
-use Rattle.std.proofs.Common.{◌≡◌, ℕ, ◌+◌, ◌<◌, Bool, true, false, not, List, [], ◌∷◌, ◌++◌, length, get_or, take, drop, refl, ap, ◌∙◌, cond, if◌then◌else◌, Some, None, Ok, Err, is_some, option_map, arith}
+use Rattle.std.proofs.Common.{◌≡◌, ℕ, ◌+◌, ◌<◌, Bool, true, false, not, List, [], ◌∷◌, ◌++◌, length, get_or, take, drop, refl, ap, ◌∙◌, cond, if◌then◌else◌, Some, None, Err, is_some, option_map, arith}
 use Rattle.flatten.proofs.Common.{drop-item, bytes_eq, Option, BlifModel, FlatFault, actual_of, is_among, formals, pairs_fault, entry, each_once, resolved, bound}
 use Rattle.flatten.specs.declared.fault.FlatFault.TheVariants.{UnknownFormal, FormalTwice, OpenInput}
 use Rattle.flatten.specs.Instances.{formal_fault, pair_fault, first_open}
@@ -58,15 +58,6 @@ pair_fault_once names before (p ∷ pairs) = rw (among_once names p.0, pair_faul
 -- an instance whose model was chosen, before and behind the look at its pairs
 pub entry_refused : (name : List ℕ) (a b : Bool) (f : ℕ → Option FlatFault) (x : Option ℕ) (fault : FlatFault) → entry name a b (λ i. None) x ≡ Err fault → entry name a b f x ≡ Err fault
 entry_refused name a b f x fault e = grind arith
-
-entry_chosen : (name : List ℕ) (a b : Bool) (f : ℕ → Option FlatFault) (x : Option ℕ) (i : ℕ) → entry name a b (λ j. None) x ≡ Ok i → entry name a b f x ≡ elim (f i) [ Some fault ↦ Err fault | None ↦ Ok i ]
-entry_chosen name a b f x i e = grind arith
-
-pub entry_faulty : (name : List ℕ) (a b : Bool) (f : ℕ → Option FlatFault) (x : Option ℕ) (i : ℕ) (fault : FlatFault) → entry name a b (λ j. None) x ≡ Ok i → f i ≡ Some fault → entry name a b f x ≡ Err fault
-entry_faulty name a b f x i fault e h = rw (entry_chosen name a b f x i e, h) refl
-
-pub entry_fit : (name : List ℕ) (a b : Bool) (f : ℕ → Option FlatFault) (x : Option ℕ) (i : ℕ) → entry name a b (λ j. None) x ≡ Ok i → f i ≡ None → entry name a b f x ≡ Ok i
-entry_fit name a b f x i e h = rw (entry_chosen name a b f x i e, h) refl
 
 pub none_there : (o : Option (List ℕ)) → is_some o ≡ false → o ≡ None
 none_there o h = grind arith

@@ -134,9 +134,6 @@ wires_at net block gates k d pins old new same less are before adds = record {
 pub pin_at : (net : Parts) (block gates : List ℕ) (k d : ℕ) (pins : List Sig) → gates ≡ block → k < length gates → pins ≡ (gate_at net (get_or gates k d)).pins → All (IsRead net block) pins
 pin_at net block gates k d pins same less are i e within = grind (arith, pins_at net block gates k d pins same less are, Contains-get_or pins i e within)
 
-pub wires_all : (net : Parts) (block gates : List ℕ) (k : ℕ) (outside : List Sig) → gates ≡ block → length gates ≤ k → AreWiresOf net block k outside → AreWiresOf net block (length block) outside
-wires_all net block gates k outside same all is = record { wires = is.wires; all = λ i less. is.all i (let e = ap length same in omega (arith, e, less, all)) }
-
 -- all that a gate of closed ones reads
 pub read_all : (net : Parts) (gates : List ℕ) (outside : List Sig) (k d : ℕ) → k < length gates → AreClosed net gates outside → All (IsAmong net gates outside) (gate_at net (get_or gates k d)).pins
 read_all net gates outside k d less closed =
@@ -164,10 +161,6 @@ place_outside net outside gates s place p = grind (arith, origins-size net outsi
 pub place_gate : (net : Parts) (outside : List Sig) (gates : List ℕ) (s : Sig) (gate place number : ℕ) → s ≡ gate_sig net gate → IsPlaceOf gates gate place → number ≡ place + length outside → IsPlaceOf (origins net outside gates) s number
 place_gate net outside gates s gate place number is p at =
     grind (arith, origins-size net outside gates, get_or_default (origins net outside gates) number s (signal 0), origin-gate net outside gates number place p.within, get_or_default gates place 0 gate p.within)
-
--- the numbers of more pins
-pub numbers_none : (net : Parts) (outside : List Sig) (gates : List ℕ) (pins : List Sig) → AreNumbersOf (origins net outside gates) (take 0 pins) []
-numbers_none net outside gates pins = record { are = refl; within = λ k d l. absurd (omega (arith, l)) }
 
 pub numbers_more : (signals pins numbers new : List Sig) (i : ℕ) (d n : Sig) → i < length pins → new ≡ numbers ++ n ∷ [] → AreNumbersOf signals (take i pins) numbers → IsPlaceOf signals (get_or pins i d) n.0 → AreNumbersOf signals (take (i + 1) pins) new
 numbers_more signals pins numbers new i d n less is before place = rw is (record {

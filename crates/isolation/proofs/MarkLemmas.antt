@@ -62,16 +62,10 @@ pins-marked net gate k pins old new same all are = add-same (IsOnPin net k gate)
 pub near-marked : (net : Parts) (gate : ℕ) (marks new : List Bool) → gate < length marks → AddMarks (λ m. Feeds net m gate) (set marks gate true) new → AddMarks (IsNear net gate) marks new
 near-marked net gate marks new less are = add-both (λ m. m ≡ gate) (λ m. Feeds net m gate) (IsNear net gate) marks (set marks gate true) new (λ m e. inl e) (λ m f. inr f) (λ m n. n) (add-one marks gate less) are
 
-pub near-more : (net : Parts) (gates : List ℕ) (k d : ℕ) (old mid new : List Bool) → k < length gates → AddMarks (IsNearOne net gates k) old mid → AddMarks (IsNear net (get_or gates k d)) mid new → AddMarks (IsNearOne net gates (k + 1)) old new
-near-more net gates k d old mid new less one two = grind (arith, get_or_default gates k d 0 less, add-both (IsNearOne net gates k) (IsNear net (get_or gates k d)) (IsNearOne net gates (k + 1)) old mid new, cases_lt)
-
 pub near-none : (net : Parts) (gates : List ℕ) (m : ℕ) → ¬ IsNearOne net gates 0 m
 near-none net gates m near = let w = near.within in omega (arith, w)
 
 module _ (net : Parts) (blocks : Blocks) (are : AreBlocksOf net blocks) (old : List Bool) where
-  pub marked-first : (b : ℕ) → length blocks.list ≤ b → length old ≡ length net.gates → AreMarkedFrom net blocks old b old
-  marked-first b all width = grind arith
-
   pub marked-more : (b : ℕ) (gates : List ℕ) (marks new : List Bool) → b < length blocks.list → gates ≡ (block_at blocks b).gates → AreMarkedFrom net blocks old (b + 1) marks → AddMarks (IsWithMark net gates marks) marks new → AreMarkedFrom net blocks old b new
   marked-more b gates marks new less same before added = record {
     width = added.width ∙ before.width;

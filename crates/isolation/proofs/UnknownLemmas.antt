@@ -56,10 +56,6 @@ unknown-vector s t r n true_node b lawful keeps node function is same other = el
       absurd (true≢false (sym (eq-eqb n.number true_node.number (ap (λ (m : Node). m.number) (e ∙ sym is))) ∙ sym same ∙ other))
 ]
 
--- in an earlier store
-pub unknown-back : (s t : Arena) (r : Rails) → KeepsNodes s t → AreRailsOf s r → HasUnknownVector t r → HasUnknownVector s r
-unknown-back s t r keeps proper at = record { vector = at.vector; width = at.width ∙ keeps.vars; is = sym (value_of-kept keeps r proper at.vector) ∙ at.is }
-
 -- the first rails are known, and the next
 pub known-next : {s t : Arena} → KeepsNodes s t → (rails : List Rails) → All (AreRailsOf s) rails → (i : ℕ) → i < length rails →
     ((k : ℕ) (none : Rails) → k < i → (v : List Bool) → value_of s (get_or rails k none) v ≢ X) → ((v : List Bool) → value_of t (rails_at rails i) v ≢ X) →

@@ -1,5 +1,5 @@
 -- The parts of an excerpt make a netlist.
-use Rattle.std.proofs.Common.{◌≡◌, ◌≢◌, inl, inr, ◌⊎◌, ℕ, ◌+◌, ◌-◌, ◌<◌, ◌≤◌, true, false, List, [], ◌∷◌, ◌++◌, length, map, get_or, eqb, Some, None, refl, sym, ap, ap₂, ◌∙◌, subst, arith, Contains, take, slice_get}
+use Rattle.std.proofs.Common.{◌≡◌, ◌≢◌, inl, inr, ◌⊎◌, ℕ, ◌+◌, ◌-◌, ◌<◌, ◌≤◌, true, false, List, [], ◌∷◌, ◌++◌, length, map, get_or, eqb, Some, refl, sym, ap, ap₂, ◌∙◌, subst, arith, Contains, take, slice_get}
 use Rattle.isolation.proofs.Common.{cases_lt, eqb-true, ext_get_or, get_or-map, get_or_default, get_or-append_right, length-map, length-append, map-append, All, list_any, Sig, Gate, Parts, IsNetlist, count, gate_at, gate_sig, no_gate, signal, first_gate, origins, origin, gate_in, IsExcerpt, AreClosed, AreCopies, name_at, Contains-get_or}
 use Rattle.cyc_base.proofs.ListLemmas.{Contains-map}
 use Rattle.std.proofs.lemmas.Bool.{ne_eqb}
@@ -178,10 +178,6 @@ numerable net gates outside valid gates_in outside_in apart closed = grind (arit
 pub parts_excerpt : (net : Parts) (outside : List Sig) (gates : List ℕ) (small : Parts) (inputs : List (List ℕ)) (copies : List Gate) → AreApart net gates outside →
     small.inputs ≡ inputs → inputs ≡ map (name_at net) outside → small.latches ≡ [] → small.gates ≡ copies → AreCopies net (origins net outside gates) gates copies (length gates) → IsExcerpt net outside gates small
 parts_excerpt net outside gates small inputs copies apart i names l g are = grind (arith, length-map outside (name_at net))
-
-pub parts_named : (net : Parts) (outside : List Sig) (gates : List ℕ) (small : Parts) (inputs : List (List ℕ)) (copies : List Gate) → small.name ≡ net.name →
-    small.inputs ≡ inputs → inputs ≡ map (name_at net) outside → small.latches ≡ [] → small.gates ≡ copies → small.outputs ≡ [] → small.clock ≡ None → AreCopies net (origins net outside gates) gates copies (length gates) → IsNamedBy net outside gates small
-parts_named net outside gates small inputs copies name i names l g o k are = grind arith
 
 -- parts that make a netlist have no fault
 pub no_fault : (parts : Parts) (fault : PartsFault) → (fault ≡ Memory) ⊎ (first_fault parts ≡ Some fault) → (fault ≢ Memory) → IsNetlist parts → ⊥

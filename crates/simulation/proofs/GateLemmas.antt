@@ -1,6 +1,6 @@
 -- A gate outside loops is settled by its cover alone.
 use Rattle.std.proofs.Common.{◌≡◌, ◌≢◌, inl, inr, ℕ, ◌+◌, ◌<◌, ◌≤◌, Bool, true, false, List, length, set, ap, sym, ◌∙◌, arith, Contains, true≢false}
-use Rattle.simulation.proofs.Common.{cases_lt, cases_eq, get_or-set_same, get_or-set_other, length-set, Sig, Trit, X, Parts, IsNetlist, count, gate_at, gate_sig, wire, gate_value, fix, fix_gates, Blocks, AreBlocksOf, home_of, AreKept, AreSettled, is_due, vector_of}
+use Rattle.simulation.proofs.Common.{cases_lt, cases_eq, get_or-set_same, get_or-set_other, length-set, Sig, Trit, X, Parts, IsNetlist, count, gate_at, gate_sig, wire, gate_value, fix, fix_gates, Blocks, AreBlocksOf, home_of, AreKept, AreSettled, vector_of}
 use Rattle.loops.specs.Blocks.{block_at}
 use Rattle.loops.proofs.Told.{other_blocks_are_single}
 use Rattle.loops.proofs.Walks.{leads-step}
@@ -77,8 +77,3 @@ module _ (net : Parts) (is : IsNetlist net) (blocks : Blocks) (are : AreBlocksOf
                     get_or-set_other values (gate_sig net g).0 (gate_sig net n).0 x X other ∙ settled.each n l early ∙ vector
               ];
         }
-
--- the block of the gate that drives a signal is due, if that of a gate that drives it is
-pub due_at_gate : (net : Parts) (blocks : Blocks) (due : List Bool) (place g n : ℕ) (signal : Sig) → is_due due place ≡ true → home_of blocks g ≡ place →
-    signal ≡ gate_sig net g → signal ≡ gate_sig net n → is_due due (home_of blocks n) ≡ true
-due_at_gate net blocks due place g n signal is home from_g from_n = grind arith

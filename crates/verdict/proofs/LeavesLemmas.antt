@@ -1,7 +1,6 @@
 -- The invariant on the next state, as a function of the decision.
-use Rattle.std.proofs.Common.{◌≡◌, inl, inr, ℕ, ◌-◌, ◌<◌, ◌≤◌, Bool, true, false, not, ◌&&◌, if◌then◌else◌, List, [], ◌∷◌, length, map, get_or, Option, Some, None, refl, sym, ap, ◌∙◌, arith}
-use Rattle.std.specs.Prelude.{replicate}
-use Rattle.verdict.proofs.Common.{option_map_or, cases_lt, get_or-map, get_or_past, get_or_append_left, length-map, Node, Arena, den, nodes, Sig, Trit, X, bit, bits, IsWide, is_bit, Latch, Parts, wire, fix, fix_gates, next, IsNetlist, value_in, laid, CareModel, IsCareOf, CareSet, columns, is_one, holds_at, is_in_invariant, is_care_vector, leaves, next_state, care_vector_decides, read_by, IsOfModel, IsLaid, SaysCare, next_within, Tells, difference, HasValues}
+use Rattle.std.proofs.Common.{◌≡◌, inl, inr, ℕ, ◌-◌, ◌<◌, ◌≤◌, Bool, true, false, not, ◌&&◌, List, [], ◌∷◌, length, map, get_or, Option, Some, None, refl, sym, ap, ◌∙◌, arith}
+use Rattle.verdict.proofs.Common.{option_map_or, cases_lt, get_or-map, get_or_past, get_or_append_left, length-map, Node, Arena, den, nodes, Sig, Trit, X, bit, bits, IsWide, is_bit, Latch, Parts, wire, fix, fix_gates, next, IsNetlist, value_in, laid, CareModel, IsCareOf, CareSet, columns, is_one, holds_at, is_in_invariant, is_care_vector, leaves, next_state, care_vector_decides, read_by, IsOfModel, IsLaid, SaysCare, Tells, difference, HasValues}
 use Rattle.cyc_base.specs.declared.trit.Trit.TheVariants.{Zero}
 use Rattle.netlist.specs.declared.parts.Init.TheVariants as inits
 use Rattle.netlist.specs.Fixpoint.{outs}
@@ -16,10 +15,6 @@ use Rattle.verdict.proofs.CareLemmas.{model_is, read-bits}
 use Rattle.verdict.proofs.DecisionLemmas.{IsMadeOf, vector_of, length-vector_of, laid-vector_of, made-constant, made-laid, made-listed, made-same, made-two, made-signal}
 use Rattle.verdict.proofs.PartLemmas.{leaving-value}
 use Rattle.verdict.proofs.WorkLemmas.{there_and}
-
--- what latches load at a vector of the set
-pub within-set : (net : Parts) (a : Arena) (set : Node) (v : List Bool) → den a set (laid net v) ≡ true → next_within net a set v ≡ next net (bits v)
-within-set net a set v is = ap (λ (t : Bool). if t then next net (bits v) else replicate (length net.latches) X) is
 
 -- ---- the model's output on the next values
 

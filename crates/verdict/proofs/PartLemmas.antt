@@ -20,10 +20,6 @@ use Rattle.clause_decision.specs.Loads.{LoadsAreKnown}
 pub Tells-kept : {net : Parts} {s t : Arena} {n : Node} {test : List Bool → Bool} → KeepsNodes s t → Tells net s n test → Tells net t n test
 Tells-kept {net} {n = n} k is = grind arith
 
--- another node of the same function, in other diagrams
-pub Tells-same : {net : Parts} {s t : Arena} {m n : Node} {test : List Bool → Bool} → t.vars ≡ s.vars → IsNodeOf t n → ((bits : List Bool) → den t n bits ≡ den s m bits) → Tells net s m test → Tells net t n test
-Tells-same {net} vars node same is = record { node = node; value = λ v wide. same (laid net v) ∙ is.value v (wide ∙ vars) }
-
 -- the vectors of the first set that aren't in the second
 pub Tells-minus : {net : Parts} {s t : Arena} {m n r : Node} {f g : List Bool → Bool} → t.vars ≡ s.vars → IsNodeOf t r → ((v : List Bool) → den t r v ≡ difference s m n v) → Tells net s m f → Tells net s n g → Tells net t r (λ v. f v && not (g v))
 Tells-minus {net} vars node same first second = grind arith

@@ -1,7 +1,6 @@
 use Rattle.std.proofs.Common.{List, get_or, sym, subst, arith}
 use Rattle.std.specs.List.{All}
 use Rattle.clause_decision.proofs.Common.{Rails, SayPairs}
-use Rattle.clause_decision.specs.declared.pairs.Hint.{Hint}
 use Rattle.clause_decision.specs.Pairs.{HasRails}
 use Rattle.clause_decision.proofs.ApartLemmas.{hints-have_rails, pairs-have_rails, pairs-told, rails-still}
 use Rattle.clause_decision.proofs.apart.asked_of.Goals as goal

@@ -1,5 +1,5 @@
-use Rattle.std.proofs.Common.{List, subst, sym, arith}
-use Rattle.clause_decision.proofs.Common.{Rails, SaysColumns, columns, IsOver}
+use Rattle.std.proofs.Common.{arith}
+use Rattle.clause_decision.proofs.Common.{columns}
 use Rattle.clause_decision.proofs.FormulaLemmas.{over-columns}
 use Rattle.clause_decision.proofs.care.care_formula.Goals as goal
 

@@ -1,7 +1,6 @@
-use Rattle.std.proofs.Common.{◌≡◌, ◌∙◌, ◌-◌, ℕ, length, take, drop, List, subst, sym, ap, arith}
-use Rattle.clause_decision.proofs.Common.{take_all, Rails, is_in_invariant, ReadsWithin, SaysTest}
+use Rattle.std.proofs.Common.{◌≡◌, ◌-◌, length, take, drop, List, arith}
+use Rattle.clause_decision.proofs.Common.{take_all, Rails}
 use Rattle.std.proofs.lemmas.List.{length-drop}
-use Rattle.std.specs.Prelude.{IfSome}
 use Rattle.clause_decision.proofs.FormulaLemmas.{care-formula}
 use Rattle.clause_decision.proofs.ModelLemmas.{assume-reads, invariant-reads}
 use Rattle.clause_decision.proofs.care.say_care.Goals as goal

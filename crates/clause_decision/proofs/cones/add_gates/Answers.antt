@@ -1,5 +1,5 @@
-use Rattle.std.proofs.Common.{List, Bool, sym, subst, arith}
-use Rattle.clause_decision.proofs.Common.{IfOk-weaker, IsClosed, SaysNetlist, Rails}
+use Rattle.std.proofs.Common.{List, Bool, subst, arith}
+use Rattle.clause_decision.proofs.Common.{IfOk-weaker, SaysNetlist, Rails}
 use Rattle.clause_decision.proofs.ConeLemmas.{closed-by_pins, cone-of}
 use Rattle.clause_decision.proofs.cones.add_gates.Goals as goal
 

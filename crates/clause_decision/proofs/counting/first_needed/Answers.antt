@@ -1,5 +1,5 @@
-use Rattle.std.proofs.Common.{rules, ◌≡◌, ◌∙◌, ◌≤◌, ℕ, List, Bool, true, length, ap, subst, sym, arith}
-use Rattle.clause_decision.proofs.Common.{and_parts, IfOk-weaker, Parts, columns, is_allowed, is_care_vector, is_in_invariant, state_of, IsCareVector, first_number, NeedAtLeast, IsCountAt, LoopAt, gates_in, loops_in}
+use Rattle.std.proofs.Common.{rules, ◌≡◌, ◌∙◌, List, Bool, true, length, ap, subst, sym, arith}
+use Rattle.clause_decision.proofs.Common.{and_parts, IfOk-weaker, Parts, columns, is_allowed, is_care_vector, is_in_invariant, state_of, IsCareVector, IsCountAt, LoopAt, gates_in, loops_in}
 use Rattle.clause_decision.proofs.SweepingLemmas.{first-needed, vector-needed}
 use Rattle.clause_decision.proofs.counting.first_needed.Goals as goal
 

@@ -1,7 +1,6 @@
-use Rattle.std.proofs.Common.{◌≡◌, ◌∙◌, List, Bool, subst, ap₂, arith}
-use Rattle.clause_decision.proofs.Common.{Parts, vector_in, AreTooFewAt, TellsTooFew, IsCountAt, LoopAt, gates_in, loops_in}
-use Rattle.clause_decision.specs.Countings.{AreEnough}
-use Rattle.clause_decision.proofs.SweepingLemmas.{more-needed, these-needed}
+use Rattle.std.proofs.Common.{List, Bool, arith}
+use Rattle.clause_decision.proofs.Common.{vector_in, LoopAt}
+use Rattle.clause_decision.proofs.SweepingLemmas.{more-needed}
 use Rattle.clause_decision.proofs.counting.needed_by.Goals as goal
 
 pub returns-in_ok-count_at-in-Model : goal.returns-in_ok-count_at-in-Model

@@ -1,4 +1,4 @@
-use Rattle.std.proofs.Common.{rules, arith}
+use Rattle.std.proofs.Common.{arith}
 use Rattle.cyc_base.proofs.VectorLemmas.{find-none}
 use Rattle.clause_decision.proofs.Common.{columns}
 use Rattle.clause_decision.specs.Tests.{is_leaving}

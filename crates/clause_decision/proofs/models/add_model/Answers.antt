@@ -1,6 +1,5 @@
 use Rattle.std.proofs.Common.{◌≡◌, ◌∙◌, ◌<◌, Bool, List, true, length, replicate, get_or, subst, sym, ap, arith}
 use Rattle.clause_decision.proofs.Common.{get_or_default, Sig, Rails, IsClosed, SaysNetlist, no_rails, rails_at}
-use Rattle.ternary_clauses.specs.Encoding.{AreNeverUnknown}
 use Rattle.clause_decision.proofs.ModelLemmas.{all-closed, all-known, output-says}
 use Rattle.clause_decision.proofs.models.add_model.Goals as goal
 use Rattle.clause_decision.proofs.models.add_model.Goals.{After-deref-2}

@@ -1,6 +1,6 @@
-use Rattle.std.proofs.Common.{◌≡◌, ℕ, List, length, take, get_or, subst, arith}
+use Rattle.std.proofs.Common.{ℕ, List, take, get_or, arith}
 use Rattle.std.proofs.lemmas.List.{with_items_is}
-use Rattle.clause_decision.proofs.Common.{gate_at, LoopAt, gates_in, HasGainedReader}
+use Rattle.clause_decision.proofs.Common.{LoopAt, gates_in}
 use Rattle.clause_decision.proofs.LoopLemmas.{gates-fit}
 use Rattle.clause_decision.proofs.ReaderLemmas.{readers-more, taken-next}
 use Rattle.clause_decision.proofs.readers.readers_in.Goals as goal

@@ -1,6 +1,5 @@
-use Rattle.std.proofs.Common.{rules, ◌<◌, ◌*◌, arith}
+use Rattle.std.proofs.Common.{arith}
 use Rattle.std.proofs.lemmas.List.Elements.{All-same}
-use Rattle.clause_decision.specs.Sweepings.{open_literals}
 use Rattle.clause_decision.proofs.SweepingLemmas.{open-within, says-open}
 use Rattle.clause_decision.proofs.sweeping.add_open.Goals as goal
 

@@ -1,5 +1,4 @@
 use Rattle.std.proofs.Common.{rules, arith}
-use Rattle.clause_decision.proofs.Common.{IsSwept}
 use Rattle.clause_decision.specs.Sweepings.{SaysOpen}
 use Rattle.clause_decision.proofs.SweepingLemmas.{swept-grows, tells-open}
 use Rattle.clause_decision.proofs.sweeping.ask_open.Goals as goal

@@ -1,5 +1,4 @@
-use Rattle.std.proofs.Common.{◌≡◌, ℕ, ◌*◌, ◌<◌, List, sym, ap, subst, ◌∙◌, arith}
-use Rattle.std.specs.List.{All}
+use Rattle.std.proofs.Common.{◌≡◌, ℕ, List, ap, subst, ◌∙◌, arith}
 use Rattle.clause_decision.proofs.Common.{SaysAny, unknown_literals}
 use Rattle.clause_decision.proofs.UnknownLemmas.{unknown_literals-within, unknowns-told}
 use Rattle.clause_decision.proofs.unknown.add_unknowns.Goals as goal

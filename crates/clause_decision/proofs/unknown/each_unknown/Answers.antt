@@ -1,7 +1,6 @@
-use Rattle.std.proofs.Common.{◌≡◌, ◌∙◌, ◌*◌, List, ap, subst, sym, arith}
+use Rattle.std.proofs.Common.{◌≡◌, ◌∙◌, List, ap, subst, sym, arith}
 use Rattle.std.proofs.lemmas.Option.{IfSome_then}
 use Rattle.clause_decision.proofs.Common.{IfOk-weaker, Rails, IsWithin, unknown_literals}
-use Rattle.clause_decision.proofs.FormulaLemmas.{two-within}
 use Rattle.clause_decision.proofs.UnknownLemmas.{each-told, unknown_literals-within}
 use Rattle.clause_decision.proofs.unknown.each_unknown.Goals as goal
 use Rattle.clause_decision.proofs.unknown.each_unknown.Goals.{After-deref-2}

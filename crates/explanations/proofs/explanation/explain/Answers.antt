@@ -1,10 +1,6 @@
-use Rattle.std.proofs.Common.{◌≡◌, ◌++◌, List, ℕ, length, ap, sym, ◌∙◌, subst, arith}
-use Rattle.std.specs.List.{All}
+use Rattle.std.proofs.Common.{arith}
 use Rattle.cyc_base.specs.Values.{bits}
 use Rattle.netlist.specs.Fixpoint.{fix}
-use Rattle.short_cycles.specs.Cycles.{IsShortest, ReachesNone}
-use Rattle.explanations.specs.Explained.{IsUnknown, AreNeeded}
-use Rattle.explanations.specs.Graph.{IsOpenGraph}
 use Rattle.explanations.proofs.EndlessLemmas.{unknown_reaches}
 use Rattle.explanations.proofs.GraphLemmas.{explained, found_unknown}
 use Rattle.explanations.proofs.explanation.explain.Goals as goal

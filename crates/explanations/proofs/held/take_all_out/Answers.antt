@@ -1,8 +1,6 @@
-use Rattle.std.proofs.Common.{◌+◌, ◌∙◌, false, true, subst, sym, arith}
-use Rattle.explanations.specs.Held.{IsTrying}
+use Rattle.std.proofs.Common.{arith}
 use Rattle.explanations.proofs.HeldLemmas.{trying_on, trying_next}
 use Rattle.explanations.proofs.held.take_all_out.Goals as goal
-use Rattle.explanations.proofs.held.take_all_out.Goals.{then-any, else-any}
 
 pub loop-gate-preserved : goal.loop-gate-preserved
 loop-gate-preserved c =

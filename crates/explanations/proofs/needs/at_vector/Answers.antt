@@ -1,7 +1,4 @@
-use Rattle.std.proofs.Common.{◌≡◌, arith}
-use Rattle.netlist.specs.Fixpoint.{fix}
-use Rattle.netlist.specs.Netlists.{count}
-use Rattle.explanations.specs.Explained.{AreAllUnknown}
+use Rattle.std.proofs.Common.{arith}
 use Rattle.explanations.proofs.NeedLemmas.{vector_holding_at}
 use Rattle.explanations.proofs.needs.at_vector.Goals as goal
 
