@@ -21,17 +21,11 @@ module _ (l : Looped) (valid : IsNetlist l.net) (l_is : IsLooped l) (n : ℕ) (l
 
   -- it is the gate alone
   alone : (m : ℕ) → m < length l.net.gates → home_of l.blocks m ≡ home_of l.blocks n → m ≡ n
-  alone m inside home = elim ((l_is.blocks.same m n inside less).0 home) [
-    | inl same ↦ same
-    | inr loop ↦ absurd (no-walk (leads-trans l.net n m n loop.back loop.there))
-  ]
+  alone m inside home = grind (arith, no-walk, leads-trans l.net n m n)
 
   -- which reads gates of earlier blocks
   earlier : (g : ℕ) → Feeds l.net g n → home_of l.blocks g < home_of l.blocks n
-  earlier g feeds = elim (cases_eq (home_of l.blocks g) (home_of l.blocks n)) [
-    | inl same ↦ absurd (no-walk (leads-step l.net n n (subst (λ (m : ℕ). Feeds l.net m n) (alone g feeds.source same) feeds)))
-    | inr other ↦ let after = l_is.blocks.after_reads g n feeds in omega (arith, after, other)
-  ]
+  earlier g feeds = grind (arith, cases_eq (home_of l.blocks g) (home_of l.blocks n), no-walk, leads-step l.net n n, alone g feeds.source)
 
   no-cut : is_cut l.cut.wires n ≡ true → ⊥
   no-cut cut_wire = let leads = (l_is.cut.wires n).0 cut_wire in no-walk (leads-any l.net n n leads.via leads.walk)
@@ -60,21 +54,10 @@ pub record HasLoopsBelow (blocks : Blocks) (b : ℕ) (loops : List LoopSteps) : 
   pub rise : AllPairs (λ x y. x.block < y.block) loops
 
 pub loops-start : (blocks : Blocks) → HasLoopsBelow blocks 0 []
-loops-start blocks = record {
-  only = λ k none less. absurd (omega (arith, less));
-  each = λ p less loop. absurd (omega (arith, less));
-  rise = λ i j none less inside. absurd (omega (arith, inside));
-}
+loops-start blocks = grind arith
 
 pub loops-skip : (blocks : Blocks) (b : ℕ) (loops : List LoopSteps) → ¬ IsLoopAt blocks b → HasLoopsBelow blocks b loops → HasLoopsBelow blocks (b + 1) loops
-loops-skip blocks b loops plain has = record {
-  only = λ k none less. let o = has.only k none less in (o.0, omega (arith, o.1));
-  each = λ p less loop. elim (cases_eq p b) [
-    | inl same ↦ absurd (plain (subst (IsLoopAt blocks) same loop))
-    | inr other ↦ has.each p (omega (arith, less, other)) loop
-  ];
-  rise = has.rise;
-}
+loops-skip blocks b loops plain has = grind arith
 
 pub loops-push : (blocks : Blocks) (b : ℕ) (loops : List LoopSteps) (found : LoopSteps) → IsLoopAt blocks b → found.block ≡ b → HasLoopsBelow blocks b loops → HasLoopsBelow blocks (b + 1) (loops ++ found ∷ [])
 loops-push blocks b loops found loop is has = record {
@@ -87,19 +70,11 @@ loops-push blocks b loops found loop is has = record {
 }
 
 pub loops-end : (blocks : Blocks) (b : ℕ) (loops : List LoopSteps) → length blocks.list ≤ b → HasLoopsBelow blocks b loops → HasEachLoopOnce blocks loops
-loops-end blocks b loops all has = record {
-  only = λ k none less. (has.only k none less).0;
-  each = λ p loop. has.each p (let w = loop.within in omega (arith, w, all)) loop;
-  once = λ i j none li lj same. elim (cases_lt i j) [
-    | inl less ↦ absurd (omega (arith, has.rise i j none less lj, same))
-    | inr past ↦ elim (cases_lt j i) [ inl more ↦ absurd (omega (arith, has.rise j i none more li, same)) | inr equal ↦ omega (arith, past, equal) ]
-  ];
-}
+loops-end blocks b loops all has = grind arith
 
 -- a block has a gate, and all of its gates are at home there
 pub gates-some : (l : Looped) → IsLooped l → (b : ℕ) → b < length l.blocks.list → (gates : List ℕ) → gates ≡ (block_at l.blocks b).gates → 0 < length gates
 gates-some l l_is b within gates same = let filled = l_is.blocks.filled b within in omega (arith, filled, ap length same)
 
 pub gates-home : (l : Looped) → IsLooped l → (b : ℕ) → b < length l.blocks.list → (gates : List ℕ) → gates ≡ (block_at l.blocks b).gates → All (λ n. (n < length l.net.gates) × (home_of l.blocks n ≡ b)) gates
-gates-home l l_is b within gates same k none less =
-    gate_home l.net l.blocks l_is.blocks b (get_or gates k none) within (subst (λ (ns : List ℕ). Contains ns (get_or gates k none)) same (All-contains_itself gates k none less))
+gates-home l l_is b within gates same k none less = grind (arith, gate_home l.net l.blocks l_is.blocks b (get_or gates k none) within, All-contains_itself gates k none less)

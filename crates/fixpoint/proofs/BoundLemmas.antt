@@ -36,10 +36,7 @@ sweep-bounds l valid b v k order d before rails ready i inside swept few wide =
 
 -- a loop has at most as many cut wires as the netlist has gates
 pub cuts-few : (net : Parts) (blocks : Blocks) (cut : Cut) → AreBlocksOf net blocks → (b : ℕ) → IsLoopAt blocks b → length (filter (is_cut cut.wires) (block_at blocks b).gates) ≤ length net.gates
-cuts-few net blocks cut are b loop =
-    let gates : length (block_at blocks b).gates ≡ length (filter (λ n. home_of blocks n == b) (range_with_len 0 (length blocks.home))) = ap length (are.gates b loop.within) in
-    let listed = filter-no_longer (λ n. home_of blocks n == b) (range_with_len 0 (length blocks.home)) in
-    omega (arith, filter-no_longer (is_cut cut.wires) (block_at blocks b).gates, gates, listed, length-range_with_len 0 (length blocks.home), are.homes)
+cuts-few net blocks cut are b loop = grind (arith, filter-no_longer, filter-no_longer (is_cut cut.wires) (block_at blocks b).gates, length-range_with_len 0 (length blocks.home))
 
 -- the gates of an order of a block cost at most what all gates of the block do
 pub order-few : (net : Parts) (blocks : Blocks) (cut : Cut) → AreBlocksOf net blocks → (b : ℕ) → IsLoopAt blocks b → (order : List ℕ) → IsOrderOf net (is_cut cut.wires) (block_at blocks b).gates order
@@ -50,16 +47,11 @@ order-few net blocks cut are b loop order follows =
 
 -- at most one sweep more than gates
 pub loop-cost : (k G one all : ℕ) → one ≤ all → k ≤ G → 2 * (k * one) + 2 * one ≤ 2 * ((G + 1) * all)
-loop-cost k G one all less few =
-    let a = mul-le-mul_right {m = k + 1} {n = G + 1} one (omega (arith, few)) in
-    let b = mul-le-mul_left {m = one} {n = all} (G + 1) less in
-    omega (arith, a, b)
+loop-cost k G one all less few = grind arith
 
 -- one gate alone
 pub plain-cost : (x G all : ℕ) → x + 1 ≤ all → 2 * x ≤ 2 * ((G + 1) * all)
-plain-cost x G all less =
-    let a = mul-le-mul_right {m = 1} {n = G + 1} all (omega arith) in
-    omega (arith, a, less)
+plain-cost x G all less = grind arith
 
 pub gate-few : (net : Parts) (blocks : Blocks) (n : ℕ) → n < length net.gates → cost net n ≤ block_cost net blocks (home_of blocks n)
 gate-few net blocks n less = total-at (cost net) (λ m. home_of blocks m == home_of blocks n) n (length net.gates) less (eq-eqb (home_of blocks n) (home_of blocks n) refl)
@@ -83,9 +75,7 @@ wide-same net loops v u s t vars same {w} wide = subst (λ (x : ℕ). IsWide x (
 
 -- one block more, and all of them
 pub below-next : (net : Parts) (blocks : Blocks) (b : ℕ) → 4 * ((length net.gates + 1) * below_cost net blocks b) + 4 * ((length net.gates + 1) * block_cost net blocks b) ≤ 4 * ((length net.gates + 1) * below_cost net blocks (b + 1))
-below-next net blocks b =
-    let next = total-next (home_of blocks) (cost net) b (length net.gates) in
-    subst (λ (x : ℕ). 4 * ((length net.gates + 1) * below_cost net blocks b) + 4 * ((length net.gates + 1) * block_cost net blocks b) ≤ 4 * ((length net.gates + 1) * x)) next (omega arith)
+below-next net blocks b = grind (arith, total-next (home_of blocks) (cost net) b (length net.gates))
 
 pub below-all : (net : Parts) (blocks : Blocks) (b : ℕ) → 4 * ((length net.gates + 1) * below_cost net blocks b) ≤ 4 * ((length net.gates + 1) * effort net)
 below-all net blocks b =

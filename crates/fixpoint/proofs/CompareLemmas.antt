@@ -24,35 +24,20 @@ module _ {s t : Arena} (keeps : KeepsNodes s t) (care : Node) (cared : IsNodeOf 
   wide-compared {w} wide = subst (λ (v : ℕ). IsWide v (IsCompared t care fewer) w) (sym keeps.vars) (IsWide-fewer (IsCompared s care more) (IsCompared t care fewer) w compared-into wide)
 
 pub step-nodes : (s : Arena) (steps : List (List Rails)) → All (All (AreNodes s)) steps → (n : Node) → IsStepNode steps n → IsNodeOf s n
-step-nodes s steps all n is =
-    let inside : All (AreNodes s) is.step = All-contains (All (AreNodes s)) steps is.step all is.among in
-    let of : AreNodes s is.rails = All-contains (AreNodes s) is.step is.rails inside is.within in
-    elim is.is [ inl e ↦ subst (IsNodeOf s) (sym e) of.one | inr e ↦ subst (IsNodeOf s) (sym e) of.zero ]
+step-nodes s steps all n is = grind arith
 
 -- a node of two rails is one of the steps that have them
 pair-contains : {A : Type 0} (x y z : A) → Contains (x ∷ y ∷ []) z → (x ≡ z) ⊎ (y ≡ z)
-pair-contains x y z (zero, l, e) = inl e
-pair-contains x y z (suc zero, l, e) = inr e
-pair-contains x y z (suc (suc k), l, e) = absurd (omega (arith, l))
+pair-contains x y z h = grind arith
 
 one-contains : {A : Type 0} (x z : A) → Contains (x ∷ []) z → x ≡ z
-one-contains x z (zero, l, e) = e
-one-contains x z (suc k, l, e) = absurd (omega (arith, l))
+one-contains x z h = grind arith
 
 pub pair-into : (r q : Rails) (step last : List Rails) → Contains step r → Contains last q → (n : Node) → IsStepNode ((r ∷ q ∷ []) ∷ []) n → IsStepNode (step ∷ last ∷ []) n
-pair-into r q step last rc qc n is =
-    let e : r ∷ q ∷ [] ≡ is.step = one-contains (r ∷ q ∷ []) is.step is.among in
-    let has : Contains (r ∷ q ∷ []) is.rails = subst (λ (xs : List Rails). Contains xs is.rails) (sym e) is.within in
-    elim (pair-contains r q is.rails has) [
-      | inl same ↦ record { step = step; among = (zero, omega arith, refl); rails = is.rails; within = subst (Contains step) same rc; is = is.is }
-      | inr same ↦ record { step = last; among = (suc zero, omega arith, refl); rails = is.rails; within = subst (Contains last) same qc; is = is.is }
-    ]
+pair-into r q step last rc qc n is = grind arith
 
 pub steps-into : (step last : List Rails) (steps : List (List Rails)) → Contains steps step → Contains steps last → (n : Node) → IsStepNode (step ∷ last ∷ []) n → IsStepNode steps n
-steps-into step last steps sc lc n is = elim (pair-contains step last is.step is.among) [
-  | inl same ↦ record { step = is.step; among = subst (Contains steps) same sc; rails = is.rails; within = is.within; is = is.is }
-  | inr same ↦ record { step = is.step; among = subst (Contains steps) same lc; rails = is.rails; within = is.within; is = is.is }
-]
+steps-into step last steps sc lc n is = grind arith
 
 -- ---- one comparison
 
@@ -68,9 +53,7 @@ module _ (s : Arena) (care r q : Node) (steps : List (List Rails)) (rn : IsStepN
 
 -- the second operation is on the difference
 pub difference-is : (s t : Arena) (care m n differ : Node) → KeepsNodes s t → IsNodeOf s care → ((bits : List Bool) → den t differ bits ≡ exclusive_or s m n bits) → nodes t.vars (conjunction t care differ) ≡ nodes s.vars (difference s care m n)
-difference-is s t care m n differ keeps cared differs =
-    nodes-alike t.vars (conjunction t care differ) (difference s care m n) (λ bits len. ap₂ (λ x y. x && y) (keeps.function care bits cared) (differs bits))
-    ∙ ap (λ (v : ℕ). nodes v (difference s care m n)) keeps.vars
+difference-is s t care m n differ keeps cared differs = grind arith
 
 -- ---- two rails
 
@@ -81,8 +64,7 @@ pair-second : (r q : Rails) (n : Node) → (n ≡ q.one) ⊎ (n ≡ q.zero) → 
 pair-second r q n is = record { step = r ∷ q ∷ []; among = (zero, omega arith, refl); rails = q; within = (suc zero, omega arith, refl); is = is }
 
 pub pair-nodes : (s : Arena) (r q : Rails) → AreNodes s r → AreNodes s q → (n : Node) → IsStepNode ((r ∷ q ∷ []) ∷ []) n → IsNodeOf s n
-pair-nodes s r q rn qn =
-    step-nodes s ((r ∷ q ∷ []) ∷ []) (All-cons (All (AreNodes s)) (r ∷ q ∷ []) [] (All-cons (AreNodes s) r (q ∷ []) rn (All-cons (AreNodes s) q [] qn (All-nil (AreNodes s)))) (All-nil (All (AreNodes s))))
+pair-nodes s r q rn qn = grind arith
 
 -- two nodes of theirs are compared
 pub pair-bounds : (s t : Arena) (care : Node) → IsNodeOf s care → (r q : Rails) → AreNodes s r → AreNodes s q → KeepsNodes s t → (m n : Node) → (m ≡ r.one) ⊎ (m ≡ r.zero) → (n ≡ q.one) ⊎ (n ≡ q.zero) → {w : ℕ}
@@ -122,11 +104,7 @@ loop-wide s t care loops loop {w} keeps cared all has wide =
 -- ---- the cut wires of the first loops
 
 pub loops-more : (G before now c len : ℕ) → now ≡ before + c → now ≤ G → len ≤ c + 2 → 4 * (G + 2) * before + 4 * c * len ≤ 4 * (G + 2) * now
-loops-more G before now c len e within few =
-    let most = mul-le-mul_left {m = len} {n = G + 2} (4 * c) (omega (arith, e, within, few)) in
-    subst (λ (x : ℕ). 4 * (G + 2) * before + 4 * c * len ≤ 4 * (G + 2) * x) (sym e) (omega (arith, most))
+loops-more G before now c len e within few = grind (arith, mul-le-mul_left {m = len} {n = G + 2} (4 * c))
 
 pub loops-within : (G now : ℕ) → now ≤ G → 4 * (G + 2) * now ≤ 6 * G * (G + 2)
-loops-within G now less =
-    let most = mul-le-mul_left {m = now} {n = G} (4 * (G + 2)) less in
-    omega (arith, most)
+loops-within G now less = grind arith

@@ -6,8 +6,7 @@ use Rattle.std.proofs.lemmas.List.Elements.{All-from_recursion}
 use Rattle.std.proofs.lemmas.List.Sums.{sum_by-cons}
 
 pub if-at-most : (b : Bool) (x : ℕ) → (if b then x else 0) ≤ x
-if-at-most true x = omega arith
-if-at-most false x = omega arith
+if-at-most b x = grind arith
 
 -- two kinds apart make the third
 pub total-split : (p q r : ℕ → Bool) (f : ℕ → ℕ) (n : ℕ) → ((m : ℕ) → (if p m then f m else 0) + (if q m then f m else 0) ≡ (if r m then f m else 0)) → total p f n + total q f n ≡ total r f n
@@ -17,10 +16,7 @@ total-split p q r f (suc n) each = omega (arith, total-split p q r f n each, eac
 -- one of a kind costs at most what all do
 pub total-at : (f : ℕ → ℕ) (p : ℕ → Bool) (n k : ℕ) → n < k → p n ≡ true → f n ≤ total p f k
 total-at f p n zero less is = absurd (omega (arith, less))
-total-at f p n (suc k) less is = elim (cases_eq n k) [
-  | inl same ↦ let here : (if p k then f k else 0) ≡ f n = ap (λ (m : ℕ). if p m then f m else 0) (sym same) ∙ ap (λ (b : Bool). if b then f n else 0) is in omega (arith, here)
-  | inr other ↦ omega (arith, total-at f p n k (omega (arith, less, other)) is)
-]
+total-at f p n (suc k) less is = grind (arith, cases_eq n k, total-at f p n k)
 
 -- gates of a kind that stand once each in an order cost at most what all of the kind do
 pub order-total : (net : Parts) (cut : ℕ → Bool) (f : ℕ → ℕ) (p : ℕ → Bool) (k : ℕ) (order : List ℕ) → IsInOrder net cut order → ((n : ℕ) → Contains order n → (n < k) × (p n ≡ true)) → sum_by f order ≤ total p f k
@@ -36,23 +32,14 @@ order-total net cut f p k (n ∷ order) follows within =
     omega (arith, rest, whole, total-at f (λ m. m == n) n k here.0 (eq-eqb n n refl), sum_by-cons f n order)
   where
     parts : (a b : Bool) (x : ℕ) → (b ≡ true → a ≡ true) → (if a && not b then x else 0) + (if b then x else 0) ≡ (if a then x else 0)
-    parts true true x h = omega arith
-    parts true false x h = omega arith
-    parts false true x h = absurd (true≢false (sym (h refl)))
-    parts false false x h = omega arith
+    parts a b x h = grind (arith, true≢false)
 
 -- one block more
 pub total-next : (home : ℕ → ℕ) (f : ℕ → ℕ) (b k : ℕ) → total (λ n. ltb (home n) b) f k + total (λ n. home n == b) f k ≡ total (λ n. ltb (home n) (b + 1)) f k
 total-next home f b k = total-split (λ n. ltb (home n) b) (λ n. home n == b) (λ n. ltb (home n) (b + 1)) f k (λ n. parts (home n) (f n))
   where
     parts : (h x : ℕ) → (if ltb h b then x else 0) + (if h == b then x else 0) ≡ (if ltb h (b + 1) then x else 0)
-    parts h x = elim (cases_lt h b) [
-      | inl low ↦ rw (lt-ltb h b low, ne_eqb h b (λ e. omega (arith, low, e)), lt-ltb h (b + 1) (omega (arith, low))) (omega arith)
-      | inr high ↦ elim (cases_eq h b) [
-        | inl same ↦ rw (le-ltb h b high, eq-eqb h b same, lt-ltb h (b + 1) (omega (arith, same))) (omega arith)
-        | inr other ↦ rw (le-ltb h b high, ne_eqb h b other, le-ltb h (b + 1) (omega (arith, high, other))) (omega arith)
-      ]
-    ]
+    parts h x = grind arith
 
 -- and all of them
 pub total-all : {T : Type 0} (g : T → ℕ) (xs : List T) (none : T) (p : ℕ → Bool) → total p (λ n. g (get_or xs n none)) (length xs) ≤ sum_by g xs
@@ -60,6 +47,4 @@ total-all g xs none p = omega (arith, by (length xs) (omega arith), ap (sum_by g
   where
     by : (k : ℕ) → k ≤ length xs → total p (λ n. g (get_or xs n none)) k ≤ sum_by g (take k xs)
     by zero less = omega arith
-    by (suc k) less =
-        let more : sum_by g (take (suc k) xs) ≡ sum_by g (take k xs) + g (get_or xs k none) = rw add-one at (sum_by_more g xs k none (omega (arith, less))) in
-        omega (arith, by k (omega (arith, less)), more, if-at-most (p k) (g (get_or xs k none)))
+    by (suc k) less = grind (arith, add-one, sum_by_more g xs k none, by k, if-at-most (p k) (g (get_or xs k none)))

@@ -11,16 +11,10 @@ use Rattle.fixpoint.proofs.KeptLemmas.{under-node, AreKept-same, rails_under-sam
 
 -- where c holds x and y are one
 seen_false : (c x y : Bool) → (c && xor x y) ≡ false → c ≡ true → x ≡ y
-seen_false true true true h e = refl
-seen_false true true false h e = absurd (true≢false h)
-seen_false true false true h e = absurd (true≢false h)
-seen_false true false false h e = refl
-seen_false false x y h e = absurd (true≢false (sym e))
+seen_false c x y h e = grind arith
 
 unseen : (c x y : Bool) → (c ≡ true → x ≡ y) → (c && xor x y) ≡ false
-unseen true true y h = rw (← h refl)
-unseen true false y h = rw (← h refl)
-unseen false x y h = refl
+unseen c x y h = grind arith
 
 -- the difference of two nodes on care is the constant false exactly where they have one value there
 module _ (a b e : Arena) (care m n differ seen : Node) (care_is : IsNodeOf a care) (m_is : IsNodeOf a m) (n_is : IsNodeOf a n)
@@ -87,20 +81,10 @@ counting-step a blocks care found i counts at k has inside is least before =
         = get_or-set_other counts at.block (slice_index_or found j none).block k 0
         (λ e. let same = has.once j i none (omega arith) inside (e ∙ ap (λ (x : LoopSteps). x.block) (get_or_read found i at inside is none)) in omega (arith, low, same)) in
         subst (IsLeastStep a care (steps_under a (slice_index_or found j none))) (sym other) (before.done j none low)
-    by j none less (inr high) =
-        let here : i ≡ j = omega (arith, less, high) in
-        let loop : IsLoopAt blocks at.block = subst (λ (x : LoopSteps). IsLoopAt blocks x.block) (sym is) (has.only i at inside) in
-        let width = before.width in
-        let same : at ≡ slice_index_or found j none = get_or_read found i at inside is none ∙ ap (λ (p : ℕ). slice_index_or found p none) here in
-        subst (λ (x : LoopSteps). IsLeastStep a care (steps_under a x) (slice_index_or (set counts at.block k) x.block 0)) same
-        (subst (IsLeastStep a care (steps_under a at)) (sym (get_or-set_same counts at.block k 0 (let w = loop.within in omega arith))) least)
+    by j none less (inr high) = grind (arith, get_or_read found i, get_or-set_same counts at.block k 0)
 
 pub counting-end : (a : Arena) (blocks : Blocks) (care : Node) (found : List LoopSteps) (i : ℕ) (counts : SweepCounts) → length found ≤ i → IsCounting a blocks care found i counts.per_block → AreCountsOf a blocks care found counts
-counting-end a blocks care found i counts all is = record {
-  width = is.width;
-  loops = λ j none less. is.done j none (omega arith);
-  others = is.others;
-}
+counting-end a blocks care found i counts all is = grind arith
 
 least-if : (a : Arena) (care : Node) (steps : List (List Rails)) (k : ℕ) → k < length steps → ((j : ℕ) → j < k → ¬ AgreeOn a care (step_at steps j) (last_step steps)) → AgreeOn a care (step_at steps k) (last_step steps)
     → IsLeastStep a care steps k

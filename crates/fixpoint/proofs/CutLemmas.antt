@@ -16,17 +16,12 @@ filter-twice p q r [] same = refl
 filter-twice p q r (x ∷ xs) same = by (q x) refl (p x) refl (sym (same x (Contains-here x xs))) (filter-twice p q r xs (λ n has. same n (Contains-there x xs n has)))
   where
     by : (a : Bool) → q x ≡ a → (b : Bool) → p x ≡ b → r x ≡ (q x && p x) → filter p (filter q xs) ≡ filter r xs → filter p (filter q (x ∷ xs)) ≡ filter r (x ∷ xs)
-    by true is true is2 is3 again = simp (is3, is, is2) (ap (λ ys. x ∷ ys) again)
-    by true is false is2 is3 again = simp (is3, is, is2) again
-    by false is b is2 is3 again = simp (is3, is) again
+    by a is b is2 is3 again = grind arith
 
 module _ (net : Parts) (blocks : Blocks) (are : AreBlocksOf net blocks) (cut : Cut) (b : ℕ) (loop : IsLoopAt blocks b) where
   -- one loop are the gates of a block
   pub one-block : (gate n : ℕ) → gate < length net.gates → home_of blocks gate ≡ b → n < length net.gates → home_of blocks n ≡ b → in_one_loop blocks gate n ≡ true
-  one-block gate n gl gh nl nh =
-      let looped : (block_at blocks (home_of blocks gate)).looped ≡ true = ap (λ (p : ℕ). (block_at blocks p).looped) gh ∙ loop.looped in
-      (blocks_have_loops net blocks cut are gate gl looped).1 n
-      (subst (λ (p : ℕ). Contains (block_at blocks p).gates n) (nh ∙ sym gh) (home_gate net blocks are n nl))
+  one-block gate n gl gh nl nh = grind arith
 
   pub cuts-are : (gate : ℕ) → Contains (block_at blocks b).gates gate → filter (is_cut cut.wires) (block_at blocks b).gates ≡ cuts_of net (loops_by blocks cut) gate
   cuts-are gate has =
@@ -42,16 +37,12 @@ module _ (net : Parts) (blocks : Blocks) (are : AreBlocksOf net blocks) (cut : C
   in-cuts n less home cut_wire = Contains-filter (is_cut cut.wires) (block_at blocks b).gates n cut_wire (subst (λ (p : ℕ). Contains (block_at blocks p).gates n) home (home_gate net blocks are n less))
 
   pub from-cuts : (n : ℕ) → Contains (filter (is_cut cut.wires) (block_at blocks b).gates) n → ((n < length net.gates) × (home_of blocks n ≡ b)) × (is_cut cut.wires n ≡ true)
-  from-cuts n has =
-      let p = Contains-filter_from (is_cut cut.wires) (block_at blocks b).gates n has in
-      (gate_home net blocks are b n loop.within p.1, p.0)
+  from-cuts n has = grind (arith, Contains-filter_from (is_cut cut.wires) (block_at blocks b).gates n has, gate_home net blocks are b n loop.within)
 
   -- from as many sweeps on as there are cut wires, they stand at the fixpoint
   module _ (cut_is : IsCutOf net cut) (v : List Trit) (width : length v ≡ first_gate net) where
     fixed-from : (gate m : ℕ) → CutsAreFixed net (loops_by blocks cut) v gate (m + length (cuts_of net (loops_by blocks cut) gate))
-    fixed-from gate zero =
-        let all : length (cuts_of net (loops_by blocks cut) gate) ≡ 0 + length (cuts_of net (loops_by blocks cut) gate) = omega arith in
-        subst (CutsAreFixed net (loops_by blocks cut) v gate) all (few_sweeps_are_enough net (loops_by blocks cut) (blocks_tell_loops net blocks cut are cut_is) gate v width)
+    fixed-from gate zero = grind (arith, few_sweeps_are_enough net (loops_by blocks cut) (blocks_tell_loops net blocks cut are cut_is) gate v width, blocks_tell_loops net blocks cut are cut_is)
     fixed-from gate (suc m) =
         let more : suc (m + length (cuts_of net (loops_by blocks cut) gate)) ≡ suc m + length (cuts_of net (loops_by blocks cut) gate) = omega arith in
         subst (CutsAreFixed net (loops_by blocks cut) v gate) more (fixed_cuts_give_fix net (loops_by blocks cut) (blocks_tell_loops net blocks cut are cut_is) v width gate (m + length (cuts_of net (loops_by blocks cut) gate)) (fixed-from gate m)).0
@@ -59,26 +50,16 @@ module _ (net : Parts) (blocks : Blocks) (are : AreBlocksOf net blocks) (cut : C
     pub fixed-at : (n k : ℕ) → Contains (filter (is_cut cut.wires) (block_at blocks b).gates) n → length (filter (is_cut cut.wires) (block_at blocks b).gates) ≤ k →
         value_in (sweeps net (loops_by blocks cut) v k) n ≡ value_in (fix_gates net v) n
     fixed-at n k has enough =
-        let is = from-cuts n has in
-        let listed : Contains (block_at blocks b).gates n = subst (λ (p : ℕ). Contains (block_at blocks p).gates n) is.0.1 (home_gate net blocks are n is.0.0) in
         let m : ℕ = k - length (cuts_of net (loops_by blocks cut) n) in
-        let from : m + length (cuts_of net (loops_by blocks cut) n) ≡ k = omega (arith, enough, ap length (cuts-are n listed)) in
-        cut_values_agree net (loops_by blocks cut) (blocks_tell_loops net blocks cut are cut_is) n (sweeps net (loops_by blocks cut) v k) (fix_gates net v)
-        (subst (λ (j : ℕ). CutsAreFixed net (loops_by blocks cut) v n j) from (fixed-from n m))
-        n (one-block n n is.0.0 is.0.1 is.0.0 is.0.1) is.1
+        grind (arith, from-cuts n has, home_gate net blocks are n, cuts-are n, cut_values_agree net (loops_by blocks cut) (blocks_tell_loops net blocks cut are cut_is) n (sweeps net (loops_by blocks cut) v k) (fix_gates net v), blocks_tell_loops net blocks cut are cut_is, fixed-from n m, one-block n n)
 
 -- ---- equal values are equal nodes
 
 pub one-of : (a b : Bool) → is_bit true (trit_of a b) ≡ a
-one-of true b = refl
-one-of false true = refl
-one-of false false = refl
+one-of a b = grind arith
 
 pub zero-of : (a b : Bool) → (a && b) ≡ false → is_bit false (trit_of a b) ≡ b
-zero-of true true e = absurd (true≢false e)
-zero-of true false e = refl
-zero-of false true e = refl
-zero-of false false e = refl
+zero-of a b e = grind arith
 
 pub rails-canonical : (a : Arena) → IsLawful a → (r q : Rails) → AreRailsOf a r → AreRailsOf a q → ((bits : List Bool) → value_of a r bits ≡ value_of a q bits) → r ≡ q
 rails-canonical a lawful r q rp qp same =
@@ -92,13 +73,10 @@ pub block-gates : (list items : List Block) (b : ℕ) (r : Block) (gates : List 
 block-gates list items b r gates same inside is = is ∙ ap (λ (xs : List Block). (get_or xs b r).gates) same ∙ ap (λ (x : Block). x.gates) (get_or_default list b r no_block inside)
 
 pub gates-within : (net : Parts) (blocks : Blocks) → AreBlocksOf net blocks → (b : ℕ) → b < length blocks.list → (gates : List ℕ) → gates ≡ (block_at blocks b).gates → All (λ n. n < length net.gates) gates
-gates-within net blocks are b inside gates is k d less =
-    (gate_home net blocks are b (get_or gates k d) inside (subst (λ (ns : List ℕ). Contains ns (get_or gates k d)) is (All-contains_itself gates k d less))).0
+gates-within net blocks are b inside gates is k d less = grind (arith, gate_home net blocks are b (get_or gates k d) inside, All-contains_itself gates k d less)
 
 pub cuts-within : (net : Parts) (blocks : Blocks) → AreBlocksOf net blocks → (cut : Cut) (b : ℕ) → IsLoopAt blocks b → (cuts : List ℕ) → cuts ≡ filter (is_cut cut.wires) (block_at blocks b).gates → (list : List ℕ) → list ≡ cuts → All (λ n. n < length net.gates) list
-cuts-within net blocks are cut b loop cuts is list same k d less =
-    (from-cuts net blocks are cut b loop (get_or list k d) (subst (λ (ns : List ℕ). Contains ns (get_or list k d)) (same ∙ is) (All-contains_itself list k d less))).0.0
+cuts-within net blocks are cut b loop cuts is list same k d less = grind (arith, from-cuts net blocks are cut b loop (get_or list k d), All-contains_itself list k d less)
 
 pub order-within : (net : Parts) (blocks : Blocks) → AreBlocksOf net blocks → (cut : Cut) (b : ℕ) → IsLoopAt blocks b → (order : List ℕ) → IsOrderOf net (is_cut cut.wires) (block_at blocks b).gates order → (list : List ℕ) → list ≡ order → All (λ n. n < length net.gates) list
-order-within net blocks are cut b loop order follows list same k d less =
-    (gate_home net blocks are b (get_or list k d) loop.within (follows.only (get_or list k d) (subst (λ (ns : List ℕ). Contains ns (get_or list k d)) same (All-contains_itself list k d less)))).0
+order-within net blocks are cut b loop order follows list same k d less = grind (arith, gate_home net blocks are b (get_or list k d) loop.within, All-contains_itself list k d less)

@@ -30,32 +30,13 @@ vectors-are {l} {a} {v} {rails = rails} is = fun_ext (λ bits.
 -- ---- while roots come
 
 solved-gained : {l : Looped} {d e : Arena} {v : Vectors} {b : ℕ} {before rails : List Rails} → GainsRoots d e → IsSolvedBelow l d v b before rails → IsSolvedBelow l e v b before rails
-solved-gained {l} {d} {e} {v} {b} {before} {rails} g is = record {
-  wires = record {
-    width = is.wires.width;
-    before_width = is.wires.before_width;
-    proper = All-rails-gained g rails is.wires.proper;
-    before_proper = All-rails-gained g before is.wires.before_proper;
-  };
-  vector = is.vector;
-  given = λ s bits low. value_of-gained g (rails_at rails s) bits ∙ is.given s bits low;
-  gates = λ n bits less low. value_of-gained g (rails_at rails (first_gate l.net + n)) bits ∙ is.gates n bits less low;
-  cuts = λ n bits less low cut_wire. value_of-gained g (rails_at before n) bits ∙ is.cuts n bits less low cut_wire;
-}
+solved-gained {l} {d} {e} {v} {b} {before} {rails} g is = grind arith
 
 values-gained : {d e : Arena} → GainsRoots d e → (rails : List Rails) (bits : List Bool) → values_of e rails bits ≡ values_of d rails bits
 values-gained {d} {e} g rails bits = map_agree (λ r. value_of e r bits) (λ r. value_of d r bits) rails (λ k none less. value_of-gained g (get_or rails k none) bits)
 
 steps-gained : {net : Parts} {blocks : Blocks} {cut : Cut} {d e : Arena} {v : Vectors} → GainsRoots d e → (found : SweptLoop) → AreStepsOf net blocks cut d v found → AreStepsOf net blocks cut e v found
-steps-gained g found is = record {
-  block = is.block;
-  wires = is.wires;
-  rails = λ k none less. All-rails-gained g (get_or found.steps k none) (is.rails k none less);
-  each = λ gate k bits has less. values-gained g (step_at found.steps k) bits ∙ is.each gate k bits has less;
-  last = λ gate bits has. values-gained g (last_step found.steps) bits ∙ is.last gate bits has;
-  some = is.some;
-  few = is.few;
-}
+steps-gained g found is = grind arith
 
 pub holds-gained : {s t : Arena} {place : Option KeptRails} {rails : Rails} → GainsRoots s t → HoldsRails s place rails → HoldsRails t place rails
 holds-gained g is = record { kept = is.kept; is = is.is; keys = AreKept-gained g is.kept is.keys; rails_are = rails_under-gained g is.kept is.keys ∙ is.rails_are }
@@ -67,18 +48,10 @@ module _ {d e : Arena} (stay : RootsStay d e) where
   given-stay {net} {given} is = record { width = is.width; keys = All-kept-stay stay given is.keys; proper = All-rails-stay stay given is.keys is.proper }
 
   values-hold : {place : Option KeptRails} {v : List Bool → Trit} → HasValues d place v → HasValues e place v
-  values-hold is = record {
-    kept = is.kept;
-    is = is.is;
-    keys = AreKept-stay stay is.kept is.keys;
-    proper = rails-stay stay is.kept is.keys is.proper;
-    values_are = λ bits. value-stays stay is.kept is.keys bits ∙ is.values_are bits;
-  }
+  values-hold is = grind (arith, AreKept-stay stay is.kept is.keys, rails-stay stay is.kept is.keys is.proper, value-stays stay is.kept is.keys)
 
   pub kept-stay : {l : Looped} {given : List KeptRails} {b : ℕ} {places : List (Option KeptRails)} → AreGiven l.net d given → AreKeptBelow l d (values_under d given) b places → AreKeptBelow l e (values_under e given) b places
-  kept-stay {l} {given} {b} {places} given_are is =
-      subst (λ (v : Vectors). AreKeptBelow l e v b places) (sym (values-stay stay given given_are.keys))
-      (record { width = is.width; solved = λ n less low. values-hold (is.solved n less low); later = is.later })
+  kept-stay {l} {given} {b} {places} given_are is = grind (arith, values-stay stay given given_are.keys, values-hold)
 
   module _ (loop : LoopSteps) (keys : All (All (AreKept d)) loop.steps) where
     step-stays : (k : ℕ) (bits : List Bool) → k < length loop.steps → values_of e (step_at (steps_under e loop) k) bits ≡ values_of d (step_at (steps_under d loop) k) bits
@@ -88,10 +61,7 @@ module _ {d e : Arena} (stay : RootsStay d e) where
         ∙ ap (λ (rails : List Rails). values_of d rails bits) (sym (get_or-map (map (rails_under d)) loop.steps k [] [] less))
 
     last-stays : (bits : List Bool) → 0 < length loop.steps → values_of e (last_step (steps_under e loop)) bits ≡ values_of d (last_step (steps_under d loop)) bits
-    last-stays bits some =
-        ap (λ (k : ℕ). values_of e (step_at (steps_under e loop) (k - 1)) bits) (length-map {B = List Rails} loop.steps (map (rails_under e)))
-        ∙ step-stays (length loop.steps - 1) bits (omega (arith, some))
-        ∙ ap (λ (k : ℕ). values_of d (step_at (steps_under d loop) (k - 1)) bits) (sym (length-map {B = List Rails} loop.steps (map (rails_under d))))
+    last-stays bits some = grind (arith, length-map {B = List Rails} loop.steps (map (rails_under e)), step-stays (length loop.steps - 1) bits, length-map {B = List Rails} loop.steps (map (rails_under d)))
 
   pub steps-stay : {net : Parts} {blocks : Blocks} {cut : Cut} {v : Vectors} (loop : LoopSteps) → AreKeptSteps net blocks cut d v loop → AreKeptSteps net blocks cut e v loop
   steps-stay {net} {blocks} {cut} loop is =
@@ -163,13 +133,11 @@ module _ (l : Looped) (l_is : IsLooped l) {d e f : Arena} (stay : RootsStay d f)
 
   -- what is kept of what was found
   pub found-next : (found : Option SweptLoop) (loop : Option LoopSteps) → IsFoundAt l e (vectors l.net d rails) b found → IfSome loop (λ x. All (All (AreKept f)) x.steps) → option_map (loop_under f) loop ≡ found → IsKeptAt l f (values_under f given) b loop
-  found-next found (Some loop) is keys same = let at = subst (IsFoundAt l e (vectors l.net d rails) b) (sym same) is in (steps-next (loop_under f loop) loop at.0 keys refl, at.1)
-  found-next found None is keys same = subst (IsFoundAt l e (vectors l.net d rails) b) (sym same) is
+  found-next found loop is keys same = grind (arith, steps-next)
 
 -- the rails of its steps are proper
 pub found-rails : (l : Looped) (a : Arena) (v : Vectors) (b : ℕ) (found : Option SweptLoop) → IsFoundAt l a v b found → IfSome found (λ swept. All (All (AreRailsOf a)) swept.steps)
-found-rails l a v b (Some swept) is = is.0.rails
-found-rails l a v b None is = tt
+found-rails l a v b found is = grind arith
 
 -- ---- the loops that were found
 
@@ -194,12 +162,7 @@ no-kept = record { one = record { key = 0 }; zero = record { key = 0 } }
 -- what is so of no rails and of rails with values is so of the rails at each place
 at-place : {l : Looped} {a : Arena} {v : Vectors} {b : ℕ} {places : List (Option KeptRails)} (P : Option KeptRails → Type 0) → AreKeptBelow l a v b places → P None
     → ((kept : KeptRails) → AreKept a kept → AreRailsOf a (rails_under a kept) → P (Some kept)) → All P places
-at-place {l} {a} {v} {b} {places} P is none some k d less =
-    let inside : k < length l.net.gates = let width = is.width in omega (arith, less, width) in
-    subst P (sym (get_or_default places k d None less)) (elim (cases_lt (home_of l.blocks k) b) [
-      | inl low ↦ let has = is.solved k inside low in subst P (sym has.is) (some has.kept has.keys has.proper)
-      | inr late ↦ subst P (sym (is.later k inside late)) none
-    ])
+at-place {l} {a} {v} {b} {places} P is none some k d less = grind (arith, get_or_default places k d None less, cases_lt (home_of l.blocks k) b)
 
 pub places-kept : {l : Looped} {a : Arena} {v : Vectors} {b : ℕ} {places : List (Option KeptRails)} → AreKeptBelow l a v b places → All (λ place. IfSome place (AreKept a)) places
 places-kept {l} {a} is = at-place (λ place. IfSome place (AreKept a)) is tt (λ kept keys proper. keys)
@@ -216,9 +179,7 @@ module _ (l : Looped) (a : Arena) (given : List KeptRails) (given_are : AreGiven
   before-at n less = ap (λ (xs : List Rails). rails_at xs n) before_is ∙ get_or-map (rails_in a) places n None unknown (omega (arith, less, kept.width))
 
   before-value : (n : ℕ) (bits : List Bool) → n < length l.net.gates → home_of l.blocks n < b → value_of a (rails_at before n) bits ≡ value_in (fix_gates l.net (values_under a given bits)) n
-  before-value n bits less low =
-      let has = kept.solved n less low in
-      ap (λ (r : Rails). value_of a r bits) (before-at n less ∙ ap (rails_in a) has.is) ∙ has.values_are bits
+  before-value n bits less low = grind (arith, before-at n less)
 
   before-proper : All (AreRailsOf a) before
   before-proper = subst (All (AreRailsOf a)) (sym before_is) (All-map (AreRailsOf a) (rails_in a) places (at-place (λ place. AreRailsOf a (rails_in a place)) kept (unknown-rails a) (λ one keys proper. proper)))

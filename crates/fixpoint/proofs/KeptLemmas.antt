@@ -17,8 +17,7 @@ pub All-mapped : {X Y : Type 0} (P : Y → Type 0) (f : X → Y) (xs : List X) �
 All-mapped P f xs all k d less = subst P (get_or-map f xs k d (f d) less) (all k (f d) (let len = length-map xs f in omega (arith, less, len)))
 
 is-some : {T : Type 0} (o : Option T) → IsSome o → (x : T) × (o ≡ Some x)
-is-some (Some x) some = (x, refl)
-is-some None some = absurd (true≢false (sym some))
+is-some o some = grind arith
 
 under-is : (a : Arena) (root : Root) (n : Node) → root_at a root.key ≡ Some n → node_under a root ≡ n
 under-is a root n is = ap (λ (o : Option Node). unwrap_or o (constant false)) is
@@ -35,12 +34,7 @@ pub GainsRoots-refl : (a : Arena) → GainsRoots a a
 GainsRoots-refl a = record { vars = refl; limit = refl; entries = refl; roots = λ key n is. is }
 
 pub GainsRoots_chain : {s t u : Arena} → GainsRoots s t → GainsRoots t u → GainsRoots s u
-GainsRoots_chain g h = record {
-  vars = h.vars ∙ g.vars;
-  limit = h.limit ∙ g.limit;
-  entries = h.entries ∙ g.entries;
-  roots = λ key n is. h.roots key n (g.roots key n is);
-}
+GainsRoots_chain g h = grind arith
 
 den-gained : {s t : Arena} → GainsRoots s t → (n : Node) (bits : List Bool) → den t n bits ≡ den s n bits
 den-gained g n bits = ap (λ (es : List Entry). node_value es n bits) g.entries
@@ -49,11 +43,7 @@ pub value_of-gained : {s t : Arena} → GainsRoots s t → (r : Rails) (bits : L
 value_of-gained g r bits = ap₂ trit_of (den-gained g r.one bits) (den-gained g r.zero bits)
 
 pub AreRailsOf-gained : {s t : Arena} → GainsRoots s t → (r : Rails) → AreRailsOf s r → AreRailsOf t r
-AreRailsOf-gained g r is = record {
-  one = let one = is.one in omega (arith, one, ap length g.entries);
-  zero = let zero = is.zero in omega (arith, zero, ap length g.entries);
-  proper = λ bits. ap₂ (λ x y. x && y) (den-gained g r.one bits) (den-gained g r.zero bits) ∙ is.proper bits;
-}
+AreRailsOf-gained g r is = grind arith
 
 pub All-rails-gained : {s t : Arena} → GainsRoots s t → (rails : List Rails) → All (AreRailsOf s) rails → All (AreRailsOf t) rails
 All-rails-gained g rails all k d less = AreRailsOf-gained g (get_or rails k d) (all k d less)
@@ -62,19 +52,13 @@ root-gained : {s t : Arena} → GainsRoots s t → (root : Root) → IsSome (roo
 root-gained {s} g root some = g.roots root.key (node_under s root) (has-node s root some)
 
 pub AreKept-gained : {s t : Arena} → GainsRoots s t → (kept : KeptRails) → AreKept s kept → AreKept t kept
-AreKept-gained g kept is = record {
-  one = subst IsSome (sym (root-gained g kept.one is.one)) refl;
-  zero = subst IsSome (sym (root-gained g kept.zero is.zero)) refl;
-}
+AreKept-gained g kept is = grind arith
 
 pub All-kept-gained : {s t : Arena} → GainsRoots s t → (kept : List KeptRails) → All (AreKept s) kept → All (AreKept t) kept
 All-kept-gained g kept all k d less = AreKept-gained g (get_or kept k d) (all k d less)
 
 pub rails_under-gained : {s t : Arena} → GainsRoots s t → (kept : KeptRails) → AreKept s kept → rails_under t kept ≡ rails_under s kept
-rails_under-gained {s} {t} g kept is =
-    ap₂ (λ (m n : Node). record { one = m; zero = n })
-    (under-is t kept.one (node_under s kept.one) (root-gained g kept.one is.one))
-    (under-is t kept.zero (node_under s kept.zero) (root-gained g kept.zero is.zero))
+rails_under-gained {s} {t} g kept is = grind arith
 
 pub all_under-gained : {s t : Arena} → GainsRoots s t → (kept : List KeptRails) → All (AreKept s) kept → map (rails_under t) kept ≡ map (rails_under s) kept
 all_under-gained {s} {t} g kept all = map_agree (rails_under t) (rails_under s) kept (λ k d less. rails_under-gained g (get_or kept k d) (all k d less))
@@ -82,12 +66,7 @@ all_under-gained {s} {t} g kept all = map_agree (rails_under t) (rails_under s) 
 -- one more of a list is kept, where those before it stay kept and what they are
 pub more-kept : {T U : Type 0} {Was Is : T → Type 0} {was is : T → U} (items : List U) (kept : List T) (i : ℕ) (made : T) (none : U) → ((x : T) → Was x → Is x × (is x ≡ was x)) → i < length items →
     All Was kept → map was kept ≡ take i items → Is made → is made ≡ get_or items i none → All Is (kept ++ made ∷ []) × (map is (kept ++ made ∷ []) ≡ take (i + 1) items)
-more-kept {Was = Was} {Is = Is} {was = was} {is = is} items kept i made none stays inside all same made_kept made_is = (
-  All-push Is kept made (λ k d less. (stays (get_or kept k d) (all k d less)).0) made_kept,
-  map_push is kept made
-      ∙ ap₂ (λ xs x. xs ++ x ∷ []) (map_agree is was kept (λ k d less. (stays (get_or kept k d) (all k d less)).1) ∙ same) made_is
-      ∙ sym (take_more items i none inside),
-)
+more-kept {Was = Was} {Is = Is} {was = was} {is = is} items kept i made none stays inside all same made_kept made_is = grind (arith, All-push Is kept made, map_push is kept made, map_agree is was kept, take_more items i none inside)
 
 -- ---- roots that stay
 
@@ -103,41 +82,21 @@ RootsStay-chain r q = record {
 
 -- while nodes are kept, and roots come then
 pub RootsStay-gained : {s t u : Arena} → IsLawful s → KeepsNodes s t → GainsRoots t u → RootsStay s u
-RootsStay-gained {s} {t} {u} laws keeps g = record {
-  vars = g.vars ∙ keeps.vars;
-  limit = g.limit ∙ keeps.limit;
-  each = λ key n is.
-      let was : IsNodeOf s n = laws.roots key n is in
-      let more = keeps.more in
-      record {
-        node = n;
-        root = g.roots key n (ap (λ (roots : List (Option Node)). root_at (record { vars = t.vars; limit = t.limit; entries = t.entries; roots = roots; answers = t.answers }) key) keeps.roots ∙ is);
-        is_node = omega (arith, was, more, ap length g.entries);
-        function = λ bits. den-gained g n bits ∙ keeps.function n bits was;
-      };
-}
+RootsStay-gained {s} {t} {u} laws keeps g = grind arith
 
 pub RootsStay-kept : {s t : Arena} → IsLawful s → KeepsNodes s t → RootsStay s t
 RootsStay-kept {s} {t} laws keeps = RootsStay-gained laws keeps (GainsRoots-refl t)
 
 -- while the store is swept
 pub RootsStay-swept : {s t : Arena} → IsLawful t → KeepsRoots s t → RootsStay s t
-RootsStay-swept {s} {t} laws keeps = record {
-  vars = keeps.vars;
-  limit = keeps.limit;
-  each = λ key n is.
-      let at = is-some (root_at t key) ((keeps.keys key).1 (subst IsSome (sym is) refl)) in
-      record { node = at.0; root = at.1; is_node = laws.roots key at.0 at.1; function = λ bits. keeps.function key n at.0 bits is at.1 };
-}
+RootsStay-swept {s} {t} laws keeps = grind arith
 
 module _ {s t : Arena} (stay : RootsStay s t) where
   still : (root : Root) → IsSome (root_at s root.key) → IsRootStill s t root.key (node_under s root)
   still root some = stay.each root.key (node_under s root) (has-node s root some)
 
   den-stays : (root : Root) → IsSome (root_at s root.key) → (bits : List Bool) → den t (node_under t root) bits ≡ den s (node_under s root) bits
-  den-stays root some bits =
-      let at = still root some in
-      ap (λ (n : Node). den t n bits) (under-is t root at.node at.root) ∙ at.function bits
+  den-stays root some bits = grind (arith, still root some, under-is t root)
 
   node-stays : (root : Root) → IsSome (root_at s root.key) → IsNodeOf t (node_under t root)
   node-stays root some = let at = still root some in subst (IsNodeOf t) (sym (under-is t root at.node at.root)) at.is_node
@@ -155,11 +114,7 @@ module _ {s t : Arena} (stay : RootsStay s t) where
   value-stays kept is bits = ap₂ trit_of (den-stays kept.one is.one bits) (den-stays kept.zero is.zero bits)
 
   pub rails-stay : (kept : KeptRails) → AreKept s kept → AreRailsOf s (rails_under s kept) → AreRailsOf t (rails_under t kept)
-  rails-stay kept is proper = record {
-    one = node-stays kept.one is.one;
-    zero = node-stays kept.zero is.zero;
-    proper = λ bits. ap₂ (λ x y. x && y) (den-stays kept.one is.one bits) (den-stays kept.zero is.zero bits) ∙ proper.proper bits;
-  }
+  rails-stay kept is proper = grind (arith, node-stays kept.one is.one, node-stays kept.zero is.zero, den-stays kept.one is.one, den-stays kept.zero is.zero)
 
   pub values-stay : (kept : List KeptRails) → All (AreKept s) kept → values_under t kept ≡ values_under s kept
   values-stay kept all = fun_ext (λ bits.
@@ -180,8 +135,7 @@ module _ {s t : Arena} (keeps : KeepsNodes s t) where
   AreKept-same kept is = record { one = subst IsSome (sym (root-same kept.one.key)) is.one; zero = subst IsSome (sym (root-same kept.zero.key)) is.zero }
 
   pub rails_under-same : rails_under t ≡ rails_under s
-  rails_under-same = fun_ext (λ kept.
-      ap₂ (λ (m n : Option Node). record { one = unwrap_or m (constant false); zero = unwrap_or n (constant false) }) (root-same kept.one.key) (root-same kept.zero.key))
+  rails_under-same = grind arith
 
 -- ---- what a call adds
 

@@ -61,11 +61,7 @@ module _ (n : ℕ) (columns : List ℕ) (are : IsLayout n columns) where
   pub variables-back : (w : List Bool) → length w ≡ n → by_variable columns (by_column columns w) ≡ w
   unfolding by_column
   variables-back w wide =
-      let long = are.long in
-      let lv = length-by_variable columns (written columns w (length columns)) in
-      sym (take_all (length columns) (by_variable columns (written columns w (length columns))) (omega (arith, lv)))
-      ∙ written-read w wide (length columns) (omega (arith, long))
-      ∙ take_all (length columns) w (omega (arith, long, wide))
+      grind (arith, length-by_variable columns (written columns w (length columns)), take_all (length columns) (by_variable columns (written columns w (length columns))), written-read w wide (length columns), take_all (length columns) w)
 
   -- ---- each column has a variable
 
@@ -73,11 +69,7 @@ module _ (n : ℕ) (columns : List ℕ) (are : IsLayout n columns) where
   distinct = IsDistinct-from_apart eqb columns (λ i j d less within. by i j d less within)
     where
       by : (i j d : ℕ) → i < j → j < length columns → eqb (get_or columns i d) (get_or columns j d) ≡ false
-      by i j d less within =
-          let long = are.long in
-          ne_eqb (get_or columns i d) (get_or columns j d) (λ same.
-          let e : i ≡ j = are.once i j (omega (arith, less, within, long)) (omega (arith, within, long)) (get_or_default columns i 0 d (omega (arith, less, within)) ∙ same ∙ get_or_default columns j d 0 within) in
-          omega (arith, e, less))
+      by i j d less within = grind (arith, ne_eqb (get_or columns i d) (get_or columns j d), get_or_default columns i 0 d, get_or_default columns j d 0 within)
 
   pub variable_of : (c : ℕ) → c < n → IsVariableOf n columns c
   unfolding IsDistinct

@@ -13,10 +13,8 @@ use Rattle.fixpoint.proofs.WorkLemmas.{bounds-lift}
 
 -- the rails stay proper when a gate is set
 pub rails-set : {net : Parts} {s t : Arena} {rails after : List Rails} (gate : ℕ) → KeepsNodes s t → AreSignalRails net s rails → IsLifted net s t rails after gate → AreSignalRails net t after
-rails-set {net} {s} {t} {rails} {after} gate k is done = record {
-  width = ap length done.is ∙ length-set rails (first_gate net + gate) done.made ∙ is.width;
-  proper = subst (All (AreRailsOf t)) (sym done.is) (All-set (AreRailsOf t) rails (first_gate net + gate) done.made done.proper (All-rails-kept k rails is.proper));
-}
+rails-set {net} {s} {t} {rails} {after} gate k is done =
+    grind (arith, length-set rails (first_gate net + gate) done.made, All-set (AreRailsOf t) rails (first_gate net + gate) done.made done.proper (All-rails-kept k rails is.proper), All-rails-kept k rails is.proper)
 
 -- a gate's place in the order
 place_of : (net : Parts) (order : List ℕ) → IsGateOrder net order → (g : ℕ) → g < length net.gates → (place : ℕ) × (place < length order) × (slice_index order place ≡ g)
@@ -25,8 +23,7 @@ place_of net order is g within = let c = is.each g within in (c.0, c.1, get_or_d
 -- a gate whose place has been passed is at the fixpoint
 lifted-at : {net : Parts} {order : List ℕ} {a : Arena} {v : Vectors} {i : ℕ} {rails : List Rails} → AreLifted net order a v i rails → (g place : ℕ) → place < i → slice_index order place ≡ g →
     (bits : List Bool) → value_of a (rails_at rails (first_gate net + g)) bits ≡ value_in (fix_gates net (v bits)) g
-lifted-at {net} {a = a} {v} {rails = rails} lifted g place earlier is bits =
-    subst (λ m. value_of a (rails_at rails (first_gate net + m)) bits ≡ value_in (fix_gates net (v bits)) m) is (lifted.gates place bits earlier)
+lifted-at {net} {a = a} {v} {rails = rails} lifted g place earlier is bits = grind arith
 
 -- ---- the next gate
 

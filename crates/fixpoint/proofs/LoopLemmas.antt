@@ -28,14 +28,7 @@ module _ (l : Looped) (l_is : IsLooped l) (b : ℕ) (loop : IsLoopAt l.blocks b)
   -- before the first sweep
   pub underway-start : (a : Arena) (cuts : List ℕ) (before rails : List Rails) → IsSolvedBelow l a v b before rails → AreFresh l b before
       → IsUnderway l a v b cuts [] before rails
-  underway-start a cuts before rails solved fresh = record {
-    solved = solved;
-    cuts_are = λ n bits less home cut_wire. ap (λ (r : Rails). value_of a r bits) (fresh n less (omega (arith, home))) ∙ unknown-value a bits ∙ sym (get_or-replicate {A = Trit} (length l.net.gates) n X X less);
-    fresh = λ n less later. fresh n less (omega (arith, later));
-    each = λ j bits less. absurd (omega (arith, less));
-    proper = λ j none less. absurd (omega (arith, less));
-    few = omega arith;
-  }
+  underway-start a cuts before rails solved fresh = grind (arith, unknown-value a, get_or-replicate {A = Trit} (length l.net.gates))
 
   -- one sweep more
   module _ (d e : Arena) (keeps : KeepsNodes d e) (lawful : IsLawful e) (cuts : List ℕ) (is : cuts ≡ filter (is_cut l.cut.wires) (block_at l.blocks b).gates)
@@ -46,9 +39,7 @@ module _ (l : Looped) (l_is : IsLooped l) (b : ℕ) (loop : IsLoopAt l.blocks b)
     listed n has = from-cuts l.net l.blocks l_is.blocks l.cut b loop n (subst (λ (ns : List ℕ). Contains ns n) is has)
 
     now-value : (n : ℕ) (bits : List Bool) → Contains cuts n → value_of e (rails_at before n) bits ≡ value_in (after_sweeps l v (length steps) bits) n
-    now-value n bits has =
-        let f = listed n has in
-        value_of-kept keeps (rails_at before n) (rails_at-proper d before underway.solved.wires.before_proper n) bits ∙ underway.cuts_are n bits f.0.0 f.0.1 f.1
+    now-value n bits has = grind (arith, listed n has, value_of-kept keeps (rails_at before n) (rails_at-proper d before underway.solved.wires.before_proper n) bits, rails_at-proper d before underway.solved.wires.before_proper n)
 
     step-proper : All (AreRailsOf d) (map (rails_at before) cuts)
     step-proper = All-map (AreRailsOf d) (rails_at before) cuts (λ j none less. rails_at-proper d before underway.solved.wires.before_proper (get_or cuts j none))
@@ -87,9 +78,7 @@ module _ (l : Looped) (l_is : IsLooped l) (b : ℕ) (loop : IsLoopAt l.blocks b)
     -- where the cut wires stand still, the loop stands at the fixpoint
     module _ (still : (n : ℕ) → Contains cuts n → rails_at before n ≡ rails_at after (first_gate l.net + n)) where
       same-cut : (n : ℕ) (bits : List Bool) → Contains cuts n → value_in (after_sweeps l v (suc (length steps)) bits) n ≡ value_in (after_sweeps l v (length steps) bits) n
-      same-cut n bits has =
-          let f = listed n has in
-          sym (swept n bits f.0.0 f.0.1) ∙ ap (λ (r : Rails). value_of e r bits) (sym (still n has)) ∙ now-value n bits has
+      same-cut n bits has = grind (arith, listed n has, now-value n bits has)
 
       fix-gate : (n : ℕ) (bits : List Bool) → n < length l.net.gates → home_of l.blocks n ≡ b → value_in (after_sweeps l v (suc (length steps)) bits) n ≡ value_in (fix_gates l.net (v bits)) n
       fix-gate n bits less home =

@@ -23,16 +23,7 @@ use Rattle.fixpoint.specs.Orders.{each_once, order}
 -- one more number
 pub each_once-more : (xs : List ℕ) (c : ℕ) → each_once (xs ++ c ∷ []) ≡ each_once xs ++ cond (list_any (eqb c) xs) [] (c ∷ [])
 each_once-more [] c = refl
-each_once-more (x ∷ xs) c =
-    ap (λ (ys : List ℕ). x ∷ filter (λ m. not (eqb x m)) ys) (each_once-more xs c)
-    ∙ ap (λ (ys : List ℕ). x ∷ ys) (filter-append (λ m. not (eqb x m)) (each_once xs) (cond (list_any (eqb c) xs) [] (c ∷ [])))
-    ∙ ap (λ (ys : List ℕ). x ∷ filter (λ m. not (eqb x m)) (each_once xs) ++ ys) (by (eqb c x) refl (list_any (eqb c) xs))
-  where
-    by : (b : Bool) → eqb c x ≡ b → (d : Bool) → filter (λ m. not (eqb x m)) (cond d [] (c ∷ [])) ≡ cond (b || d) [] (c ∷ [])
-    by true same true = refl
-    by true same false = ap (λ t. cond (not t) (c ∷ []) []) (eq-eqb x c (sym (eqb-true c x same)))
-    by false other true = refl
-    by false other false = ap (λ t. cond (not t) (c ∷ []) []) (ne_eqb x c (λ e. true≢false (sym (eq-eqb c x (sym e)) ∙ other)))
+each_once-more (x ∷ xs) c = grind (arith, each_once-more xs c, filter-append, eq-eqb x c, eqb-true c x, ne_eqb x c, true≢false, eq-eqb c x)
 
 -- the numbers of the list, and no others
 each_once-any : (xs : List ℕ) (c : ℕ) → list_any (eqb c) (each_once xs) ≡ list_any (eqb c) xs
@@ -49,26 +40,16 @@ each_once-any (x ∷ xs) c = by (each_once-any xs c) (eqb c x) refl
 distinct-filter : (p : ℕ → Bool) (xs : List ℕ) → IsDistinct eqb xs → IsDistinct eqb (filter p xs)
 unfolding IsDistinct
 distinct-filter p [] is = tt
-distinct-filter p (x ∷ xs) is = by (p x) (distinct-filter p xs is.1)
-  where
-    by : (b : Bool) → IsDistinct eqb (filter p xs) → IsDistinct eqb (cond b (x ∷ filter p xs) (filter p xs))
-    by true rest = (all_filter (λ y. eqb x y ≡ false) p xs is.0, rest)
-    by false rest = rest
+distinct-filter p (x ∷ xs) is = grind (arith, distinct-filter p xs is.1, all_filter)
 
 each_once-distinct : (xs : List ℕ) → IsDistinct eqb (each_once xs)
 unfolding IsDistinct
 each_once-distinct [] = tt
-each_once-distinct (x ∷ xs) =
-    let others : List ℕ = filter (λ m. not (eqb x m)) (each_once xs) in (
-      all_weaker (λ y. not (eqb x y) ≡ true) (λ y. eqb x y ≡ false) others (λ y. not-true (eqb x y)) (recursion_from_All (λ y. not (eqb x y) ≡ true) others (filter_passes (λ m. not (eqb x m)) (each_once xs))),
-      distinct-filter (λ m. not (eqb x m)) (each_once xs) (each_once-distinct xs),
-    )
+each_once-distinct (x ∷ xs) = grind (arith, all_weaker, not-true, recursion_from_All, filter_passes, distinct-filter, each_once-distinct xs)
 
 -- numbers in order, one more
 pub columns-more : (from : List ℕ) (n : ℕ) → (from ++ range_with_len 0 n) ++ n ∷ [] ≡ from ++ range_with_len 0 (n + 1)
-columns-more from n =
-    let at : n ≡ 0 + n = omega arith in
-    append_assoc from (range_with_len 0 n) (n ∷ []) ∙ ap (λ (xs : List ℕ). from ++ xs) (rw (add-one, range-suc 0 n) (ap (λ m. range_with_len 0 n ++ m ∷ []) at))
+columns-more from n = grind (arith, append_assoc from (range_with_len 0 n) (n ∷ []), add-one, range-suc 0 n)
 
 -- ---- columns taken
 
@@ -84,34 +65,23 @@ taken-more from marks columns c within are = record {
 }
   where
     by : (m : ℕ) → m < length marks → (m ≡ c) ⊎ (m ≢ c) → get_or (set marks c true) m false ≡ (list_any (eqb m) from || (eqb m c || false))
-    by m inside (inl same) = rw (same, get_or-set_same marks c true false within, eq-eqb c c refl, or-true (list_any (eqb c) from))
-    by m inside (inr other) = rw (get_or-set_other marks c m true false other, ne_eqb m c other, or-false (list_any (eqb m) from)) (are.marked m inside)
+    by m inside h = grind (arith, get_or-set_same, eq-eqb, or-true, get_or-set_other, ne_eqb, or-false)
 
 -- ---- columns that are read
 
 -- a pin more
 read-more : (n : ℕ) (pins : List Sig) (i : ℕ) (d : Sig) → i < length pins → first_signals n (take (i + 1) pins) ≡ first_signals n (take i pins) ++ cond (nat_lt (get_or pins i d).0 n) ((get_or pins i d).0 ∷ []) []
-read-more n pins i d inside =
-    ap (λ (ss : List Sig). filter (λ s. nat_lt s n) (map (λ (pin : Sig). pin.0) ss)) (take_more pins i d inside)
-    ∙ ap (filter (λ s. nat_lt s n)) (map-append (λ (pin : Sig). pin.0) (take i pins) (get_or pins i d ∷ []))
-    ∙ filter-append (λ s. nat_lt s n) (map (λ (pin : Sig). pin.0) (take i pins)) ((get_or pins i d).0 ∷ [])
+read-more n pins i d inside = grind (arith, take_more pins i d inside, map-append, filter-append)
 
 pub read-column : (n : ℕ) (pins : List Sig) (i : ℕ) (d : Sig) (from : List ℕ) → i < length pins → (get_or pins i d).0 < n → from ++ first_signals n (take (i + 1) pins) ≡ (from ++ first_signals n (take i pins)) ++ (get_or pins i d).0 ∷ []
-read-column n pins i d from inside low =
-    ap (λ (ys : List ℕ). from ++ ys) (read-more n pins i d inside ∙ ap (λ t. first_signals n (take i pins) ++ cond t ((get_or pins i d).0 ∷ []) []) (lt-ltb (get_or pins i d).0 n low))
-    ∙ sym (append_assoc from (first_signals n (take i pins)) ((get_or pins i d).0 ∷ []))
+read-column n pins i d from inside low = grind (arith, read-more n pins i d inside, lt-ltb (get_or pins i d).0 n low, append_assoc from (first_signals n (take i pins)) ((get_or pins i d).0 ∷ []))
 
 pub read-other : (n : ℕ) (pins : List Sig) (i : ℕ) (d : Sig) → i < length pins → n ≤ (get_or pins i d).0 → first_signals n (take (i + 1) pins) ≡ first_signals n (take i pins)
-read-other n pins i d inside high =
-    read-more n pins i d inside ∙ ap (λ t. first_signals n (take i pins) ++ cond t ((get_or pins i d).0 ∷ []) []) (le-ltb (get_or pins i d).0 n high) ∙ append-nil (first_signals n (take i pins))
+read-other n pins i d inside high = grind (arith, read-more n pins i d inside, le-ltb (get_or pins i d).0 n high, append-nil (first_signals n (take i pins)))
 
 -- a gate more
 pub gate-more : (n : ℕ) (gates : List Gate) (i : ℕ) (gate : Gate) → slice_get gates i ≡ Some gate → columns_read n (take (i + 1) gates) ≡ columns_read n (take i gates) ++ first_signals n gate.pins
-gate-more n gates i gate found =
-    let inside : i < length gates = slice_get_within gates i gate found in
-    ap (columns_read n) (take_more gates i gate inside ∙ ap (λ (g : Gate). take i gates ++ g ∷ []) (get_or_from_slice_get gates i gate gate found))
-    ∙ flat_map-append (λ (g : Gate). first_signals n g.pins) (take i gates) (gate ∷ [])
-    ∙ ap (λ (ys : List ℕ). columns_read n (take i gates) ++ ys) (append-nil (first_signals n gate.pins))
+gate-more n gates i gate found = grind (arith, slice_get_within gates i gate found, take_more gates i gate, get_or_from_slice_get gates i gate gate found, flat_map-append, append-nil (first_signals n gate.pins))
 
 -- ---- a layout
 
@@ -141,32 +111,16 @@ module _ (net : Parts) where
   -- each column is there
   there : (c : ℕ) → c < n → list_any (eqb c) (order net) ≡ true
   there c less =
-      each_once-any all c
-      ∙ list_any-from_Contains nat_eq_equiv c all (Contains-append_right (columns_read n net.gates) (range_with_len 0 n) c (Contains-range n c less))
+      grind (arith, each_once-any all c, list_any-from_Contains nat_eq_equiv c all (Contains-append_right (columns_read n net.gates) (range_with_len 0 n) c (Contains-range n c less)), Contains-append_right (columns_read n net.gates) (range_with_len 0 n) c (Contains-range n c less), Contains-range n c less)
 
   member-below : (q : ℕ) → list_any (eqb q) (order net) ≡ true → q < n
   member-below q is = All-contains (λ s. s < n) (order net) q below (Contains-from_any {eq = eqb} eqb-true q (order net) is)
 
   wide : length (order net) ≡ n
-  wide =
-      let most = length-le_from_distinct_below (order net) n (each_once-distinct all) member-below in
-      let least = le-length_from_below (order net) n there in
-      omega (arith, most, least)
+  wide = grind (arith, length-le_from_distinct_below (order net) n (each_once-distinct all) member-below, each_once-distinct all, member-below, le-length_from_below (order net) n there, there)
 
   apart : (j k : ℕ) → j < k → k < n → get_or (order net) j 0 ≢ get_or (order net) k 0
-  apart j k less within same =
-      let long = wide in
-      true≢false (sym (eq-eqb (get_or (order net) j 0) (get_or (order net) k 0) same) ∙ apart_from_distinct eqb (order net) j k 0 (each_once-distinct all) less (omega (arith, within, long)))
+  apart j k less within same = grind (arith, wide, true≢false, eq-eqb (get_or (order net) j 0) (get_or (order net) k 0) same, apart_from_distinct eqb (order net) j k 0 (each_once-distinct all) less, each_once-distinct all)
 
   pub order-is : IsLayout (first_gate net) (order net)
-  order-is = record {
-    long = wide;
-    within = λ k less. below k 0 (let long = wide in omega (arith, less, long));
-    once = λ j k in_j in_k same. elim (cases_lt j k) [
-      | inl less ↦ absurd (apart j k less in_k same)
-      | inr past ↦ elim (cases_eq j k) [
-        | inl e ↦ e
-        | inr other ↦ absurd (apart k j (omega (arith, past, other)) in_j (sym same))
-      ]
-    ];
-  }
+  order-is = grind (arith, wide, below, cases_lt, apart, cases_eq)

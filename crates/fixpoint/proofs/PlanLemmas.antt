@@ -6,24 +6,14 @@ use Rattle.fixpoint.specs.Plans.{HasDiagram, AreShared}
 
 -- the latest diagram, and those before it
 pub diagram-new : (net : Parts) (shared : List SharedDiagram) (one : SharedDiagram) (n : ℕ) → IsDiagramOf one.diagram (gate_at net n).cover → HasDiagram net (shared ++ one ∷ []) n (length shared)
-diagram-new net shared one n is = record {
-  within = omega (arith, length_push shared one);
-  diagram = λ none. subst (λ (x : SharedDiagram). IsDiagramOf x.diagram (gate_at net n).cover) (sym (get_or_push shared one none (length shared) refl)) is;
-}
+diagram-new net shared one n is = grind (arith, length_push shared one, get_or_push shared one)
 
 pub diagram-stays : (net : Parts) (shared : List SharedDiagram) (one : SharedDiagram) (n place : ℕ) → HasDiagram net shared n place → HasDiagram net (shared ++ one ∷ []) n place
-diagram-stays net shared one n place has = record {
-  within = omega (arith, length_push shared one, has.within);
-  diagram = λ none. subst (λ (x : SharedDiagram). IsDiagramOf x.diagram (gate_at net n).cover) (sym (get_or_append_left shared (one ∷ []) none place has.within)) (has.diagram none);
-}
+diagram-stays net shared one n place has = grind (arith, length_push shared one, get_or_append_left shared (one ∷ []))
 
 -- of no gates
 pub locals-none : (net : Parts) (locals : Locals) → locals.shared.items ≡ [] → locals.places.items ≡ [] → AreLocalsOf net [] locals
-locals-none net locals shared places = record {
-  shared = subst (AreShared net) (sym shared) (λ i none less. absurd (omega (arith, less)));
-  width = ap length places;
-  each = λ i less. absurd (omega (arith, less));
-}
+locals-none net locals shared places = grind arith
 
 -- one gate more
 pub locals-next : (net : Parts) (gates : List ℕ) (n place : ℕ) (old new : Locals) → AreLocalsOf net gates old → AreShared net new.shared.items

@@ -28,9 +28,7 @@ total-bound p zero = omega arith
 total-bound p (suc n) = omega (arith, total-bound p n, if-at-most (p n) 1)
 
 cuts-total : (net : Parts) (blocks : Blocks) (cut : Cut) → AreBlocksOf net blocks → (b : ℕ) → b < length blocks.list → length (filter (is_cut cut.wires) (block_at blocks b).gates) ≤ total (λ n. home_of blocks n == b) (λ m. 1) (length blocks.home)
-cuts-total net blocks cut are b inside =
-    let gates : length (block_at blocks b).gates ≡ length (filter (λ n. home_of blocks n == b) (range_with_len 0 (length blocks.home))) = ap length (are.gates b inside) in
-    omega (arith, filter-no_longer (is_cut cut.wires) (block_at blocks b).gates, gates, length-filter (λ n. home_of blocks n == b) (range_with_len 0 (length blocks.home)), count-total (λ n. home_of blocks n == b) (length blocks.home))
+cuts-total net blocks cut are b inside = grind (arith, filter-no_longer (is_cut cut.wires) (block_at blocks b).gates, length-filter, count-total)
 
 -- whether one of the loops has a gate
 abbrev within : (ℕ → ℕ) → List LoopSteps → ℕ → Bool
@@ -58,8 +56,7 @@ sum-within home G (x ∷ xs) each once =
     omega (arith, here, rest, split, sum)
   where
     parts : (a b : Bool) → (a ≡ true → b ≡ false) → (if a then 1 else 0) + (if b then 1 else 0) ≡ (if a || b then 1 else 0)
-    parts true b h = rw (h refl) (omega arith)
-    parts false b h = omega arith
+    parts a b h = grind arith
 
 -- ---- solutions
 
@@ -71,9 +68,7 @@ module _ (net : Parts) (blocks : Blocks) (cut : Cut) (a : Arena) (v : Vectors) (
       (0, some, get_or_default (block_at blocks found.block).gates 0 (get_or (block_at blocks found.block).gates 0 0) 0 some)
 
   cut-count : (found : LoopSteps) → AreStepsOf net blocks cut a v (loop_under a found) → length found.cuts ≡ length (filter (is_cut cut.wires) (block_at blocks found.block).gates)
-  cut-count found steps =
-      let has = first-gate found steps in
-      ap length (steps.wires (get_or (block_at blocks found.block).gates 0 0) has ∙ sym (cuts-are net blocks are cut found.block steps.block (get_or (block_at blocks found.block).gates 0 0) has))
+  cut-count found steps = grind (arith, first-gate found, cuts-are net blocks are cut found.block steps.block (get_or (block_at blocks found.block).gates 0 0))
 
   countable : (care : Node) (found : LoopSteps) → AreKeptSteps net blocks cut a v found → AreCountable a care found
   countable care found kept =
@@ -101,20 +96,7 @@ module _ (net : Parts) (blocks : Blocks) (cut : Cut) (a : Arena) (v : Vectors) (
       }
 
   pub counted : (care : Node) → AreLoopsToCount a blocks care solved
-  counted care = record {
-    loops = solution.loops;
-    countable = λ k none less. countable care (get_or solved.loops k none) (solution.steps k none less);
-    cuts =
-        let sum = sum-within (home_of blocks) (length blocks.home) solved.loops
-        (λ k none less.
-        let steps = (solution.steps k none less).steps in
-        let same = cut-count (get_or solved.loops k none) steps in
-        let most = cuts-total net blocks cut are (get_or solved.loops k none).block steps.block.within in
-        omega (arith, same, most))
-        solution.loops.once in
-        let bound = total-bound (within (home_of blocks) solved.loops) (length blocks.home) in
-        omega (arith, sum, bound);
-  }
+  counted care = grind (arith, countable, countable care, sum-within (home_of blocks) (length blocks.home) solved.loops, cut-count, cuts-total net blocks cut are, total-bound (within (home_of blocks) solved.loops) (length blocks.home))
 
 pub solutions-count : SolutionsCount
 solutions-count net blocks cut a v solved valid are cut_is solution care = counted net blocks cut a v solved valid are cut_is solution care

@@ -18,11 +18,9 @@ order-before : (net : Parts) (cut : ℕ → Bool) (order : List ℕ) (i g : ℕ)
     → ((n : ℕ) → ¬ ReadsUncut net cut n n) → Contains (take i order) g
 order-before net cut [] i g follows less has reads irreflexive = absurd (omega (arith, less))
 order-before net cut (n ∷ order) zero g follows less (zero, l, e) reads irreflexive = absurd (irreflexive n (subst (λ (m : ℕ). ReadsUncut net cut n m) (sym e) reads))
-order-before net cut (n ∷ order) zero g follows less (suc k, l, e) reads irreflexive =
-    absurd ((All-contains (λ h. (¬ (h ≡ n)) × (¬ ReadsUncut net cut n h)) order g (All-from_recursion (λ h. (¬ (h ≡ n)) × (¬ ReadsUncut net cut n h)) order follows.0) (k, omega (arith, l), e)).1 reads)
+order-before net cut (n ∷ order) zero g follows less (suc k, l, e) reads irreflexive = grind (arith, All-contains, All-from_recursion)
 order-before net cut (n ∷ order) (suc i) g follows less (zero, l, e) reads irreflexive = (zero, omega arith, e)
-order-before net cut (n ∷ order) (suc i) g follows less (suc k, l, e) reads irreflexive =
-    Contains-there n (take i order) g (order-before net cut order i g follows.1 (omega (arith, less)) (k, omega (arith, l), e) reads irreflexive)
+order-before net cut (n ∷ order) (suc i) g follows less (suc k, l, e) reads irreflexive = grind (arith, Contains-there n (take i order) g, order-before net cut order i g follows.1)
 
 -- ---- blocks that are solved
 
@@ -60,9 +58,7 @@ solved-more {l} {b = b} solved gates cuts = record {
 module _ (l : Looped) (d : Arena) (v : Vectors) (b : ℕ) (before rails : List Rails) (solved : IsSolvedBelow l d v b before rails) (bits : List Bool) (pin : Sig) where
   -- an input or a latch is read as it is
   pub reads-given : leb (first_gate l.net) pin.0 ≡ false → value_of d (rails_at rails pin.0) bits ≡ wire (fix l.net (v bits)) pin
-  reads-given early =
-      let low : pin.0 < first_gate l.net = leb-false (first_gate l.net) pin.0 early in
-      solved.given pin.0 bits low ∙ sym (get_or_append_left (v bits) (fix_gates l.net (v bits)) X pin.0 (omega (arith, low, solved.vector bits)))
+  reads-given early = grind (arith, leb-false (first_gate l.net) pin.0 early, get_or_append_left (v bits) (fix_gates l.net (v bits)) X pin.0)
 
   -- and a gate of an earlier block at the fixpoint
   pub reads-earlier : first_gate l.net ≤ pin.0 → gate_of l.net pin < length l.net.gates → home_of l.blocks (gate_of l.net pin) < b →
@@ -111,8 +107,7 @@ module _ (l : Looped) (valid : IsNetlist l.net) (b : ℕ) (v : Vectors) (c : Sta
   own-gate = gate_home l.net l.blocks ready.are.blocks b gate ready.loop.within (ready.follows.only gate (i, inside, get_or_default order i gate 0 inside))
 
   irreflexive : (n : ℕ) → ¬ ReadsUncut l.net (is_cut l.cut.wires) n n
-  irreflexive n reads =
-      uncut-irreflexive l.net (loops_by l.blocks l.cut) (blocks_tell_loops l.net l.blocks l.cut ready.are.blocks ready.are.cut) n (record { uncut = reads.uncut; leads = record { via = []; kind = tt; walk = reads.feeds } })
+  irreflexive n reads = grind arith
 
   -- a gate of another block is in no loop with it
   same-out : (g : ℕ) → (home_of l.blocks g ≢ b) → in_one_loop l.blocks gate g ≡ false

@@ -18,17 +18,12 @@ next-or-before order i m less has = Contains-push_cases (take i order) (get_or o
 -- what is set for the next one, and what stays for those after it
 pub set-taken : {T : Type 0} (P : ℕ → T → Type 0) (order : List ℕ) (xs : List T) (i : ℕ) (x none : T) → i < length order → get_or order i 0 < length xs
     → ((n : ℕ) → Contains (take i order) n → P n (get_or xs n none)) → P (get_or order i 0) x → (n : ℕ) → Contains (take (i + 1) order) n → P n (get_or (set xs (get_or order i 0) x) n none)
-set-taken P order xs i x none inside room before here n has = elim (cases_eq (get_or order i 0) n) [
-  | inl same ↦ subst (λ m. P m (get_or (set xs (get_or order i 0) x) m none)) same (subst (P (get_or order i 0)) (sym (get_or-set_same xs (get_or order i 0) x none room)) here)
-  | inr other ↦ subst (P n) (sym (get_or-set_other xs (get_or order i 0) n x none (λ same. other (sym same)))) (before n (elim (next-or-before order i n inside has) [ inl taken ↦ taken | inr next ↦ absurd (other next) ]))
-]
+set-taken P order xs i x none inside room before here n has = grind (arith, cases_eq (get_or order i 0) n, get_or-set_same xs (get_or order i 0) x none room, get_or-set_other xs (get_or order i 0) n x none, next-or-before order i n inside has)
 
 pub set-others : {T : Type 0} (order : List ℕ) (old xs : List T) (i : ℕ) (x none : T) → i < length order → ((n : ℕ) → ¬ Contains (take i order) n → get_or xs n none ≡ get_or old n none)
     → (n : ℕ) → ¬ Contains (take (i + 1) order) n → get_or (set xs (get_or order i 0) x) n none ≡ get_or old n none
 set-others order old xs i x none inside others n =
-    rw (take_more order i 0 inside)
-    (λ free. get_or-set_other xs (get_or order i 0) n x none (λ same. free (subst (Contains (take i order ++ get_or order i 0 ∷ [])) (sym same) (Contains-push (take i order) (get_or order i 0))))
-    ∙ others n (λ taken. free (Contains-append_left (take i order) (get_or order i 0 ∷ []) n taken)))
+    grind (arith, take_more order i 0 inside, get_or-set_other xs (get_or order i 0) n x none, Contains-push (take i order) (get_or order i 0), Contains-append_left (take i order) (get_or order i 0 ∷ []) n)
 
 -- ---- rails
 
@@ -42,17 +37,10 @@ unfolding den_within
 unknown-value a bits = refl
 
 pub rails_at-proper : (a : Arena) (rails : List Rails) → All (AreRailsOf a) rails → (s : ℕ) → AreRailsOf a (rails_at rails s)
-rails_at-proper a rails all s = elim (cases_lt s (length rails)) [
-  | inl low ↦ all s unknown low
-  | inr high ↦ subst (AreRailsOf a) (sym (get_or_past rails s unknown high)) (unknown-rails a)
-]
+rails_at-proper a rails all s = grind (arith, cases_lt s (length rails), get_or_past rails s unknown, unknown-rails a)
 
 pub rails_read-proper : (net : Parts) (cut : Cut) (a : Arena) (before rails : List Rails) → AreWires net a before rails → (pin : Sig) → AreRailsOf a (rails_read net cut before rails pin)
-rails_read-proper net cut a before rails wires pin = by (leb (first_gate net) pin.0 && is_cut cut.wires (gate_of net pin))
-  where
-    by : (b : Bool) → AreRailsOf a (if b then rails_at before (gate_of net pin) else rails_at rails pin.0)
-    by true = rails_at-proper a before wires.before_proper (gate_of net pin)
-    by false = rails_at-proper a rails wires.proper pin.0
+rails_read-proper net cut a before rails wires pin = grind (arith, rails_at-proper a before wires.before_proper (gate_of net pin), rails_at-proper a rails wires.proper pin.0)
 
 -- the rails of a gate's pins, however they are read
 pub pins-proper : (a : Arena) (read : Sig → Rails) (pins : List Sig) (list : List Rails) → ((pin : Sig) → AreRailsOf a (read pin)) → list ≡ map read pins → All (AreRailsOf a) list
@@ -62,12 +50,8 @@ pub pins-values : (a : Arena) (read : Sig → Rails) (pins : List Sig) (list : L
 pins-values a read pins list bits is = ap (λ (l : List Rails). values_of a l bits) is ∙ map-map {C = Trit} (λ r. value_of a r bits) read pins
 
 pub AreWires-set : {net : Parts} {cut : Cut} {s t : Arena} {before rails after : List Rails} (gate : ℕ) → KeepsNodes s t → AreWires net s before rails → IsGateSet net cut s t before rails after gate → AreWires net t before after
-AreWires-set {net} {cut} {s} {t} {before} {rails} {after} gate k is done = record {
-  width = ap length done.is ∙ length-set rails (first_gate net + gate) done.made ∙ is.width;
-  before_width = is.before_width;
-  proper = subst (All (AreRailsOf t)) (sym done.is) (All-set (AreRailsOf t) rails (first_gate net + gate) done.made done.proper (All-rails-kept k rails is.proper));
-  before_proper = All-rails-kept k before is.before_proper;
-}
+AreWires-set {net} {cut} {s} {t} {before} {rails} {after} gate k is done =
+    grind (arith, length-set rails (first_gate net + gate) done.made, All-set (AreRailsOf t) rails (first_gate net + gate) done.made done.proper (All-rails-kept k rails is.proper), All-rails-kept k rails is.proper, All-rails-kept k before is.before_proper)
 
 -- ---- one signal is set
 
@@ -78,10 +62,7 @@ set-same a rails after p made is less bits = ap (λ (r : List Rails). value_of a
 -- and another one has the value that it had
 pub set-other : {s t : Arena} (rails after : List Rails) (p : ℕ) (made : Rails) → KeepsNodes s t → All (AreRailsOf s) rails → after ≡ slice_set rails p made →
     (m : ℕ) (bits : List Bool) → m ≢ p → value_of t (rails_at after m) bits ≡ value_of s (rails_at rails m) bits
-set-other {s} {t} rails after p made keeps proper is m bits other =
-    ap (λ (r : List Rails). value_of t (rails_at r m) bits) is
-    ∙ ap (λ (r : Rails). value_of t r bits) (get_or-set_other rails p m made unknown other)
-    ∙ value_of-kept keeps (rails_at rails m) (rails_at-proper s rails proper m) bits
+set-other {s} {t} rails after p made keeps proper is m bits other = grind (arith, get_or-set_other rails p m made unknown other, value_of-kept keeps (rails_at rails m) (rails_at-proper s rails proper m) bits, rails_at-proper s rails proper m)
 
 -- no input or latch is set with a gate
 pub given-set : {net : Parts} {cut : Cut} {s t : Arena} {before rails after : List Rails} (gate : ℕ) → IsGateSet net cut s t before rails after gate → take (first_gate net) after ≡ take (first_gate net) rails

@@ -40,18 +40,7 @@ module _ (net : Parts) (loops : Loops) (v : Vectors) where
   pub bounds-lift : (d : Arena) (gate : ℕ) → gate < length net.gates → (list : List Rails) (read : List Bool → List Trit) → length list ≡ length (gate_at net gate).pins → ((bits : List Bool) → values_of d list bits ≡ read bits)
       → IsReadInSweep net loops v gate read ⊎ IsReadAtFix net loops v gate read
       → {w : ℕ} → BoundsEach d.vars (IsGatePart net loops v) w → BoundsEach d.vars (IsExtended d list (value (gate_at net gate).cover)) w
-  bounds-lift d gate less list read width values reads bounds g e =
-      let short = e.short in
-      bounds g (record {
-        gate = gate;
-        within = less;
-        first = e.first;
-        short = omega (arith, short, width);
-        bit = e.bit;
-        read = read;
-        reads = reads;
-        same = λ bits. e.same bits ∙ ap (λ (ts : List Trit). is_bit e.bit (exact (λ rest. value (gate_at net gate).cover (e.first ++ rest)) (drop (length e.first) ts))) (values bits);
-      })
+  bounds-lift d gate less list read width values reads bounds g e = grind arith
 
   -- a width of the working list serves each function of a gate
   pub parts-bounded : {vars w : ℕ} → IsWide vars (IsWorking net loops v) w → BoundsEach vars (IsGatePart net loops v) w

@@ -50,19 +50,11 @@ loop-number-preserved c =
     }
 
 pub overflow_cast-result-2 : goal.overflow_cast-result-2
-overflow_cast-result-2 c =
-    let some = c.requires.some in
-    let within = c.loop-number.invariant.within in
-    let past = c.loop-number-test.false in
-    let least : IsLeastStep c.args.d.now c.args.care c.args.steps.now (length c.args.steps.now - 1) =
-    least_last c.args.d.now c.args.care c.args.steps.now (length c.args.steps.now - 1) c.requires.some (omega arith) (λ j less. c.loop-number.invariant.none j (omega arith)) in
-    omega (arith, c.requires.fits (length c.args.steps.now - 1) least)
+overflow_cast-result-2 c = grind (arith, least_last c.args.d.now c.args.care c.args.steps.now (length c.args.steps.now - 1) c.requires.some)
 
 pub returns-in_err-agree_on-clause-grows : goal.returns-in_err-agree_on-clause-grows
 returns-in_err-agree_on-clause-grows c =
-    let less = c.loop-number-test.true in
-    within_more (steps-more c.args.width c.loop-number.number (length c.args.steps.now) (omega (arith, less, c.requires.some)))
-    (within_refused c.in_err-agree_on.was c.from_residual.ensures.1 (step ((goal.at.returns-in_err-agree_on-clause-grows c).After-agree_on)))
+    grind (arith, within_more, steps-more c.args.width c.loop-number.number (length c.args.steps.now), within_refused c.in_err-agree_on.was c.from_residual.ensures.1 (step ((goal.at.returns-in_err-agree_on-clause-grows c).After-agree_on)), step ((goal.at.returns-in_err-agree_on-clause-grows c).After-agree_on))
 
 pub returns-then-branch-clause-grows : goal.returns-then-branch-clause-grows
 returns-then-branch-clause-grows c =

@@ -22,8 +22,4 @@ pub returns-clause-least : goal.returns-clause-least
 returns-clause-least c = rw (steps-are (goal.at.returns-clause-least c).After-deref) at c.least_step.ensures.least
 
 pub returns-clause-grows : goal.returns-clause-grows
-returns-clause-grows c =
-    let same = steps-are (goal.at.returns-clause-grows c).After-deref in
-    let long : length c.deref.result.now ≡ length c.args.found.now.steps = ap length same ∙ length-map {B = List Rails} c.args.found.now.steps (map (rails_under c.args.d.now)) in
-    let cost : 4 * length c.items-2.result.now * length c.deref.result.now ≡ 4 * length c.args.found.now.cuts * length c.args.found.now.steps = ap₂ (λ (m n : ℕ). 4 * m * n) (ap length c.items-2.ensures) long in
-    within_more (omega (arith, cost)) (within_moved (λ w wide. rw same wide) c.least_step.ensures.grows)
+returns-clause-grows c = grind (arith, steps-are (goal.at.returns-clause-grows c).After-deref, length-map {B = List Rails} c.args.found.now.steps (map (rails_under c.args.d.now)), within_more, within_moved)

@@ -21,9 +21,7 @@ returns-clause-same c =
 
 -- where the nodes differ is at most one function, and where they differ on care another
 both : (c : After-and) → GrowsWithin c.and.result c.args.d.now c.and.new.self NoOtherCause (BoundsDifference c.args.d.now c.args.care c.args.m c.args.n) 2
-both c =
-    let same = difference-is c.args.d.now c.xor.new.self c.args.care c.args.m c.args.n c.in_ok-differ.differ c.xor.ensures.grows.keeps c.requires.care c.in_ok-differ.ensures.function in
-    within_then (within_one (λ w bounds. bounds.0) c.xor.ensures.grows) (within_one (λ w bounds. omega (arith, bounds.1, same)) c.and.ensures.grows)
+both c = grind (arith, difference-is c.args.d.now c.xor.new.self c.args.care c.args.m c.args.n c.in_ok-differ.differ c.xor.ensures.grows.keeps c.requires.care c.in_ok-differ.ensures.function, within_then, within_one)
 
 pub returns-clause-grows : goal.returns-clause-grows
 returns-clause-grows c = within_answered (both ((goal.at.returns-clause-grows c).After-and))

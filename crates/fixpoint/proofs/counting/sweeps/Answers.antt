@@ -7,12 +7,7 @@ use Rattle.fixpoint.proofs.counting.sweeps.Goals as goal
 use Rattle.fixpoint.proofs.counting.sweeps.Goals.{After-least_sweeps}
 
 pub least_sweeps-requires-clause-countable : goal.least_sweeps-requires-clause-countable
-least_sweeps-requires-clause-countable c =
-    let found : LoopSteps = c.found-item.result in
-    let is : found ≡ get_or c.args.solved.now.loops c.loop-found.found-index found = rw c.items-found-items.ensures at c.found-item.is in
-    let inside : c.loop-found.found-index < length c.args.solved.now.loops = omega (arith, c.loop-found-test.true, ap length c.items-found-items.ensures) in
-    countable-kept (subst IsLawful c.store.ensures c.laws.ensures) c.requires.care c.loop-found.invariant.grows.keeps found
-    (subst (AreCountable c.args.d.now c.args.care) (sym is) (c.requires.loops.countable c.loop-found.found-index found inside))
+least_sweeps-requires-clause-countable c = grind (arith, countable-kept)
 
 -- the next loop
 item-is : (c : After-least_sweeps) → c.found-item.result ≡ get_or c.args.solved.now.loops c.loop-found.found-index c.found-item.result
@@ -53,10 +48,7 @@ loop-found-preserved c =
 
 pub returns-in_err-count-clause-grows : goal.returns-in_err-count-clause-grows
 returns-in_err-count-clause-grows c =
-    let loops : List LoopSteps = c.args.solved.now.loops in
-    let sum : ℕ = sum_by (λ (loop : LoopSteps). length loop.cuts) (take (c.loop-found.found-index + 1) loops) in
-    let most = loops-within (length c.args.blocks.now.home) sum (omega (arith, sum_by-take-le (λ (loop : LoopSteps). length loop.cuts) loops (c.loop-found.found-index + 1), c.requires.loops.cuts)) in
-    within_more most (within_refused c.in_err-count.was c.from_residual.ensures.1 (step ((goal.at.returns-in_err-count-clause-grows c).After-least_sweeps)))
+    grind (arith, loops-within (length c.args.blocks.now.home), sum_by-take-le, within_more, within_refused c.in_err-count.was c.from_residual.ensures.1 (step ((goal.at.returns-in_err-count-clause-grows c).After-least_sweeps)), step ((goal.at.returns-in_err-count-clause-grows c).After-least_sweeps))
 
 pub returns-clause-grows : goal.returns-clause-grows
 returns-clause-grows c =

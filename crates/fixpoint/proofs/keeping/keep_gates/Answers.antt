@@ -17,7 +17,4 @@ loop-gate-preserved c =
     }
 
 pub keep-requires : goal.keep-requires
-keep-requires c =
-    let place : ℕ = c.args.first + get_or c.args.gates.now c.loop-gate.gate-index 0 in
-    AreRailsOf-gained c.loop-gate.invariant.gains (get_or c.args.rails.now place unknown)
-    (c.requires.proper place unknown (omega (arith, c.requires.width, c.requires.gates c.loop-gate.gate-index 0 c.loop-gate-test.true)))
+keep-requires c = grind arith

@@ -1,12 +1,11 @@
-use Rattle.std.proofs.Common.{[], get_or, sym, ◌∙◌, subst}
+use Rattle.std.proofs.Common.{[], get_or, sym, ◌∙◌, subst, arith}
 use Rattle.fixpoint.proofs.Common.{get_or_default, All, AreRailsOf}
 use Rattle.fixpoint.proofs.KeptLemmas.{GainsRoots_chain, All-rails-gained, All-kept-gained, all_under-gained, more-kept}
 use Rattle.fixpoint.proofs.keeping.keep_steps.Goals as goal
 
 pub keep_rails-requires : goal.keep_rails-requires
 keep_rails-requires c =
-    subst (All (AreRailsOf c.loop-step.d)) (sym (c.items.ensures ∙ c.step-item.is ∙ get_or_default c.args.steps.now c.loop-step.step-index c.step-item.result [] c.loop-step-test.true))
-    (All-rails-gained c.loop-step.invariant.gains (get_or c.args.steps.now c.loop-step.step-index []) (c.requires c.loop-step.step-index [] c.loop-step-test.true))
+    grind (arith, get_or_default c.args.steps.now c.loop-step.step-index c.step-item.result [] c.loop-step-test.true, All-rails-gained c.loop-step.invariant.gains (get_or c.args.steps.now c.loop-step.step-index []) (c.requires c.loop-step.step-index [] c.loop-step-test.true))
 
 pub loop-step-preserved : goal.loop-step-preserved
 loop-step-preserved c =

@@ -1,4 +1,4 @@
-use Rattle.std.proofs.Common.{get_or}
+use Rattle.std.proofs.Common.{get_or, arith}
 use Rattle.fixpoint.proofs.Common.{unknown}
 use Rattle.fixpoint.proofs.KeptLemmas.{GainsRoots_chain, AreRailsOf-gained, AreKept-gained, rails_under-gained, more-kept}
 use Rattle.fixpoint.proofs.kept.keep_rails.Goals as goal
@@ -12,5 +12,4 @@ loop-one-preserved c =
     record { gains = GainsRoots_chain inv.gains gains; keys = rw c.in_ok-push.ensures.items more.0; rails = rw c.in_ok-push.ensures.items more.1 }
 
 pub keep-requires : goal.keep-requires
-keep-requires c =
-    AreRailsOf-gained c.loop-one.invariant.gains (get_or c.args.rails.now c.loop-one.one-index unknown) (c.requires c.loop-one.one-index unknown c.loop-one-test.true)
+keep-requires c = grind (arith, AreRailsOf-gained c.loop-one.invariant.gains (get_or c.args.rails.now c.loop-one.one-index unknown) (c.requires c.loop-one.one-index unknown c.loop-one-test.true))

@@ -1,14 +1,11 @@
-use Rattle.std.proofs.Common.{true, false}
+use Rattle.std.proofs.Common.{true, false, arith}
 use Rattle.std.proofs.lemmas.List.{set-get_or}
 use Rattle.fixpoint.proofs.Common.{append-nil}
 use Rattle.fixpoint.proofs.OrderLemmas.{taken-more}
 use Rattle.fixpoint.proofs.layout.take_column.Goals as goal
 
 pub returns-in_ok-push-clause-taken : goal.returns-in_ok-push-clause-taken
-returns-in_ok-push-clause-taken c from are =
-    rw c.in_ok-push.ensures.items (rw c.if-not-marks-column.true at (taken-more from c.args.marks.now c.args.columns.now.items c.args.column c.requires are))
+returns-in_ok-push-clause-taken c from are = grind (arith, taken-more from c.args.marks.now c.args.columns.now.items c.args.column c.requires are)
 
 pub returns-else-not-marks-column-clause-taken : goal.returns-else-not-marks-column-clause-taken
-returns-else-not-marks-column-clause-taken c from are =
-    let marked = set-get_or c.args.marks.now c.args.column false in
-    rw (rw c.if-not-marks-column.false at marked, c.if-not-marks-column.false, append-nil c.args.columns.now.items) at (taken-more from c.args.marks.now c.args.columns.now.items c.args.column c.requires are)
+returns-else-not-marks-column-clause-taken c from are = grind (arith, set-get_or c.args.marks.now c.args.column false, append-nil c.args.columns.now.items, taken-more from c.args.marks.now c.args.columns.now.items c.args.column c.requires are)

@@ -6,23 +6,14 @@ use Rattle.fixpoint.proofs.lifting.lift_gate.Goals as goal
 use Rattle.fixpoint.proofs.lifting.lift_gate.Goals.{After-gate_rails}
 
 pub gate_rails-requires-clause-rails : goal.gate_rails-requires-clause-rails
-gate_rails-requires-clause-rails c =
-    pins-proper c.args.d.now (rails_of_pin c.args.rails.now) c.items.result.now c.deref.result.now
-    (λ pin. rails_at-proper c.args.d.now c.args.rails.now c.requires.wires.proper pin.0) (c.deref.ensures.value ∙ c.in-Ok.ensures)
+gate_rails-requires-clause-rails c = grind (arith, pins-proper c.args.d.now (rails_of_pin c.args.rails.now) c.items.result.now c.deref.result.now, rails_at-proper c.args.d.now c.args.rails.now c.requires.wires.proper)
 
 -- the rails of the pins
 listed : (c : After-gate_rails) → c.deref.result.now ≡ map (rails_of_pin c.args.rails.now) (gate_at c.args.net.now c.args.gate).pins
 listed c = c.deref.ensures.value ∙ c.in-Ok.ensures ∙ ap (map (rails_of_pin c.args.rails.now)) (c.items.ensures ∙ ap (λ (g : Gate). g.pins) c.gate.ensures.at)
 
 pub returns-clause-set : goal.returns-clause-set
-returns-clause-set c = record {
-  made = c.in_ok-made.made;
-  is = ap (λ n. set c.args.rails.now n c.in_ok-made.made) (omega (arith, c.columns.ensures.columns));
-  proper = c.in_ok-made.ensures.rails;
-  value = λ bits. c.in_ok-made.ensures.value bits
-      ∙ ap (ext (gate_at c.args.net.now c.args.gate).cover)
-      (pins-values c.args.d.now (rails_of_pin c.args.rails.now) (gate_at c.args.net.now c.args.gate).pins c.deref.result.now bits (listed (goal.at.returns-clause-set c).After-gate_rails));
-}
+returns-clause-set c = grind (arith, pins-values c.args.d.now (rails_of_pin c.args.rails.now) (gate_at c.args.net.now c.args.gate).pins c.deref.result.now, listed (goal.at.returns-clause-set c).After-gate_rails)
 
 pub returns-clause-grows : goal.returns-clause-grows
 returns-clause-grows c = within_answered (within_moved (λ w bounds. rw (listed (goal.at.returns-clause-grows c).After-gate_rails) bounds) c.gate_rails.ensures.grows)

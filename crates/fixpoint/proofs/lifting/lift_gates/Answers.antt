@@ -1,4 +1,4 @@
-use Rattle.std.proofs.Common.{◌≡◌, ◌++◌, ◌∙◌, List, length, replicate, take, drop, sym, ap, subst}
+use Rattle.std.proofs.Common.{◌≡◌, ◌++◌, ◌∙◌, List, length, replicate, take, drop, sym, ap, subst, arith}
 use Rattle.fixpoint.proofs.Common.{All, within_refused, within_answered, Rails, AreRailsOf, values_of, AreLifted, unknown}
 use Rattle.std.proofs.lemmas.List.{take_at}
 use Rattle.fixpoint.proofs.LiftLemmas.{lifted-start}
@@ -7,10 +7,7 @@ use Rattle.fixpoint.proofs.lifting.lift_gates.Goals.{After-deref_mut, After-lift
 
 -- before the gates, inputs and latches have the given values
 start : (c : After-deref_mut) → AreLifted c.args.net.now c.deref-2.result.now c.args.d.now (λ bits. values_of c.args.d.now c.args.given.now bits) 0 c.deref_mut.result.now
-start c =
-    lifted-start c.args.net.now c.deref-2.result.now c.args.d.now c.args.given.now c.deref_mut.result.now c.requires.width c.requires.rails
-    (c.deref_mut.ensures.value ∙ c.in-Ok-signal_rails.ensures
-    ∙ ap (λ (rails : List Rails). c.args.given.now ++ rails) (c.deref.ensures.value ∙ c.in-Ok.ensures ∙ ap (λ n. replicate n unknown) c.gates.ensures.gates))
+start c = grind (arith, lifted-start c.args.net.now c.deref-2.result.now c.args.d.now c.args.given.now c.deref_mut.result.now c.requires.width c.requires.rails)
 
 -- after them, all rails are given back
 given-back : (c : After-lift_in_order) → take c.in-Ok-signal_rails.rails.len (c.lift_in_order.new.rails ++ drop (length c.lift_in_order.new.rails) c.in-Ok-signal_rails.rails.items) ≡ c.lift_in_order.new.rails
@@ -20,8 +17,7 @@ pub lift_in_order-requires-clause-wires : goal.lift_in_order-requires-clause-wir
 lift_in_order-requires-clause-wires c = (start (goal.at.lift_in_order-requires-clause-wires c).After-deref_mut).wires
 
 pub returns-clause-rails : goal.returns-clause-rails
-returns-clause-rails c =
-    subst (All (AreRailsOf c.lift_in_order.new.d)) (sym (given-back (goal.at.returns-clause-rails c).After-lift_in_order)) c.in_ok-lift_in_order.ensures.wires.proper
+returns-clause-rails c = grind (arith, given-back (goal.at.returns-clause-rails c).After-lift_in_order)
 
 pub returns-clause-values : goal.returns-clause-values
 returns-clause-values c bits =

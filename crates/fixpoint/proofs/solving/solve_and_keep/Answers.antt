@@ -9,16 +9,13 @@ use Rattle.fixpoint.proofs.solving.solve_and_keep.Goals.{After-solve_block}
 pub solve_block-requires-clause-solved : goal.solve_block-requires-clause-solved
 solve_block-requires-clause-solved c =
     let is = c.requires.solved.solved in
-    rw (c.gates_of-gates.ensures.home 0 0 c.gates_of-gates.ensures.some).1
-    (subst (λ (v : Vectors). IsSolvedBelow c.args.looped.now c.args.d.now v c.args.place c.args.progress.now.wires.before.items c.args.progress.now.wires.rails.items) (sym (vectors-are is)) is)
+    grind (arith, vectors-are is)
 
 -- what the block adds
 block-adds : (c : After-solve_block) → AddsWithin c.solve_block.result c.args.d.now c.solve_block.new.d (HasLargeCover c.args.looped.now.net) (IsWide c.args.d.now.vars (IsWorking c.args.looped.now.net (loops_by c.args.looped.now.blocks c.args.looped.now.cut) (values_under c.args.d.now c.args.given.now)))
     (2 * ((length c.args.looped.now.net.gates + 1) * block_cost c.args.looped.now.net c.args.looped.now.blocks c.args.place))
 block-adds c =
-    let home = (c.gates_of-gates.ensures.home 0 0 c.gates_of-gates.ensures.some).1 in
-    adds_moved (λ w wide. wide-same c.args.looped.now.net (loops_by c.args.looped.now.blocks c.args.looped.now.cut) (vectors c.args.looped.now.net c.args.d.now c.args.progress.now.wires.rails.items) (values_under c.args.d.now c.args.given.now) c.args.d.now c.args.d.now refl (vectors-are c.requires.solved.solved) wide)
-    (rw home at c.solve_block.ensures.grows.adds)
+    grind (arith, adds_moved, wide-same c.args.looped.now.net (loops_by c.args.looped.now.blocks c.args.looped.now.cut) (vectors c.args.looped.now.net c.args.d.now c.args.progress.now.wires.rails.items) (values_under c.args.d.now c.args.given.now) c.args.d.now c.args.d.now, vectors-are c.requires.solved.solved)
 
 pub returns-in_err-found-clause-roots : goal.returns-in_err-found-clause-roots
 returns-in_err-found-clause-roots c = RootsStay-kept (subst IsLawful c.store.ensures c.laws.ensures) c.solve_block.ensures.grows.keeps
@@ -27,8 +24,7 @@ pub returns-in_err-found-clause-adds : goal.returns-in_err-found-clause-adds
 returns-in_err-found-clause-adds c = adds_refused c.in_err-found.was c.from_residual.ensures.1 (block-adds ((goal.at.returns-in_err-found-clause-adds c).After-solve_block))
 
 pub keep_block-requires-clause-steps : goal.keep_block-requires-clause-steps
-keep_block-requires-clause-steps c =
-    found-rails c.args.looped.now c.solve_block.new.d (vectors c.args.looped.now.net c.args.d.now c.args.progress.now.wires.rails.items) (home_of c.args.looped.now.blocks (get_or c.gates_of-gates.result.now 0 0)) c.in_ok-found.found c.in_ok-found.ensures.steps
+keep_block-requires-clause-steps c = grind arith
 
 pub returns-in_err-keep_block-clause-roots : goal.returns-in_err-keep_block-clause-roots
 returns-in_err-keep_block-clause-roots c = RootsStay-gained (subst IsLawful c.store.ensures c.laws.ensures) c.solve_block.ensures.grows.keeps c.keep_block.ensures.gains

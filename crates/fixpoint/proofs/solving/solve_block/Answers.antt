@@ -1,4 +1,4 @@
-use Rattle.std.proofs.Common.{◌+◌, ◌*◌, length, ◌≡◌, ◌∙◌, false, ap}
+use Rattle.std.proofs.Common.{◌+◌, ◌*◌, length, ◌≡◌, ◌∙◌, false, ap, arith}
 use Rattle.fixpoint.proofs.Common.{get_or_default, GrowsWithin, size, gate_at, IsWide, loops_by, IsWorking, HasLargeCover, block_cost, within_moved, within_more, within_refused, within_answered, Block, block_at, home_of, no_block, vectors}
 use Rattle.fixpoint.proofs.BoundLemmas.{plain-bounds, plain-cost, gate-few}
 use Rattle.fixpoint.proofs.BlockLemmas.{plain-solved}
@@ -6,9 +6,7 @@ use Rattle.fixpoint.proofs.solving.solve_block.Goals as goal
 use Rattle.fixpoint.proofs.solving.solve_block.Goals.{After-set_gate}
 
 plain : (c : After-set_gate) → (block_at c.args.looped.now.blocks (home_of c.args.looped.now.blocks c.args.gate)).looped ≡ false
-plain c =
-    ap (λ (x : Block). x.looped) (get_or_default c.args.looped.now.blocks.list (home_of c.args.looped.now.blocks c.args.gate) no_block c.index-items-place.result (c.blocks-blocks.ensures.looped.blocks.home c.args.gate c.requires.gate))
-    ∙ (rw (c.items-2.ensures, c.items.ensures, c.blocks-blocks.ensures.blocks) at c.if-items-place.false)
+plain c = grind (arith, get_or_default c.args.looped.now.blocks.list (home_of c.args.looped.now.blocks c.args.gate) no_block c.index-items-place.result (c.blocks-blocks.ensures.looped.blocks.home c.args.gate c.requires.gate))
 
 pub returns-clause-solved : goal.returns-clause-solved
 returns-clause-solved c =

@@ -75,9 +75,7 @@ pub returns-clause-adds : goal.returns-clause-adds
 returns-clause-adds c = adds_more (below-all c.args.looped.now.net c.args.looped.now.blocks c.loop-place.place) (adds_answered c.loop-place.invariant.adds)
 
 pub returns-clause-loops : goal.returns-clause-loops
-returns-clause-loops c =
-    let past = c.loop-place-test.false in
-    loops-end c.args.looped.now.blocks c.loop-place.place c.loop-place.loops.items (omega (arith, past, ap length c.items-place-end.ensures, ap (λ (x : Blocks). length x.list) c.blocks-2.ensures.blocks)) c.loop-place.invariant.loops
+returns-clause-loops c = grind (arith, loops-end c.args.looped.now.blocks c.loop-place.place c.loop-place.loops.items)
 
 pub returns-in_err-found-clause-roots : goal.returns-in_err-found-clause-roots
 returns-in_err-found-clause-roots c = RootsStay-chain c.loop-place.invariant.roots c.solve_with_retry.ensures.roots

@@ -7,14 +7,8 @@ use Rattle.fixpoint.proofs.solving.solve_looped.Goals.{After-solve_blocks}
 
 pub solve_blocks-requires : goal.solve_blocks-requires
 solve_blocks-requires c =
-    let gates = c.gates.ensures.gates ∙ ap (λ (n : Parts). length n.gates) c.net.ensures.net in
     let p = c.in_ok-progress.progress in
-    record {
-      solved = rw c.deref-2.ensures.value
-          (solved-start c.args.looped.now c.args.d.now c.args.given.items p.wires.before.items p.wires.rails.items p.places.items c.requires
-          (c.in_ok-progress.ensures.places ∙ ap (λ n. replicate {A = Option KeptRails} n None) gates) c.in_ok-progress.ensures.before
-          (rw c.deref.ensures.value at c.in_ok-progress.ensures.rails));
-    }
+    grind (arith, solved-start c.args.looped.now c.args.d.now c.args.given.items p.wires.before.items p.wires.rails.items p.places.items c.requires)
 
 -- what the blocks add, by the given rails as they were handed in
 block-adds : (c : After-solve_blocks) → AddsWithin c.solve_blocks.result c.args.d.now c.solve_blocks.new.d (HasLargeCover c.args.looped.now.net)

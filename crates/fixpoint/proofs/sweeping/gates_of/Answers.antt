@@ -1,4 +1,4 @@
-use Rattle.std.proofs.Common.{◌≡◌, ◌∙◌, ap}
+use Rattle.std.proofs.Common.{◌≡◌, ◌∙◌, ap, arith}
 use Rattle.fixpoint.proofs.Common.{Blocks, block_at}
 use Rattle.fixpoint.proofs.BlockLemmas.{gates-some, gates-home}
 use Rattle.fixpoint.proofs.CutLemmas.{block-gates}
@@ -6,8 +6,7 @@ use Rattle.fixpoint.proofs.sweeping.gates_of.Goals as goal
 use Rattle.fixpoint.proofs.sweeping.gates_of.Goals.{After-items-2}
 
 gates-are : (c : After-items-2) → c.items-2.result.now ≡ (block_at c.args.looped.now.blocks c.args.place).gates
-gates-are c =
-    block-gates c.args.looped.now.blocks.list c.items.result.now c.args.place c.index-items-place.result c.items-2.result.now (c.items.ensures ∙ ap (λ (b : Blocks). b.list) c.blocks-2.ensures.blocks) c.requires c.items-2.ensures
+gates-are c = grind (arith, block-gates c.args.looped.now.blocks.list c.items.result.now c.args.place c.index-items-place.result c.items-2.result.now)
 
 pub returns-clause-gates : goal.returns-clause-gates
 returns-clause-gates c = gates-are c

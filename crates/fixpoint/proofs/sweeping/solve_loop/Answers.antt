@@ -8,20 +8,11 @@ use Rattle.fixpoint.proofs.sweeping.solve_loop.Goals as goal
 use Rattle.fixpoint.proofs.sweeping.solve_loop.Goals.{After-sweep_once, In_ok-still}
 
 pub returns-in_err-plan-clause-grows : goal.returns-in_err-plan-clause-grows
-returns-in_err-plan-clause-grows c = within_nothing (λ is_full.
-    let refused = ap {A = StoreFault} Err (sym (rw is_full at c.from_residual.ensures.1)) in
-    let limit : c.limit.result ≡ c.args.d.now.limit = c.limit.ensures.limit ∙ ap (λ (a : Arena). a.limit) c.store.ensures in
-    subst (HasLargeCover c.args.looped.now.net) limit (c.in_err-plan.ensures.full refused))
+returns-in_err-plan-clause-grows c = grind arith
 
 pub loop-steps-init : goal.loop-steps-init
-loop-steps-init c = record {
-  grows = nothing_grown;
-  given = refl;
-  underway = subst (λ (xs : List (List Rails)). IsUnderway c.args.looped.now c.args.d.now (vectors c.args.looped.now.net c.args.d.now c.args.wires.now.rails.items) c.args.place c.in_ok-plan.plan.cuts xs c.args.wires.now.before.items c.args.wires.now.rails.items)
-      (sym c.new-steps.ensures.items)
-      (underway-start c.args.looped.now c.in_ok-plan.ensures.plan.are c.args.place c.requires.at (vectors c.args.looped.now.net c.args.d.now c.args.wires.now.rails.items) c.args.d.now
-      c.in_ok-plan.plan.cuts c.args.wires.now.before.items c.args.wires.now.rails.items c.requires.solved c.requires.fresh);
-}
+loop-steps-init c =
+    grind (arith, nothing_grown, underway-start c.args.looped.now c.in_ok-plan.ensures.plan.are c.args.place c.requires.at (vectors c.args.looped.now.net c.args.d.now c.args.wires.now.rails.items) c.args.d.now c.in_ok-plan.plan.cuts c.args.wires.now.before.items c.args.wires.now.rails.items c.requires.solved c.requires.fresh)
 
 -- one sweep more
 grown : (c : After-sweep_once) → GrowsWithin c.sweep_once.result c.args.d.now c.sweep_once.new.d NoOtherCause (IsWide c.args.d.now.vars (IsWorking c.args.looped.now.net (loops_by c.args.looped.now.blocks c.args.looped.now.cut) (vectors c.args.looped.now.net c.args.d.now c.args.wires.now.rails.items)))

@@ -19,13 +19,7 @@ listed c = c.deref.ensures.value ∙ c.in-Ok.ensures ∙ ap (map (reads c)) (c.i
 pub returns-clause-set : goal.returns-clause-set
 returns-clause-set c =
     let after : After-lift_cover = (goal.at.returns-clause-set c).After-lift_cover in
-    record {
-      made = c.in_ok-made.made;
-      is = ap (λ n. set c.args.self.now.rails.items n c.in_ok-made.made) (omega (arith, c.columns.ensures.columns, ap first_gate c.net-net.ensures.net));
-      proper = c.in_ok-made.ensures.rails;
-      value = λ bits. (rw c.net-net.ensures.net at (c.in_ok-made.ensures.value bits))
-          ∙ ap (ext (gate_at c.args.looped.now.net c.args.gate).cover) (pins-values c.args.d.now (reads after) (gate_at c.args.looped.now.net c.args.gate).pins c.deref.result.now bits (listed after));
-    }
+    grind (arith, After-lift_cover, pins-values c.args.d.now (reads after) (gate_at c.args.looped.now.net c.args.gate).pins c.deref.result.now, listed after)
 
 pub returns-clause-grows : goal.returns-clause-grows
 returns-clause-grows c = within_answered (within_moved (λ w bounds. rw (listed (goal.at.returns-clause-grows c).After-lift_cover) bounds) (rw c.net-net.ensures.net at c.lift_cover.ensures.grows))

@@ -1,4 +1,4 @@
-use Rattle.std.proofs.Common.{◌≡◌, Err, sym, ap, subst, ◌∙◌}
+use Rattle.std.proofs.Common.{◌≡◌, Err, sym, ap, subst, ◌∙◌, arith}
 use Rattle.fixpoint.proofs.Common.{StoreFault, Arena, within_only, within_nothing, HasLargeCover}
 use Rattle.fixpoint.proofs.wires.Wires.set_gate.Goals as goal
 
@@ -6,7 +6,4 @@ pub returns-clause-grows : goal.returns-clause-grows
 returns-clause-grows c = within_only c.set_by_diagram.ensures.grows
 
 pub returns-in_err-diagram-clause-grows : goal.returns-in_err-diagram-clause-grows
-returns-in_err-diagram-clause-grows c = within_nothing (λ is_full.
-    let refused = ap {A = StoreFault} Err (sym (rw is_full at c.from_residual.ensures.1)) in
-    let limit : c.limit.result ≡ c.args.d.now.limit = c.limit.ensures.limit ∙ ap (λ (a : Arena). a.limit) c.store.ensures in
-    subst (HasLargeCover c.args.looped.now.net) limit (rw c.net-net.ensures.net at (c.in_err-diagram.ensures.full refused)))
+returns-in_err-diagram-clause-grows c = grind arith

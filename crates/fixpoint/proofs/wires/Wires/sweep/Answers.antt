@@ -20,14 +20,7 @@ step c b k v ready few =
     c.loop-place.place c.loop-place-test.true far.1 few (rw (← inv.keeps.vars) at wide)) (rw inv.before at c.set_by_diagram.ensures.grows))
 
 pub loop-place-init : goal.loop-place-init
-loop-place-init c = record {
-  keeps = KeepsNodes-refl c.args.d.now;
-  grows = λ b k v ready few. nothing_grown;
-  before = refl;
-  wires = c.requires.wires;
-  given = refl;
-  swept = λ b v states ready. (ready, λ n bits less has. absurd (omega (arith, has.1)));
-}
+loop-place-init c = grind arith
 
 pub loop-place-preserved : goal.loop-place-preserved
 loop-place-preserved c =
