@@ -20,7 +20,7 @@ use Rattle.clause_queries.specs.Queries.{IsReply}
 use Rattle.clause_decision.specs.declared.counting.Sign.{Sign}
 use Rattle.clause_decision.specs.declared.counting.Sign.TheVariants as signs
 use Rattle.clause_decision.specs.declared.sweeping.Swept.{Swept}
-use Rattle.clause_decision.specs.Countings.{AreEnough, Serves}
+use Rattle.clause_decision.specs.Countings.{Serves}
 use Rattle.clause_decision.specs.Scopes.{AreKnownOnCare}
 use Rattle.clause_decision.specs.Sweepings.{open_literals, AreKnownAfter, IsOpenAt, SaysOpen, TellsOpen}
 use Rattle.clause_decision.proofs.ConeLemmas.{care-read, care-under, cone-grows}
@@ -190,11 +190,6 @@ fixed-later net loops are v wide a m zero n e fixed = let same : m ≡ n = omega
 fixed-later net loops are v wide a m (suc k) n e fixed =
     let next : suc (k + m) ≡ n = omega (arith, e) in
     subst (λ (j : ℕ). CutsAreFixed net loops v a j) next (fixed_cuts_give_fix net loops are v wide a (k + m) (fixed-later net loops are v wide a m k (k + m) refl fixed)).0
-
--- where k sweeps are enough, and no fewer are, these are needed
-pub these-needed : (net : Parts) (loops : Loops) (care : CareSet) (gates : List ℕ) (k : ℕ) → AreEnough net loops care gates k → NeedAtLeast net loops care gates k →
-    (a : ℕ) → Contains gates a → IsLeastCount net loops care a k
-these-needed net loops care gates k enough more a inside = record { enough = enough a inside; least = λ j low. more a j inside low }
 
 module _ (l : LoopAt) (is_loop : IsLoopAt l) where
   -- cut wires that are known stand at the fixpoint

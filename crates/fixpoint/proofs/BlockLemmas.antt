@@ -1,6 +1,6 @@
 -- Block by block to the fixpoint of a netlist.
 use Rattle.std.proofs.Common.{◌≡◌, inl, inr, ℕ, ◌+◌, ◌<◌, ◌≤◌, Bool, true, false, List, [], ◌∷◌, ◌++◌, length, map, get_or, sym, ap, ◌∙◌, subst, arith, Contains, true≢false}
-use Rattle.fixpoint.proofs.Common.{IsLooped, Looped, cases_lt, cases_eq, All-push, All, Arena, KeepsNodes, ext, Rails, value_of, IsNetlist, gate_at, wire, fix, fix_gates, Feeds, Blocks, block_at, home_of, is_cut, first_gate, gate_of, value_in, gate_home, LoopSteps, Vectors, IsLoopAt, HasEachLoopOnce, rails_at, rails_read, IsGateSet, IsSolvedBelow}
+use Rattle.fixpoint.proofs.Common.{IsLooped, Looped, cases_eq, All-push, All, Arena, KeepsNodes, ext, Rails, value_of, IsNetlist, gate_at, wire, fix, fix_gates, Feeds, Blocks, block_at, home_of, is_cut, first_gate, gate_of, value_in, gate_home, LoopSteps, Vectors, IsLoopAt, HasEachLoopOnce, rails_at, rails_read, IsGateSet, IsSolvedBelow}
 use Rattle.std.specs.List.{AllPairs}
 use Rattle.std.proofs.lemmas.Bool.{leb-true}
 use Rattle.std.proofs.lemmas.List.{map_push}

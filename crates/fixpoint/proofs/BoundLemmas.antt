@@ -1,8 +1,7 @@
 -- The bounds of sweeps, of loops, and of all blocks.
 use Rattle.std.proofs.Common.{◌≡◌, ◌==◌, inl, inr, ℕ, ◌+◌, ◌*◌, ◌<◌, ◌≤◌, ltb, Bool, false, List, length, map, filter, take, get_or, refl, sym, ap, ◌∙◌, subst, arith, Contains, true≢false}
-use Rattle.fixpoint.proofs.Common.{IsLooped, Looped, eq-eqb, cases_Bool, get_or_default, length-map, length-range_with_len, mul-le-mul_left, range_with_len, Arena, value, Rails, IsWide, BoundsEach, IsExtended, size, value_of, values_of, Gate, Parts, IsNetlist, gate_at, no_gate, Blocks, Cut, AreBlocksOf, block_at, home_of, is_cut, in_one_loop, loops_by, IsOrderOf, cuts_of, told_parts, gate_home, Vectors, IsLoopAt, rails_read, AreSwept, IsSolvedBelow, IsSweepable, after_sweeps, IsWorking, cost, order_cost, block_cost, below_cost, effort, total, read_at_fix}
+use Rattle.fixpoint.proofs.Common.{IsLooped, Looped, eq-eqb, cases_Bool, get_or_default, length-map, length-range_with_len, mul-le-mul_left, Arena, value, Rails, IsWide, BoundsEach, IsExtended, size, value_of, values_of, Gate, Parts, IsNetlist, gate_at, no_gate, Blocks, Cut, AreBlocksOf, block_at, home_of, is_cut, in_one_loop, loops_by, IsOrderOf, cuts_of, told_parts, gate_home, Vectors, IsLoopAt, rails_read, AreSwept, IsSolvedBelow, IsSweepable, after_sweeps, IsWorking, cost, order_cost, block_cost, below_cost, effort, total, read_at_fix}
 use Rattle.cyc_base.proofs.ListLemmas.{filter-no_longer}
-use Rattle.std.proofs.Math.Nat.{mul-le-mul_right}
 use Rattle.loops.specs.Cuts.{Loops}
 use Rattle.fixpoint.specs.Working.{read_in_sweep}
 use Rattle.fixpoint.proofs.CutLemmas.{one-block, cuts-are}

@@ -1,6 +1,6 @@
 -- The names that most proofs of this crate cite, passed on from one place. Declares nothing.
 pub use Rattle.bdd_ops.specs.Least.{IsLayout}
-pub use Rattle.bdd_store.proofs.GrowthLemmas.{HasGrown, adds_more, adds_moved, adds_refused, adds_swept, within_answered, within_more, within_moved, within_nothing, within_only, within_refused, within_then}
+pub use Rattle.bdd_store.proofs.GrowthLemmas.{HasGrown, adds_more, adds_moved, adds_refused, adds_swept, within_answered, within_more, within_moved, within_only, within_refused, within_then}
 pub use Rattle.bdd_store.specs.Arena.{Arena, IsNodeOf, den}
 pub use Rattle.bdd_store.specs.Growth.{AddsWithin, GrowsWithin, KeepsNodes, NoOtherCause}
 pub use Rattle.bdd_store.specs.Soundness.{IsLawful}

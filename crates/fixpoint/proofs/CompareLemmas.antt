@@ -1,9 +1,7 @@
 -- Counting the nodes that a comparison of steps adds.
-use Rattle.std.proofs.Common.{◌≡◌, inl, inr, ◌⊎◌, ℕ, zero, suc, ◌+◌, ◌*◌, ◌<◌, ◌≤◌, Bool, ◌&&◌, List, [], ◌∷◌, length, refl, sym, ap, ap₂, ◌∙◌, subst, arith, Contains}
-use Rattle.fixpoint.proofs.Common.{get_or_default, All-contains, mul-le-mul_left, All, Node, Arena, den, IsNodeOf, KeepsNodes, Rails, IsWide, LoopSteps, step_at, steps_under, unknown, rails_at, AreNodes, IsCompared, IsComparedIn}
-use Rattle.std.proofs.lemmas.List.Elements.{All-nil, All-cons}
+use Rattle.std.proofs.Common.{◌≡◌, inl, inr, ◌⊎◌, ℕ, zero, suc, ◌+◌, ◌*◌, ◌<◌, ◌≤◌, Bool, ◌&&◌, List, [], ◌∷◌, length, refl, sym, ◌∙◌, subst, arith, Contains}
+use Rattle.fixpoint.proofs.Common.{get_or_default, mul-le-mul_left, All, Node, Arena, den, IsNodeOf, KeepsNodes, Rails, IsWide, LoopSteps, step_at, steps_under, unknown, rails_at, AreNodes, IsCompared, IsComparedIn}
 use Rattle.bdd_store.specs.Subfunctions.{nodes}
-use Rattle.bdd_store.proofs.SubfunctionLemmas.{nodes-alike}
 use Rattle.bdd_ops.specs.Operations.{xor, conjunction, exclusive_or}
 use Rattle.dual_rail.proofs.WidthLemmas.{IsWide-fewer}
 use Rattle.fixpoint.specs.Counts.{IsStepNode, difference, BoundsDifference}
@@ -25,13 +23,6 @@ module _ {s t : Arena} (keeps : KeepsNodes s t) (care : Node) (cared : IsNodeOf 
 
 pub step-nodes : (s : Arena) (steps : List (List Rails)) → All (All (AreNodes s)) steps → (n : Node) → IsStepNode steps n → IsNodeOf s n
 step-nodes s steps all n is = grind arith
-
--- a node of two rails is one of the steps that have them
-pair-contains : {A : Type 0} (x y z : A) → Contains (x ∷ y ∷ []) z → (x ≡ z) ⊎ (y ≡ z)
-pair-contains x y z h = grind arith
-
-one-contains : {A : Type 0} (x z : A) → Contains (x ∷ []) z → x ≡ z
-one-contains x z h = grind arith
 
 pub pair-into : (r q : Rails) (step last : List Rails) → Contains step r → Contains last q → (n : Node) → IsStepNode ((r ∷ q ∷ []) ∷ []) n → IsStepNode (step ∷ last ∷ []) n
 pair-into r q step last rc qc n is = grind arith

@@ -1,7 +1,7 @@
 -- Adding up what gates cost.
-use Rattle.std.proofs.Common.{◌≡◌, ◌==◌, inl, inr, ℕ, zero, suc, ◌+◌, ◌<◌, ◌≤◌, ltb, add-one, Bool, true, false, not, ◌&&◌, if◌then◌else◌, List, [], ◌∷◌, length, take, get_or, refl, sym, ap, ◌∙◌, arith, Contains, true≢false}
-use Rattle.fixpoint.proofs.Common.{cases_eq, cases_lt, eqb-true, eq-eqb, All-contains, sum_by_more, take_all, sum_by, Parts, ReadsUncut, IsInOrder, total}
-use Rattle.std.proofs.lemmas.Bool.{lt-ltb, le-ltb, ne_eqb, and_from}
+use Rattle.std.proofs.Common.{◌≡◌, ◌==◌, ℕ, zero, suc, ◌+◌, ◌<◌, ◌≤◌, ltb, add-one, Bool, true, not, ◌&&◌, if◌then◌else◌, List, [], ◌∷◌, length, take, get_or, refl, ap, ◌∙◌, arith, Contains, true≢false}
+use Rattle.fixpoint.proofs.Common.{cases_eq, eqb-true, eq-eqb, All-contains, sum_by_more, take_all, sum_by, Parts, ReadsUncut, IsInOrder, total}
+use Rattle.std.proofs.lemmas.Bool.{ne_eqb, and_from}
 use Rattle.std.proofs.lemmas.List.Elements.{All-from_recursion}
 use Rattle.std.proofs.lemmas.List.Sums.{sum_by-cons}
 

@@ -1,5 +1,5 @@
 -- The cut wires of one loop, and that they stand still once they stand at the fixpoint.
-use Rattle.std.proofs.Common.{◌≡◌, ◌==◌, ℕ, zero, suc, ◌+◌, ◌-◌, ◌<◌, ◌≤◌, Bool, true, false, ◌&&◌, List, [], ◌∷◌, length, filter, get_or, refl, sym, ap, ap₂, ◌∙◌, subst, arith, Contains, true≢false}
+use Rattle.std.proofs.Common.{◌≡◌, ◌==◌, ℕ, zero, suc, ◌+◌, ◌-◌, ◌<◌, ◌≤◌, Bool, true, false, ◌&&◌, List, [], ◌∷◌, length, filter, get_or, refl, sym, ap, ap₂, ◌∙◌, subst, arith, Contains}
 use Rattle.fixpoint.proofs.Common.{eqb-true, eq-eqb, get_or_default, All, range_with_len, Node, Arena, den, IsLawful, Trit, Rails, AreRailsOf, trit_of, value_of, is_bit, Parts, fix_gates, Blocks, Cut, AreBlocksOf, block_at, home_of, no_block, Block, IsOrderOf, IsCutOf, is_cut, in_one_loop, loops_by, first_gate, value_in, cuts_of, sweeps, few_sweeps_are_enough, told_parts, gate_home, home_gate, blocks_tell_loops, IsLoopAt}
 use Rattle.std.proofs.lemmas.List.Elements.{All-contains_itself}
 use Rattle.cyc_base.proofs.ListLemmas.{Contains-filter, Contains-here, Contains-there}
@@ -7,7 +7,6 @@ use Rattle.cyc_base.proofs.TruthLemmas.{same_truth}
 use Rattle.loops.specs.Sweeps.{CutsAreFixed}
 use Rattle.loops.proofs.Reading.{Contains-filter_from, Contains-range_from}
 use Rattle.loops.proofs.Sweeps.{cut_values_agree, fixed_cuts_give_fix}
-use Rattle.loops.proofs.Told.{blocks_have_loops}
 
 -- ---- the list of cut wires
 

@@ -1,6 +1,6 @@
 -- Blocks that are solved one after another, with what is kept of them.
 use Rattle.std.proofs.Common.{◌≡◌, inl, inr, ℕ, zero, suc, ◌+◌, ◌-◌, ◌<◌, Bool, List, [], ◌∷◌, ◌++◌, length, map, take, replicate, get_or, refl, sym, ap, ap₂, ◌∙◌, subst, arith, Contains, Option, Some, None, IfSome}
-use Rattle.fixpoint.proofs.Common.{IsLooped, Looped, option_to_list, All, flat_map, append-nil, cases_lt, cases_eq, get_or_append_left, get_or_default, length-append, length-replicate, get_or-replicate, get_or-take, get_or-map, length-map, length-take, ext_get_or, All-append, All-map, All-push, Arena, Trit, X, Rails, AreRailsOf, value_of, values_of, Parts, fix, fix_gates, Blocks, Cut, block_at, home_of, first_gate, value_in, map_agree, gate_home, home_gate, KeptRails, LoopSteps, Solved, SweptLoop, rails_under, values_under, AreKept, HoldsRails, GainsRoots, RootsStay, Vectors, IsLoopAt, AreStepsOf, AreKeptSteps, HasEachLoopOnce, IsSolution, step_at, last_step, steps_under, loop_under, unknown, rails_at, vectors, IsSolvedBelow, AreFresh, place_of, AreKeptBelow, IsSolvedTo}
+use Rattle.fixpoint.proofs.Common.{IsLooped, Looped, option_to_list, All, flat_map, append-nil, cases_lt, cases_eq, get_or_append_left, get_or_default, length-append, length-replicate, get_or-replicate, get_or-take, get_or-map, length-map, length-take, ext_get_or, All-append, All-map, All-push, Arena, Trit, X, Rails, AreRailsOf, value_of, values_of, Parts, fix, fix_gates, Blocks, Cut, block_at, home_of, first_gate, value_in, gate_home, home_gate, KeptRails, LoopSteps, Solved, SweptLoop, rails_under, values_under, AreKept, HoldsRails, GainsRoots, RootsStay, Vectors, IsLoopAt, AreStepsOf, AreKeptSteps, HasEachLoopOnce, IsSolution, step_at, last_step, steps_under, loop_under, unknown, rails_at, vectors, IsSolvedBelow, AreFresh, place_of, AreKeptBelow, IsSolvedTo}
 use Rattle.std.specs.Option.{option_map}
 use Rattle.std.proofs.Math.Path.{fun_ext}
 use Rattle.std.proofs.lemmas.Option.{none-some, same_Some}
@@ -10,7 +10,7 @@ use Rattle.std.proofs.lemmas.List.Concat.{flat_map-cons}
 use Rattle.fixpoint.specs.Solved.{AreGiven}
 use Rattle.fixpoint.specs.Sweeping.{IsFoundAt, IsKeptAt, rails_in, HasValues}
 use Rattle.fixpoint.proofs.BlockLemmas.{HasLoopsBelow, loops-push, loops-skip}
-use Rattle.fixpoint.proofs.KeptLemmas.{All-mapped, value_of-gained, AreRailsOf-gained, All-rails-gained, All-kept-stay, AreKept-stay, AreKept-gained, rails_under-gained, value-stays, rails-stay, values-stay, All-rails-stay, RootsStay-chain}
+use Rattle.fixpoint.proofs.KeptLemmas.{All-mapped, value_of-gained, AreRailsOf-gained, All-kept-stay, AreKept-stay, AreKept-gained, rails_under-gained, value-stays, rails-stay, values-stay, All-rails-stay, RootsStay-chain}
 use Rattle.fixpoint.proofs.WireLemmas.{unknown-rails, rails_at-proper, values-fixed}
 
 -- ---- what the vectors are
@@ -31,9 +31,6 @@ vectors-are {l} {a} {v} {rails = rails} is = fun_ext (λ bits.
 
 solved-gained : {l : Looped} {d e : Arena} {v : Vectors} {b : ℕ} {before rails : List Rails} → GainsRoots d e → IsSolvedBelow l d v b before rails → IsSolvedBelow l e v b before rails
 solved-gained {l} {d} {e} {v} {b} {before} {rails} g is = grind arith
-
-values-gained : {d e : Arena} → GainsRoots d e → (rails : List Rails) (bits : List Bool) → values_of e rails bits ≡ values_of d rails bits
-values-gained {d} {e} g rails bits = map_agree (λ r. value_of e r bits) (λ r. value_of d r bits) rails (λ k none less. value_of-gained g (get_or rails k none) bits)
 
 steps-gained : {net : Parts} {blocks : Blocks} {cut : Cut} {d e : Arena} {v : Vectors} → GainsRoots d e → (found : SweptLoop) → AreStepsOf net blocks cut d v found → AreStepsOf net blocks cut e v found
 steps-gained g found is = grind arith

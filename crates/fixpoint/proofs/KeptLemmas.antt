@@ -1,5 +1,5 @@
 -- Rails under roots stay what they were while roots come to them and stores are swept.
-use Rattle.std.proofs.Common.{◌≡◌, ℕ, ◌+◌, ◌<◌, ◌≤◌, Bool, false, ◌&&◌, List, [], ◌∷◌, ◌++◌, length, map, take, get_or, refl, sym, ap, ap₂, ◌∙◌, subst, arith, Option, Some, None, IsSome, Result, Ok, IsErrAnd, true≢false}
+use Rattle.std.proofs.Common.{◌≡◌, ℕ, ◌+◌, ◌<◌, ◌≤◌, Bool, false, List, [], ◌∷◌, ◌++◌, length, map, take, get_or, refl, sym, ap, ap₂, ◌∙◌, subst, arith, Option, Some, IsSome, Result, Ok, IsErrAnd}
 use Rattle.std.specs.Option.{unwrap_or}
 use Rattle.fixpoint.proofs.Common.{All, get_or-map, length-map, take_more, All-map, All-push, StoreFault, Node, Arena, den, IsNodeOf, KeepsNodes, AddsWithin, NoOtherCause, IsLawful, Trit, Rails, AreRailsOf, trit_of, value_of, map_agree, KeptRails, rails_under, values_under, AreKept, GainsRoots, RootsStay}
 use Rattle.std.proofs.Math.Path.{fun_ext}
@@ -47,9 +47,6 @@ AreRailsOf-gained g r is = grind arith
 
 pub All-rails-gained : {s t : Arena} → GainsRoots s t → (rails : List Rails) → All (AreRailsOf s) rails → All (AreRailsOf t) rails
 All-rails-gained g rails all k d less = AreRailsOf-gained g (get_or rails k d) (all k d less)
-
-root-gained : {s t : Arena} → GainsRoots s t → (root : Root) → IsSome (root_at s root.key) → root_at t root.key ≡ Some (node_under s root)
-root-gained {s} g root some = g.roots root.key (node_under s root) (has-node s root some)
 
 pub AreKept-gained : {s t : Arena} → GainsRoots s t → (kept : KeptRails) → AreKept s kept → AreKept t kept
 AreKept-gained g kept is = grind arith

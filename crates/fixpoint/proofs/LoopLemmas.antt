@@ -2,7 +2,7 @@
 use Rattle.std.proofs.Common.{◌≡◌, inl, inr, ℕ, suc, ◌+◌, ◌-◌, ◌<◌, ◌≤◌, Bool, true, List, [], ◌∷◌, ◌++◌, length, map, filter, get_or, sym, ap, ◌∙◌, subst, arith, Contains}
 use Rattle.std.proofs.lemmas.List.Elements.{All-contains_itself}
 use Rattle.cyc_base.proofs.ListLemmas.{map-map}
-use Rattle.fixpoint.proofs.Common.{IsLooped, Looped, cases_lt, get_or_append_left, get_or_push, length_push, get_or-replicate, All-push, All-map, All, Arena, KeepsNodes, IsLawful, Trit, X, Rails, AreRailsOf, value_of, values_of, value_of-kept, All-rails-kept, fix_gates, block_at, home_of, is_cut, loops_by, first_gate, value_in, cuts_of, sweeps, map_agree, home_gate, blocks_tell_loops, Vectors, IsLoopAt, AreStepsOf, step_at, rails_at, AreWires, IsSolvedBelow, AreFresh, AreSwept, after_sweeps, IsUnderway, IsAtRest}
+use Rattle.fixpoint.proofs.Common.{IsLooped, Looped, cases_lt, get_or_append_left, get_or_push, length_push, get_or-replicate, All-push, All-map, All, Arena, KeepsNodes, IsLawful, Trit, Rails, AreRailsOf, value_of, values_of, value_of-kept, All-rails-kept, fix_gates, block_at, home_of, is_cut, loops_by, first_gate, value_in, cuts_of, sweeps, map_agree, home_gate, blocks_tell_loops, Vectors, IsLoopAt, AreStepsOf, step_at, rails_at, AreWires, IsSolvedBelow, AreFresh, AreSwept, after_sweeps, IsUnderway, IsAtRest}
 use Rattle.dual_rail.proofs.SurelyLemmas.{values_of-kept}
 use Rattle.loops.specs.Sweeps.{cuts as cuts_after}
 use Rattle.loops.proofs.Sweeps.{still_is_fix}

@@ -1,5 +1,5 @@
 -- Columns taken one after another, and that they are a layout in the end.
-use Rattle.std.proofs.Common.{◌≡◌, ◌≢◌, inl, inr, ◌⊎◌, ℕ, suc, ◌+◌, ◌<◌, ◌≤◌, eqb, add-one, Bool, true, false, not, ◌||◌, cond, List, [], ◌∷◌, ◌++◌, length, map, filter, take, get_or, set, replicate, refl, sym, ap, ap₂, ◌∙◌, arith, append_assoc, length-set, get_or-set_same, get_or-set_other, true≢false}
+use Rattle.std.proofs.Common.{◌≡◌, ◌≢◌, ◌⊎◌, ℕ, suc, ◌+◌, ◌<◌, ◌≤◌, eqb, add-one, Bool, true, false, not, ◌||◌, cond, List, [], ◌∷◌, ◌++◌, length, map, filter, take, get_or, set, replicate, refl, sym, ap, ap₂, ◌∙◌, arith, append_assoc, length-set, get_or-set_same, get_or-set_other, true≢false}
 use Rattle.std.specs.Prelude.{nat_lt, slice_get, Some}
 use Rattle.std.specs.Cmp.{nat_eq_equiv}
 use Rattle.fixpoint.proofs.Common.{All, range_with_len, cases_lt, cases_eq, eqb-true, eq-eqb, append-nil, get_or-replicate, length-replicate, take_more, All-append, All-contains, length-range_with_len, IsLayout, Sig, Gate, Parts, first_gate, first_signals, columns_read, AreTaken}

@@ -1,6 +1,6 @@
 -- What a loop is swept by: the diagrams of its gates' covers, gate by gate.
-use Rattle.std.proofs.Common.{◌≡◌, inl, inr, ℕ, ◌<◌, List, [], ◌∷◌, ◌++◌, length, get_or, refl, sym, ap, ◌∙◌, subst, arith}
-use Rattle.fixpoint.proofs.Common.{cases_lt, get_or_append_left, get_or_push, length_push, All, IsDiagramOf, Parts, gate_at, SharedDiagram, AreLocalsOf}
+use Rattle.std.proofs.Common.{◌≡◌, inl, inr, ℕ, List, [], ◌∷◌, ◌++◌, length, get_or, ap, ◌∙◌, arith}
+use Rattle.fixpoint.proofs.Common.{cases_lt, get_or_append_left, get_or_push, length_push, IsDiagramOf, Parts, gate_at, SharedDiagram, AreLocalsOf}
 use Rattle.fixpoint.specs.declared.locals.Locals.{Locals}
 use Rattle.fixpoint.specs.Plans.{HasDiagram, AreShared}
 
@@ -34,7 +34,3 @@ locals-next net gates n place old new are shared stay places has = record {
   where
     longer : length (old.places.items ++ place ∷ []) ≡ length (gates ++ n ∷ [])
     longer = let a = length_push old.places.items place in let b = length_push gates n in omega (arith, a, b, are.width)
-
--- numbers below a bound are below one that is equal
-pub each-within : {xs ys : List ℕ} {m n : ℕ} → xs ≡ ys → m ≡ n → All (λ k. k < m) ys → All (λ k. k < n) xs
-each-within {xs} {ys} {m} {n} same bound all = subst (λ (zs : List ℕ). All (λ k. k < n) zs) (sym same) (subst (λ (x : ℕ). All (λ k. k < x) ys) bound all)

@@ -1,12 +1,11 @@
 -- A sweep of one loop on rails is the sweep at each vector.
 use Rattle.std.proofs.Common.{◌≡◌, ◌≢◌, inl, inr, ℕ, zero, suc, ◌+◌, ◌<◌, ◌≤◌, leb, Bool, true, false, ◌&&◌, if◌then◌else◌, List, [], ◌∷◌, length, map, take, get_or, refl, sym, ap, ap₂, ◌∙◌, subst, arith, Contains}
-use Rattle.fixpoint.proofs.Common.{Looped, cases_eq, cases_Bool, get_or_append_left, get_or_default, take_all, All-contains, All-get_or, All, Arena, KeepsNodes, ext, Sig, Trit, X, Rails, value_of, value_of-kept, Gate, Parts, IsNetlist, IsSignal, count, gate_at, no_gate, wire, fix, fix_gates, Feeds, block_at, home_of, is_cut, in_one_loop, loops_by, ReadsUncut, IsInOrder, first_gate, gate_of, value_in, map_agree, wire_of_gate, feeds_at, told_parts, gate_home, home_gate, blocks_tell_loops, Vectors, rails_at, rails_read, IsGateSet, AreSwept, IsSolvedBelow, IsSweepable}
+use Rattle.fixpoint.proofs.Common.{Looped, cases_eq, cases_Bool, get_or_append_left, get_or_default, take_all, All-contains, All-get_or, All, Arena, KeepsNodes, ext, Sig, Trit, X, Rails, value_of, value_of-kept, Gate, Parts, IsNetlist, IsSignal, count, gate_at, no_gate, wire, fix, fix_gates, Feeds, block_at, home_of, is_cut, in_one_loop, loops_by, ReadsUncut, IsInOrder, first_gate, gate_of, value_in, map_agree, wire_of_gate, feeds_at, told_parts, gate_home, home_gate, Vectors, rails_at, rails_read, IsGateSet, AreSwept, IsSolvedBelow, IsSweepable}
 use Rattle.std.proofs.lemmas.Bool.{leb-true, leb-false}
 use Rattle.std.proofs.lemmas.List.Elements.{All-from_recursion}
 use Rattle.cyc_base.proofs.ListLemmas.{Contains-there}
 use Rattle.loops.specs.Sweeps.{sweep, pin_in}
 use Rattle.loops.proofs.Sweeps.{sweep_each}
-use Rattle.loops.proofs.Unique.{uncut-irreflexive}
 use Rattle.fixpoint.specs.Sweeping.{States}
 use Rattle.fixpoint.proofs.CutLemmas.{one-block}
 use Rattle.fixpoint.proofs.WireLemmas.{next-or-before, rails_at-proper, set-same, set-other, AreWires-set}

@@ -1,6 +1,6 @@
 -- Rails of wires, and of what a gate reads.
-use Rattle.std.proofs.Common.{◌≡◌, ◌≢◌, inl, inr, ◌⊎◌, ℕ, ◌+◌, ◌-◌, ◌<◌, leb, Bool, true, false, ◌&&◌, if◌then◌else◌, List, [], ◌∷◌, ◌++◌, length, map, take, get_or, set, refl, sym, ap, ◌∙◌, subst, arith, Contains}
-use Rattle.fixpoint.proofs.Common.{cases_lt, cases_eq, take_more, get_or-map, get_or_append_left, length-append, ext_get_or, All-map, All-set, All, Arena, KeepsNodes, Sig, Trit, X, Rails, AreRailsOf, value_of, values_of, All-rails-kept, value_of-kept, Parts, fix, fix_gates, count, Cut, is_cut, first_gate, gate_of, value_in, wire_of_gate, Vectors, unknown, rails_at, rails_read, AreWires, IsGateSet}
+use Rattle.std.proofs.Common.{◌≡◌, ◌≢◌, inl, inr, ◌⊎◌, ℕ, ◌+◌, ◌-◌, ◌<◌, Bool, List, [], ◌∷◌, length, map, take, get_or, set, refl, sym, ap, ◌∙◌, subst, arith, Contains}
+use Rattle.fixpoint.proofs.Common.{cases_lt, cases_eq, take_more, get_or-map, get_or_append_left, length-append, ext_get_or, All-map, All-set, All, Arena, KeepsNodes, Sig, Trit, X, Rails, AreRailsOf, value_of, values_of, All-rails-kept, value_of-kept, Parts, fix, fix_gates, count, Cut, first_gate, gate_of, value_in, wire_of_gate, Vectors, unknown, rails_at, rails_read, AreWires, IsGateSet}
 use Rattle.std.proofs.lemmas.List.{get_or_past, get_or-set_same, get_or-set_other, length-set, take-set-le}
 use Rattle.std.proofs.lemmas.List.Elements.{Contains-append_left, Contains-push, Contains-push_cases}
 use Rattle.std.specs.List.{slice_index_or, slice_set}

@@ -1,4 +1,4 @@
-use Rattle.std.proofs.Common.{◌≡◌, ◌∙◌, ◌*◌, ℕ, ap, ap₂, subst, List, map, length, arith}
+use Rattle.std.proofs.Common.{◌≡◌, ◌∙◌, ap, subst, List, map, arith}
 use Rattle.fixpoint.proofs.Common.{length-map, IsLawful, within_moved, within_more, Rails, rails_under, steps_under}
 use Rattle.fixpoint.proofs.CountLemmas.{loop-nodes, loop-widths}
 use Rattle.fixpoint.proofs.counting.least_sweeps.Goals as goal

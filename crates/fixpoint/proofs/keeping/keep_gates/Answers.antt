@@ -1,6 +1,6 @@
-use Rattle.std.proofs.Common.{◌+◌, ℕ, Some, None, get_or, refl, arith}
-use Rattle.fixpoint.proofs.Common.{HoldsRails, rails_at, unknown}
-use Rattle.fixpoint.proofs.KeptLemmas.{GainsRoots_chain, AreRailsOf-gained}
+use Rattle.std.proofs.Common.{◌+◌, Some, None, refl, arith}
+use Rattle.fixpoint.proofs.Common.{HoldsRails, rails_at}
+use Rattle.fixpoint.proofs.KeptLemmas.{GainsRoots_chain}
 use Rattle.fixpoint.proofs.KeepingLemmas.{holds-gained}
 use Rattle.fixpoint.proofs.WireLemmas.{set-taken, set-others}
 use Rattle.fixpoint.proofs.keeping.keep_gates.Goals as goal

@@ -1,5 +1,5 @@
-use Rattle.std.proofs.Common.{[], get_or, sym, ◌∙◌, subst, arith}
-use Rattle.fixpoint.proofs.Common.{get_or_default, All, AreRailsOf}
+use Rattle.std.proofs.Common.{[], get_or, ◌∙◌, arith}
+use Rattle.fixpoint.proofs.Common.{get_or_default}
 use Rattle.fixpoint.proofs.KeptLemmas.{GainsRoots_chain, All-rails-gained, All-kept-gained, all_under-gained, more-kept}
 use Rattle.fixpoint.proofs.keeping.keep_steps.Goals as goal
 

@@ -1,5 +1,5 @@
-use Rattle.std.proofs.Common.{◌≡◌, ◌∙◌, ◌+◌, ◌++◌, [], ℕ, Bool, List, false, length, drop, take, replicate, sym, ap, ap₂, subst, arith}
-use Rattle.fixpoint.proofs.Common.{range_with_len, length-replicate, IsLayout, Sig, first_gate, columns_read, first_signals, AreTaken}
+use Rattle.std.proofs.Common.{◌≡◌, ◌∙◌, ◌+◌, ◌++◌, ℕ, Bool, List, false, length, drop, sym, ap, subst, arith}
+use Rattle.fixpoint.proofs.Common.{range_with_len, length-replicate, IsLayout, first_gate, columns_read, AreTaken}
 use Rattle.std.proofs.lemmas.List.{take_at}
 use Rattle.fixpoint.specs.Orders.{order}
 use Rattle.fixpoint.proofs.OrderLemmas.{columns-more, gate-more, order-is, taken-none}

@@ -1,4 +1,4 @@
-use Rattle.std.proofs.Common.{true, false, arith}
+use Rattle.std.proofs.Common.{false, arith}
 use Rattle.std.proofs.lemmas.List.{set-get_or}
 use Rattle.fixpoint.proofs.Common.{append-nil}
 use Rattle.fixpoint.proofs.OrderLemmas.{taken-more}

@@ -1,5 +1,5 @@
-use Rattle.std.proofs.Common.{◌≡◌, ◌++◌, ◌∙◌, List, length, replicate, take, drop, sym, ap, subst, arith}
-use Rattle.fixpoint.proofs.Common.{All, within_refused, within_answered, Rails, AreRailsOf, values_of, AreLifted, unknown}
+use Rattle.std.proofs.Common.{◌≡◌, ◌++◌, ◌∙◌, List, length, take, drop, ap, arith}
+use Rattle.fixpoint.proofs.Common.{within_refused, within_answered, Rails, values_of, AreLifted}
 use Rattle.std.proofs.lemmas.List.{take_at}
 use Rattle.fixpoint.proofs.LiftLemmas.{lifted-start}
 use Rattle.fixpoint.proofs.lifting.lift_gates.Goals as goal

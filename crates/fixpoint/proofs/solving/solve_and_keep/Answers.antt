@@ -1,8 +1,8 @@
-use Rattle.std.proofs.Common.{◌≡◌, ◌+◌, ◌*◌, length, get_or, refl, subst, sym, ap, arith}
-use Rattle.fixpoint.proofs.Common.{IsLawful, AddsWithin, adds_moved, adds_refused, adds_swept, IsWide, block_at, home_of, loops_by, first_gate, Vectors, values_under, RootsStay, vectors, IsSolvedBelow, IsWorking, HasLargeCover, block_cost}
+use Rattle.std.proofs.Common.{◌≡◌, ◌+◌, ◌*◌, length, subst, ap, arith}
+use Rattle.fixpoint.proofs.Common.{IsLawful, AddsWithin, adds_moved, adds_refused, adds_swept, IsWide, block_at, loops_by, first_gate, values_under, RootsStay, vectors, IsWorking, HasLargeCover, block_cost}
 use Rattle.fixpoint.proofs.BoundLemmas.{wide-same}
 use Rattle.fixpoint.proofs.KeptLemmas.{RootsStay-kept, RootsStay-gained, adds_lacking}
-use Rattle.fixpoint.proofs.KeepingLemmas.{vectors-are, solved-next, found-next, found-rails}
+use Rattle.fixpoint.proofs.KeepingLemmas.{vectors-are, solved-next, found-next}
 use Rattle.fixpoint.proofs.solving.solve_and_keep.Goals as goal
 use Rattle.fixpoint.proofs.solving.solve_and_keep.Goals.{After-solve_block}
 

@@ -1,5 +1,5 @@
-use Rattle.std.proofs.Common.{◌+◌, ◌*◌, length, ◌≡◌, ◌∙◌, false, ap, arith}
-use Rattle.fixpoint.proofs.Common.{get_or_default, GrowsWithin, size, gate_at, IsWide, loops_by, IsWorking, HasLargeCover, block_cost, within_moved, within_more, within_refused, within_answered, Block, block_at, home_of, no_block, vectors}
+use Rattle.std.proofs.Common.{◌+◌, ◌*◌, length, ◌≡◌, false, arith}
+use Rattle.fixpoint.proofs.Common.{get_or_default, GrowsWithin, size, gate_at, IsWide, loops_by, IsWorking, HasLargeCover, block_cost, within_moved, within_more, within_refused, within_answered, block_at, home_of, no_block, vectors}
 use Rattle.fixpoint.proofs.BoundLemmas.{plain-bounds, plain-cost, gate-few}
 use Rattle.fixpoint.proofs.BlockLemmas.{plain-solved}
 use Rattle.fixpoint.proofs.solving.solve_block.Goals as goal

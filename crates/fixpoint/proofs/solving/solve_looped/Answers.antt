@@ -1,5 +1,5 @@
-use Rattle.std.proofs.Common.{◌∙◌, ◌+◌, ◌*◌, Option, None, length, replicate, ap, arith}
-use Rattle.fixpoint.proofs.Common.{IsWide, loops_by, AddsWithin, adds_more, adds_refused, adds_swept, KeptRails, Parts, values_under, IsWorking, HasLargeCover, effort}
+use Rattle.std.proofs.Common.{◌+◌, ◌*◌, length, arith}
+use Rattle.fixpoint.proofs.Common.{IsWide, loops_by, AddsWithin, adds_more, adds_refused, adds_swept, values_under, IsWorking, HasLargeCover, effort}
 use Rattle.fixpoint.proofs.KeptLemmas.{RootsStay-chain, adds_lacking}
 use Rattle.fixpoint.proofs.KeepingLemmas.{solution-is, solved-start}
 use Rattle.fixpoint.proofs.solving.solve_looped.Goals as goal

@@ -1,5 +1,5 @@
-use Rattle.std.proofs.Common.{◌≡◌, ◌∙◌, ap, arith}
-use Rattle.fixpoint.proofs.Common.{Blocks, block_at}
+use Rattle.std.proofs.Common.{◌≡◌, arith}
+use Rattle.fixpoint.proofs.Common.{block_at}
 use Rattle.fixpoint.proofs.BlockLemmas.{gates-some, gates-home}
 use Rattle.fixpoint.proofs.CutLemmas.{block-gates}
 use Rattle.fixpoint.proofs.sweeping.gates_of.Goals as goal

@@ -1,5 +1,5 @@
-use Rattle.std.proofs.Common.{◌≡◌, ◌∙◌, ◌<◌, ℕ, List, length, filter, sym, subst, arith}
-use Rattle.fixpoint.proofs.Common.{All, Looped, Parts, block_at, is_cut, IsOrderOf, AreLocalsOf}
+use Rattle.std.proofs.Common.{arith}
+use Rattle.fixpoint.proofs.Common.{Looped, block_at, is_cut, IsOrderOf}
 use Rattle.fixpoint.proofs.CutLemmas.{cuts-within, order-within}
 use Rattle.fixpoint.proofs.sweeping.plan_loop.Goals as goal
 

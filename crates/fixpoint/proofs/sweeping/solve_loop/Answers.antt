@@ -1,5 +1,5 @@
-use Rattle.std.proofs.Common.{◌*◌, ◌≤◌, ◌≡◌, ◌∙◌, ◌+◌, Err, Bool, true, false, List, length, refl, subst, sym, ap, arith}
-use Rattle.fixpoint.proofs.Common.{StoreFault, Arena, GrowsWithin, NoOtherCause, within_then, within_moved, within_more, within_only, within_nothing, within_refused, within_answered, IsWide, Rails, loops_by, Vectors, vectors, IsUnderway, IsWorking, HasLargeCover, order_cost, block_cost}
+use Rattle.std.proofs.Common.{◌*◌, ◌≤◌, ◌≡◌, ◌∙◌, ◌+◌, Bool, true, false, length, ap, arith}
+use Rattle.fixpoint.proofs.Common.{GrowsWithin, NoOtherCause, within_then, within_moved, within_more, within_only, within_refused, within_answered, IsWide, loops_by, Vectors, vectors, IsWorking, order_cost, block_cost}
 use Rattle.bdd_store.proofs.GrowthLemmas.{nothing_grown}
 use Rattle.fixpoint.specs.Underway.{IsSweptOnce}
 use Rattle.fixpoint.proofs.BoundLemmas.{cuts-few, order-few, loop-cost}

@@ -1,5 +1,5 @@
-use Rattle.std.proofs.Common.{◌≡◌, Err, sym, ap, subst, ◌∙◌, arith}
-use Rattle.fixpoint.proofs.Common.{StoreFault, Arena, within_only, within_nothing, HasLargeCover}
+use Rattle.std.proofs.Common.{arith}
+use Rattle.fixpoint.proofs.Common.{within_only}
 use Rattle.fixpoint.proofs.wires.Wires.set_gate.Goals as goal
 
 pub returns-clause-grows : goal.returns-clause-grows

@@ -1,6 +1,6 @@
-use Rattle.std.proofs.Common.{◌+◌, ◌*◌, ◌≤◌, ◌∙◌, take, arith, ℕ, length, filter, get_or, refl}
+use Rattle.std.proofs.Common.{◌+◌, ◌*◌, ◌≤◌, ◌∙◌, take, arith, ℕ, length, filter, get_or}
 use Rattle.fixpoint.proofs.Common.{sum_by_more, sum_by-take-le, GrowsWithin, NoOtherCause, within_then, within_moved, within_more, within_refused, within_answered, size, IsWide, gate_at, block_at, is_cut, loops_by, Looped, Vectors, IsSweepable, after_sweeps, IsWorking, cost, order_cost}
-use Rattle.bdd_store.proofs.GrowthLemmas.{KeepsNodes-refl, KeepsNodes-chain, nothing_grown}
+use Rattle.bdd_store.proofs.GrowthLemmas.{KeepsNodes-chain}
 use Rattle.fixpoint.proofs.BoundLemmas.{sweep-bounds}
 use Rattle.fixpoint.proofs.WireLemmas.{AreWires-set, given-set}
 use Rattle.fixpoint.proofs.SweepLemmas.{sweeping-step, sweeping-end}

@@ -1,5 +1,5 @@
 use Rattle.std.proofs.Common.{◌*◌, ◌≤◌, ◌≡◌, ◌∙◌, ◌+◌, ℕ, List, [], ◌∷◌, ◌++◌, length, map, filter, subst, sym, ap, ap₂, arith, true≢false}
-use Rattle.fixpoint.proofs.Common.{GrowsWithin, NoOtherCause, IsLawful, within_refused, within_answered, IsWide, Rails, block_at, is_cut, loops_by, IsOrderOf, first_gate, Vectors, rails_at, AreWires, IsSweepable, after_sweeps, IsUnderway, IsWorking, order_cost}
+use Rattle.fixpoint.proofs.Common.{GrowsWithin, NoOtherCause, IsLawful, within_refused, within_answered, IsWide, Rails, block_at, is_cut, loops_by, first_gate, Vectors, rails_at, AreWires, IsSweepable, after_sweeps, IsUnderway, IsWorking, order_cost}
 use Rattle.fixpoint.specs.Plans.{IsPlanOf}
 use Rattle.fixpoint.proofs.LoopLemmas.{at-rest, underway-next}
 use Rattle.fixpoint.proofs.wires.Wires.sweep_once.Goals as goal
