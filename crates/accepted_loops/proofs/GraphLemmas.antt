@@ -1,23 +1,7 @@
 -- The graph of loops.
 use Rattle.std.proofs.Common.{◌≡◌, ℕ, List, ◌++◌, ap, ◌∙◌, append_assoc}
-use Rattle.care_sets.specs.Care.{CareSet}
-use Rattle.dot_text.specs.LoopGraphs.{labelled_cluster}
-use Rattle.loops.specs.declared.structure.Blocks.{Blocks}
-use Rattle.loops.specs.declared.structure.Cut.{Cut}
-use Rattle.loops.specs.declared.structure.SweepCounts.{SweepCounts}
-use Rattle.loops.specs.Blocks.{AreBlocksOf}
-use Rattle.loops.specs.Cuts.{IsCutOf}
-use Rattle.loops.specs.Found.{loops_of}
-use Rattle.loops.specs.Listed.{gate_numbers, loop_of, begins_with}
-use Rattle.netlist.specs.declared.parts.Parts.{Parts}
-use Rattle.report.specs.LoopTexts.{loop_lines}
-use Rattle.rewriting.specs.Rewriting.{sweeps_needed}
-use Rattle.rewriting.proofs.RewrittenLemmas.{counts_are_needed}
-use Rattle.unroll.specs.Unrolled.{sweeps_of}
-use Rattle.verdict.specs.Verdicts.{AreSweepsOnCare}
-use Rattle.accepted_loops.specs.Columns.{columns_read}
-use Rattle.accepted_loops.specs.Graphs.{told_cluster, told_clusters}
-use Rattle.accepted_loops.specs.Lines.{columns_line, sweeps_line}
+use Rattle.accepted_loops.proofs.Common.{CareSet, labelled_cluster, Blocks, Cut, SweepCounts, AreBlocksOf, IsCutOf, loops_of, gate_numbers, loop_of, begins_with, Parts, loop_lines, sweeps_needed, counts_are_needed, sweeps_of, AreSweepsOnCare, columns_read, told_cluster, columns_line, sweeps_line}
+use Rattle.accepted_loops.specs.Graphs.{told_clusters}
 use Rattle.accepted_loops.proofs.LineLemmas.{begun-passes, numbered-alike}
 
 -- three texts, one after another

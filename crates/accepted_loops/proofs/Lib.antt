@@ -1,3 +1,4 @@
+pub mod Common
 mod ReachLemmas
 mod ReadLemmas
 mod LineLemmas

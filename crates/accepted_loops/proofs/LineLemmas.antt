@@ -1,32 +1,17 @@
 -- The lines of loops, one after another.
 use Rattle.std.proofs.Common.{◌≡◌, ◌<◌, ℕ, ◌+◌, Bool, true, false, cond, List, [], ◌∷◌, ◌++◌, length, filter, refl, sym, ap, ap₂, ◌∙◌, arith, append_assoc, true≢false}
-use Rattle.std.proofs.lemmas.Bool.{eqb-true}
-use Rattle.netlist.specs.declared.parts.Parts.{Parts}
-use Rattle.loops.specs.declared.structure.Blocks.{Blocks}
-use Rattle.loops.specs.declared.structure.Cut.{Cut}
-use Rattle.loops.specs.declared.structure.SweepCounts.{SweepCounts}
-use Rattle.loops.specs.Blocks.{AreBlocksOf}
-use Rattle.loops.specs.Cuts.{IsCutOf}
-use Rattle.loops.specs.Found.{loops_of}
-use Rattle.loops.specs.Listed.{first_gates, gate_numbers, loop_of, begins_with}
-use Rattle.loops.specs.Sweeps.{first_gate}
-use Rattle.care_sets.specs.Care.{CareSet}
-use Rattle.isolation.specs.Cones.{is_marked}
+use Rattle.accepted_loops.proofs.Common.{eqb-true, Parts, Blocks, Cut, SweepCounts, AreBlocksOf, IsCutOf, loops_of, gate_numbers, loop_of, begins_with, first_gate, CareSet, is_marked, loops_left, loop_lines, told_first, sweeps_needed, counts_are_needed, sweeps_of, AreSweepsOnCare, columns_read, is_read, marked_columns, AreColumnsRead, sweeps_line, columns_line, told_lines}
+use Rattle.loops.specs.Listed.{first_gates}
 use Rattle.std.specs.Iterator.{Yields, YieldsFirstBy}
 use Rattle.std.specs.Prelude.{Some}
-use Rattle.loops.specs.Left.{loop_seen, loops_left}
+use Rattle.loops.specs.Left.{loop_seen}
 use Rattle.loops.specs.Numbered.{listed_loops, numbered}
 use Rattle.loops.specs.declared.loop_list.ListedLoop.{ListedLoop}
 use Rattle.loops.specs.declared.loop_list.LoopList.{LoopList}
 use Rattle.loops.proofs.ListedLemmas.{kept_below}
-use Rattle.report.specs.LoopTexts.{each_loop, loop_lines, numbered_loops}
-use Rattle.report.proofs.LoopTextLemmas.{one_more, told_first, whole_told}
-use Rattle.rewriting.specs.Rewriting.{sweeps_needed}
-use Rattle.rewriting.proofs.RewrittenLemmas.{counts_are_needed}
-use Rattle.unroll.specs.Unrolled.{sweeps_of}
-use Rattle.verdict.specs.Verdicts.{AreSweepsOnCare}
-use Rattle.accepted_loops.specs.Columns.{columns_read, is_read, marked_columns, AreColumnsRead}
-use Rattle.accepted_loops.specs.Lines.{sweeps_line, columns_line, told_lines, told_loops}
+use Rattle.report.specs.LoopTexts.{each_loop, numbered_loops}
+use Rattle.report.proofs.LoopTextLemmas.{one_more, whole_told}
+use Rattle.accepted_loops.specs.Lines.{told_loops}
 
 marked_are_read : (net : Parts) (gate : ℕ) (read : List Bool) → AreColumnsRead net gate read → marked_columns net read ≡ columns_read net gate
 marked_are_read net gate read are = kept_below (is_marked read) (is_read net gate) 0 (first_gate net) (first_gate net) (omega arith) are.each

@@ -1,17 +1,15 @@
 -- Whether a walk leads from one gate to another, by trying all walks.
 use Rattle.std.proofs.Common.{◌≡◌, ◌⊎◌, ◌↔◌, inl, inr, ℕ, zero, suc, ◌<◌, ltb, true, ◌&&◌, ◌==◌, List, [], ◌∷◌, length, subst, arith}
-use Rattle.std.proofs.lemmas.Bool.{cases_eq, and_parts, and_from, or_cases, or_left, or_right, ltb-true, lt-ltb, eqb-true, eq-eqb}
+use Rattle.accepted_loops.proofs.Common.{and_parts, and_from, eqb-true, Parts, gate_at, member, among, is_upstream}
+use Rattle.std.proofs.lemmas.Bool.{cases_eq, or_cases, or_left, or_right, ltb-true, lt-ltb, eq-eqb}
 use Rattle.std.specs.List.{AllByRecursion, list_any}
 use Rattle.cyc_base.proofs.ListLemmas.{all_weaker}
-use Rattle.netlist.specs.declared.parts.Parts.{Parts}
-use Rattle.netlist.specs.Netlists.{gate_at, gate_sig, sig_eq}
+use Rattle.netlist.specs.Netlists.{gate_sig, sig_eq}
 use Rattle.netlist.specs.Walks.{Feeds, Walk}
 use Rattle.loops.specs.Walks.{Leads, AnyGate}
 use Rattle.loops.specs.Found.{feeds, reaches}
 use Rattle.loops.proofs.Walks.{leads-step, leads-trans, split, walk_within_of}
 use Rattle.isolation.specs.Laws.{IsUpstream}
-use Rattle.refusals.proofs.ObservedLemmas.{member, among}
-use Rattle.accepted_loops.specs.Columns.{is_upstream}
 
 module _ (net : Parts) where
   feeds-true : (a b : ℕ) → feeds net a b ≡ true → Feeds net a b

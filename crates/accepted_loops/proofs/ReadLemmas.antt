@@ -1,23 +1,20 @@
 -- Marks while the columns are found that are read upstream of a gate.
 use Rattle.std.proofs.Common.{◌≡◌, inl, inr, ℕ, ◌+◌, ◌<◌, ◌≤◌, Bool, true, false, ◌&&◌, List, [], ◌∷◌, ◌++◌, length, take, get_or, sym, ap, ◌∙◌, subst, arith, Contains, true≢false}
 use Rattle.std.proofs.Math.ListN.{set}
-use Rattle.std.proofs.lemmas.Bool.{cases_lt, and_parts, and_from}
+use Rattle.accepted_loops.proofs.Common.{and_parts, and_from, length-range_with_len, range_with_len, Parts, gate_at, first_gate, is_marked, AddMarks, member, among, is_upstream, is_read, AreColumnsRead, IsAmong, IsReadBelow}
+use Rattle.std.proofs.lemmas.Bool.{cases_lt}
 use Rattle.std.proofs.lemmas.List.{take_more, take_all}
 use Rattle.std.proofs.lemmas.List.Elements.{Contains-append_left, Contains-push, Contains-push_cases}
 use Rattle.std.proofs.lemmas.List.Folds.{Any-from_list_any}
-use Rattle.std.proofs.lemmas.List.FromFn.{length-range_with_len, get_or-range_with_len}
-use Rattle.std.specs.List.{range_with_len}
+use Rattle.std.proofs.lemmas.List.FromFn.{get_or-range_with_len}
 use Rattle.cyc_base.specs.declared.sig.Sig.{Sig}
 use Rattle.cyc_base.proofs.TruthLemmas.{same_truth}
-use Rattle.netlist.specs.declared.parts.Parts.{Parts}
-use Rattle.netlist.specs.Netlists.{gate_at, signal}
-use Rattle.loops.specs.Sweeps.{first_gate}
-use Rattle.isolation.specs.Cones.{is_marked, AddMarks, IsConeOf}
+use Rattle.netlist.specs.Netlists.{signal}
+use Rattle.isolation.specs.Cones.{IsConeOf}
 use Rattle.isolation.proofs.MarkLemmas.{add-none, add-same, add-both, add-one, cone_of_one}
 use Rattle.refusals.specs.Refusals.{is_among}
-use Rattle.refusals.proofs.ObservedLemmas.{member, among}
 use Rattle.unroll.proofs.SizeLemmas.{one_in_range}
-use Rattle.accepted_loops.specs.Columns.{is_upstream, is_read, AreColumnsRead, AreUpstreamOf, IsAmong, IsColumn, IsReadBelow, IsReadBy}
+use Rattle.accepted_loops.specs.Columns.{AreUpstreamOf, IsColumn, IsReadBy}
 use Rattle.accepted_loops.proofs.ReachLemmas.{upstream-test}
 
 -- ---- what lies upstream of a gate

@@ -1,20 +1,17 @@
 -- The items of the text, by their places.
 use Rattle.std.proofs.Common.{◌*◌, ◌||◌, Bool, true, false, eqb, All, ◌≡◌, ℕ, ◌+◌, ◌<◌, ◌≤◌, List, [], ◌∷◌, ◌++◌, length, get_or, map, refl, sym, ap, subst, ◌∙◌, arith, Some}
-use Rattle.std.specs.List.{list_any, IsDistinct, AllByRecursion, slice_get, enumerate_from}
+use Rattle.aiger_write.proofs.Common.{enumerate_from, length-map, item_at, codes, And, edge, latch_line, and_line, name_of, Latch}
+use Rattle.std.specs.List.{list_any, IsDistinct, AllByRecursion, slice_get}
 use Rattle.std.proofs.lemmas.Bool.{false≢true, eqb-true}
 use Rattle.std.proofs.lemmas.List.Elements.{All-head, All-tail}
 use Rattle.std.proofs.lemmas.Map.Steps.{length-le_from_distinct_below}
-use Rattle.std.proofs.lemmas.List.{length-map, get_or_append_left, get_or-map}
+use Rattle.std.proofs.lemmas.List.{get_or_append_left, get_or-map}
 use Rattle.std.proofs.lemmas.List.FromFn.{get_or-enumerate_from}
 use Rattle.std.proofs.lemmas.Option.{slice_get_within, get_or_from_slice_get}
-use Rattle.cyc_base.proofs.ListLemmas.{item_at}
 use Rattle.cyc_base.specs.declared.sig.Sig.{Sig}
-use Rattle.std.specs.Prelude.{codes}
-use Rattle.aig_core.specs.declared.edge.And.{And}
 use Rattle.aig_core.specs.declared.building.Built.{Built}
-use Rattle.aig_core.specs.Graphs.{Graph, edge}
-use Rattle.aiger_write.specs.Text.{numbers_line, head_text, init_words, latch_line, and_line, name_of}
-use Rattle.netlist.specs.declared.parts.Latch.{Latch}
+use Rattle.aig_core.specs.Graphs.{Graph}
+use Rattle.aiger_write.specs.Text.{numbers_line, head_text, init_words}
 use Rattle.netlist.specs.declared.parts.Parts.{Parts}
 use Rattle.netlist.specs.Netlists.{count, signal, sig_eq, signal_names, driven_names, IsSignal, IsNetlist}
 

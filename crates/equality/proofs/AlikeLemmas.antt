@@ -1,33 +1,22 @@
 -- Tick by tick, two netlists that agree show the same by name.
 use Rattle.std.proofs.Common.{◌≡◌, ◌≢◌, ℕ, ◌+◌, ◌-◌, ◌<◌, ◌≤◌, Bool, false, ◌&&◌, List, [], ◌∷◌, ◌++◌, length, map, get_or, slice_get, position, All, Option, Some, None, refl, sym, ap, ap₂, ◌∙◌, arith, true≢false}
-use Rattle.std.specs.Prelude.{option_map}
-use Rattle.std.specs.List.{list_any}
-use Rattle.std.specs.Option.{option_or, option_map_or}
-use Rattle.std.specs.Str.{bytes_eq}
-use Rattle.std.proofs.lemmas.List.{map-append, length-append, length-map, get_or-map, get_or_append_left, get_or-append-add}
+use Rattle.equality.proofs.Common.{option_map, list_any, option_or, option_map_or, bytes_eq, length-append, length-map, get_or-map, get_or_append_left, get_or-append-add, Sig, Trit, X, bits, Parts, signal, signal_names, IsNetlist, IsCareOf, CareSet, columns, is_care_vector, IsCareVector, Refusal, refusal, care_test, care_vector_decides, Answer, Equal, Unmatched, First, Second, Output, name_of, latch_name, unmatched, number_or_0, output_pairs, latch_pairs, differs_at, differs, difference, at_difference, comparison, comparison_of_accepted, nowhere_any, renamed}
+use Rattle.std.proofs.lemmas.List.{map-append}
 use Rattle.std.proofs.lemmas.List.Elements.{All-head, All-tail}
 use Rattle.std.proofs.lemmas.Option.{slice_get-get_or}
 use Rattle.std.proofs.lemmas.Simd.{map-map}
-use Rattle.cyc_base.specs.declared.sig.Sig.{Sig}
-use Rattle.cyc_base.specs.declared.trit.Trit.{Trit}
-use Rattle.cyc_base.specs.declared.trit.Trit.TheVariants.{Zero, One, X}
-use Rattle.cyc_base.specs.Values.{bits}
+use Rattle.cyc_base.specs.declared.trit.Trit.TheVariants.{Zero, One}
 use Rattle.cyc_base.proofs.OrderLemmas.{same_bit}
 use Rattle.netlist.specs.declared.parts.Latch.{Latch}
-use Rattle.netlist.specs.declared.parts.Parts.{Parts}
-use Rattle.netlist.specs.Netlists.{count, signal, signal_names, IsNetlist}
+use Rattle.netlist.specs.Netlists.{count}
 use Rattle.netlist.specs.Fixpoint.{wire, fix, outs, next}
 use Rattle.netlist.proofs.NameLemmas.{length-signal_names}
 use Rattle.loops.proofs.Reading.{map_agree}
-use Rattle.care_sets.specs.Binding.{IsCareOf}
-use Rattle.care_sets.specs.Care.{CareSet, columns, is_care_vector, IsCareVector}
 use Rattle.refusals.specs.declared.observe.Observe.TheVariants as observe
-use Rattle.refusals.specs.declared.refusal.Refusal.{Refusal}
 use Rattle.refusals.specs.Acceptance.{Accepts}
-use Rattle.refusals.specs.Refusals.{refusal}
 use Rattle.refusals.proofs.FirstLemmas.{none_passes}
-use Rattle.refusals.proofs.LawLemmas.{accepted_without_refusal, care_test}
-use Rattle.refusals.proofs.ShowingLemmas.{care_vector_decides, care_vector_is}
+use Rattle.refusals.proofs.LawLemmas.{accepted_without_refusal}
+use Rattle.refusals.proofs.ShowingLemmas.{care_vector_is}
 use Rattle.schedules.specs.Moments.{History, bit_at, newest}
 use Rattle.schedules.specs.Runs.{Tick, Played, gates_at, outputs_at, loaded_at, played, play, vector_of, IsFairTick}
 use Rattle.schedules.proofs.RunLemmas.{Fits, last_above, fits_next, run_fits}
@@ -35,13 +24,12 @@ use Rattle.accepted_runs.specs.Laws.{FollowsFix}
 use Rattle.accepted_runs.proofs.CareLemmas.{care_is_kept, runs_follow_fix, follows_fix}
 use Rattle.accepted_runs.proofs.SameLemmas.{same_head, same_tail}
 use Rattle.clause_decision.specs.declared.pairs.Pair.{Pair}
-use Rattle.equal.specs.declared.answer.Answer.{Answer}
-use Rattle.equal.specs.declared.answer.Answer.TheVariants.{Equal, Unmatched, First, Second, Output, Latch as LatchAt}
-use Rattle.equal.specs.Matching.{name_of, latch_name, latch_named, output_names, unmatched}
-use Rattle.equal.specs.Differences.{number_or_0, column_named, by_name, signal_named, source_named, pair_of, output_pairs, latch_pairs, are_different, differs_at, differs, difference, at_difference, comparison, comparison_of_accepted, HaveOneSource}
+use Rattle.equal.specs.declared.answer.Answer.TheVariants.{Latch as LatchAt}
+use Rattle.equal.specs.Matching.{latch_named, output_names}
+use Rattle.equal.specs.Differences.{column_named, by_name, signal_named, source_named, pair_of, are_different, HaveOneSource}
 use Rattle.equal.proofs.MatchLemmas.{Match, matched, care_by_name, latch_any}
-use Rattle.equal.proofs.NameLemmas.{nowhere_any, input_behind, latch_at, latch_found, signal_found}
-use Rattle.equality.specs.Runs.{renamed, latch_names, EqualRunAlike}
+use Rattle.equal.proofs.NameLemmas.{input_behind, latch_at, latch_found, signal_found}
+use Rattle.equality.specs.Runs.{latch_names, EqualRunAlike}
 use Rattle.equality.proofs.RenamingLemmas.{IsPlaceOf, place_of, place_first, place_behind, renamed_is, bit_read}
 
 -- ---- what is found where two netlists agree

@@ -1,24 +1,8 @@
 -- What is found of two netlists speaks of their own wires and vectors.
 use Rattle.std.proofs.Common.{◌≡◌, ℕ, ◌<◌, Bool, true, ◌&&◌, ◌||◌, List, length, position, Option, Some, None, refl, sym, ap₂, subst, ◌∙◌, true≢false}
-use Rattle.std.specs.Prelude.{option_map}
-use Rattle.std.specs.Option.{option_or, option_map_or}
-use Rattle.std.proofs.lemmas.List.{length-map}
-use Rattle.std.proofs.lemmas.List.Folds.{list_any-append, list_any_none}
-use Rattle.std.proofs.lemmas.List.Quantifiers.{position-Some}
-use Rattle.netlist.specs.declared.parts.Parts.{Parts}
-use Rattle.netlist.specs.Netlists.{signal, IsNetlist}
-use Rattle.netlist.proofs.Decisions.{none_found}
-use Rattle.care_sets.specs.Care.{CareSet, columns, is_care_vector}
+use Rattle.equality.proofs.Common.{option_map, option_or, option_map_or, length-map, list_any-append, list_any_none, position-Some, Parts, signal, IsNetlist, none_found, CareSet, columns, is_care_vector, Refusal, care_vectors, refusal, found_passes, found_wide, care_test, refusal_is_shown, Answer, Equal, Unmatched, First, Second, Output, Latch, unmatched, number_or_0, output_pairs, latch_pairs, differs_at, differs, difference, at_difference, comparison, comparison_of_accepted, IsAnswerOf}
 use Rattle.refusals.specs.declared.observe.Observe.TheVariants as observe
-use Rattle.refusals.specs.declared.refusal.Refusal.{Refusal}
-use Rattle.refusals.specs.Refusals.{care_vectors, refusal, IsRefusalOf}
-use Rattle.refusals.proofs.FirstLemmas.{found_passes, found_wide}
-use Rattle.refusals.proofs.LawLemmas.{care_test, refusal_is_shown}
-use Rattle.equal.specs.declared.answer.Answer.{Answer}
-use Rattle.equal.specs.declared.answer.Answer.TheVariants.{Equal, Unmatched, First, Second, Output, Latch}
-use Rattle.equal.specs.Matching.{unmatched}
-use Rattle.equal.specs.Differences.{number_or_0, output_pairs, latch_pairs, differs_at, differs, difference, at_difference, comparison, comparison_of_accepted}
-use Rattle.equality.specs.Answers.{IsAnswerOf}
+use Rattle.refusals.specs.Refusals.{IsRefusalOf}
 
 module _ (a b : Parts) (care_a care_b : CareSet) (valid_a : IsNetlist a) (valid_b : IsNetlist b) where
   refused-first : (r : Refusal) → refusal a care_a observe.All ≡ Some r → IsRefusalOf a r

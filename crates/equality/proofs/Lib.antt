@@ -1,3 +1,4 @@
+pub mod Common
 mod FitLemmas
 pub mod AlikeLemmas
 mod RenamingLemmas

@@ -1,20 +1,12 @@
 -- Places of names in lists, and values taken by name.
 use Rattle.std.proofs.Common.{◌≡◌, inl, inr, ℕ, ◌+◌, ◌-◌, ◌<◌, Bool, true, false, cond, List, [], ◌++◌, length, map, get_or, position, Option, Some, None, refl, sym, ap, ◌∙◌, arith, true≢false}
-use Rattle.std.specs.List.{list_any, position_or_len}
-use Rattle.std.specs.Str.{bytes_eq}
+use Rattle.equality.proofs.Common.{list_any, bytes_eq, list_any_none, get_or-map, get_or_append_left, get_or-append-add, length-append, length-map, position-Some, Trit, X, bits, none_found, number_or_0, nowhere_any, renamed}
+use Rattle.std.specs.List.{position_or_len}
 use Rattle.std.proofs.lemmas.Bool.{cases_lt, lt-ltb}
-use Rattle.std.proofs.lemmas.List.Folds.{list_any_none}
-use Rattle.std.proofs.lemmas.List.{ext_get_or, get_or-map, get_or_append_left, get_or-append-add, length-append, length-map}
-use Rattle.std.proofs.lemmas.List.Quantifiers.{position-Some}
+use Rattle.std.proofs.lemmas.List.{ext_get_or}
 use Rattle.std.proofs.lemmas.List.Sums.{position_or_len_is}
 use Rattle.std.proofs.lemmas.Slice.Eq.{bytes_eq-Decides}
-use Rattle.cyc_base.specs.declared.trit.Trit.{Trit}
-use Rattle.cyc_base.specs.declared.trit.Trit.TheVariants.{X}
-use Rattle.cyc_base.specs.Values.{bit, bits}
-use Rattle.netlist.proofs.Decisions.{none_found}
-use Rattle.equal.specs.Differences.{number_or_0}
-use Rattle.equal.proofs.NameLemmas.{nowhere_any}
-use Rattle.equality.specs.Runs.{renamed}
+use Rattle.cyc_base.specs.Values.{bit}
 
 -- ---- a place of a name
 

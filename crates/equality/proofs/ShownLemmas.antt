@@ -1,27 +1,11 @@
 -- What is found of two netlists shows itself.
 use Rattle.std.proofs.Common.{◌≡◌, ℕ, Bool, true, ◌&&◌, ◌||◌, List, position, Option, Some, None, refl, sym, ap₂, ◌∙◌, true≢false}
-use Rattle.std.specs.Prelude.{option_map}
-use Rattle.std.specs.Option.{option_or, option_map_or}
-use Rattle.std.proofs.lemmas.List.Folds.{list_any-append, list_any_none}
-use Rattle.std.proofs.lemmas.List.Quantifiers.{position-Some}
+use Rattle.equality.proofs.Common.{option_map, option_or, option_map_or, list_any-append, list_any_none, position-Some, Parts, signal, IsNetlist, none_found, IsCareOf, CareSet, columns, is_care_vector, IsCareVector, Refusal, care_vectors, refusal, found_passes, found_wide, care_test, refusal_is_shown, care_vector_decides, Answer, Equal, Unmatched, First, Second, Output, Latch, unmatched, number_or_0, output_pairs, latch_pairs, differs_at, differs, difference, at_difference, comparison_of_accepted, rebound}
 use Rattle.std.proofs.lemmas.Bool.{and_parts}
-use Rattle.netlist.specs.declared.parts.Parts.{Parts}
-use Rattle.netlist.specs.Netlists.{signal, IsNetlist}
-use Rattle.netlist.proofs.Decisions.{none_found}
-use Rattle.care_sets.specs.Binding.{IsCare, IsCareOf}
-use Rattle.care_sets.specs.Care.{CareSet, columns, is_care_vector, IsCareVector}
+use Rattle.care_sets.specs.Binding.{IsCare}
 use Rattle.refusals.specs.declared.observe.Observe.TheVariants as observe
-use Rattle.refusals.specs.declared.refusal.Refusal.{Refusal}
 use Rattle.cyc_base.specs.Vectors.{vectors}
-use Rattle.refusals.specs.Refusals.{care_vectors, refusal}
-use Rattle.refusals.proofs.FirstLemmas.{found_passes, found_wide}
-use Rattle.refusals.proofs.LawLemmas.{care_test, refusal_is_shown}
-use Rattle.refusals.proofs.ShowingLemmas.{care_vector_decides}
-use Rattle.equal.specs.declared.answer.Answer.{Answer}
-use Rattle.equal.specs.declared.answer.Answer.TheVariants.{Equal, Unmatched, First, Second, Output, Latch}
-use Rattle.equal.specs.Matching.{unmatched}
-use Rattle.equal.specs.Differences.{number_or_0, output_pairs, latch_pairs, differs_at, differs, difference, at_difference, comparison_of_accepted}
-use Rattle.equal.specs.Rebound.{rebound, found}
+use Rattle.equal.specs.Rebound.{found}
 use Rattle.equal.proofs.ReboundLemmas.{rebound_is_care, rebound_source}
 use Rattle.equality.specs.Runs.{RunAlike}
 use Rattle.equality.proofs.AlikeLemmas.{equal_run_alike}

@@ -1,19 +1,11 @@
 -- The columns of a vector, appended one after another.
 use Rattle.std.proofs.Common.{◌≡◌, ℕ, ◌+◌, ◌<◌, ◌≤◌, Bool, List, length, take, drop, get_or, zip, slice_get, Some, sym, ap₂, ◌∙◌, arith}
-use Rattle.std.specs.List.{flat_map}
-use Rattle.std.specs.declared.option.Option.{Option}
-use Rattle.std.specs.Prelude.{Ok, Err, IsErr}
-use Rattle.std.specs.declared.result.Result.{Result}
+use Rattle.report.proofs.Common.{flat_map, Option, Ok, Err, IsErr, Result, get_or_from_slice_get, SinkCall, IsAppended, over, appended_item, appended_in_item, appended_items, Parts, signal_names, column_text}
 use Rattle.std.proofs.lemmas.List.{get_or-drop, get_or_default, length-drop}
-use Rattle.std.proofs.lemmas.Option.{get_or_from_slice_get}
 use Rattle.std.proofs.lemmas.Slice.Zip.{get_or-zip, length-zip}
-use Rattle.cyc_io.specs.Taken.{SinkCall, IsAppended}
-use Rattle.cyc_io.proofs.TakenLemmas.{over}
-use Rattle.cyc_io.proofs.ItemLemmas.{appended_item, appended_in_item, appended_items}
-use Rattle.netlist.specs.declared.parts.Parts.{Parts}
-use Rattle.netlist.specs.Netlists.{count, signal_names}
+use Rattle.netlist.specs.Netlists.{count}
 use Rattle.netlist.proofs.NameLemmas.{length-signal_names}
-use Rattle.report.specs.Verdicts.{column_text, columns_text}
+use Rattle.report.specs.Verdicts.{columns_text}
 
 -- the columns from the first one on
 abbrev pub columns_of : Parts → ℕ → List Bool → List (List ℕ × Bool)

@@ -3,22 +3,14 @@ use Rattle.std.proofs.Common.{◌≡◌, ℕ, ◌+◌, Bool, true, false, cond, 
 use Rattle.std.proofs.lemmas.List.{length-append, take_all, take_more}
 use Rattle.std.proofs.lemmas.List.Concat.{flat_map-append}
 use Rattle.std.specs.Iterator.{Yields, YieldsFirstBy}
-use Rattle.std.specs.List.{flat_map}
-use Rattle.std.specs.Prelude.{if◌then◌else◌, Some, Ok, Err, IsErr}
-use Rattle.std.specs.declared.option.Option.{Option}
-use Rattle.std.specs.declared.result.Result.{Result}
-use Rattle.cyc_io.specs.Taken.{SinkCall, IsAppended}
-use Rattle.cyc_io.proofs.ItemLemmas.{appended_item, appended_in_item, appended_items}
-use Rattle.cyc_io.proofs.TakenLemmas.{over, appended_equal}
-use Rattle.netlist.specs.declared.parts.Parts.{Parts}
-use Rattle.loops.specs.Found.{loops_of}
+use Rattle.report.proofs.Common.{flat_map, if◌then◌else◌, Ok, Err, IsErr, Option, Result, SinkCall, IsAppended, appended_item, appended_in_item, appended_items, over, appended_equal, Parts, loops_of, comes_at, loop_seen, loops_left, loop_line, loop_lines}
+use Rattle.std.specs.Prelude.{Some}
 use Rattle.loops.specs.Listed.{first_gates}
-use Rattle.loops.proofs.ListLemmas.{all_came, comes_at}
-use Rattle.loops.specs.Left.{loop_seen, loops_left}
+use Rattle.loops.proofs.ListLemmas.{all_came}
 use Rattle.loops.specs.Numbered.{Listed, IsLoopOf, listed_loops, numbered}
 use Rattle.loops.specs.declared.loop_list.ListedLoop.{ListedLoop}
 use Rattle.loops.specs.declared.loop_list.LoopList.{LoopList}
-use Rattle.report.specs.LoopTexts.{loop_line, loop_lines, numbered_loops, each_loop}
+use Rattle.report.specs.LoopTexts.{numbered_loops, each_loop}
 
 -- the texts of the items that pass a test
 pub kept_texts : {X : Type 0} (p : X → Bool) (f : X → List ℕ) (xs : List X) → flat_map f (filter p xs) ≡ flat_map (λ x. if p x then f x else []) xs

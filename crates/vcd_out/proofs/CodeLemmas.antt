@@ -1,7 +1,7 @@
 -- Codes are numbers without a zero.
 use Rattle.std.proofs.Common.{◌≡◌, ◌<◌, ◌≤◌, ◌+◌, ◌-◌, ◌*◌, ◌/◌, ◌%◌, ℕ, zero, suc, List, [], ◌∷◌, inl, inr, refl, ap, arith}
-use Rattle.std.proofs.lemmas.Bool.{cases_lt, lt-ltb, le-ltb}
-use Rattle.vcd_out.specs.Codes.{code_upto, code, CodesDiffer}
+use Rattle.vcd_out.proofs.Common.{cases_lt, lt-ltb, le-ltb, code_upto, code}
+use Rattle.vcd_out.specs.Codes.{CodesDiffer}
 
 -- any more digits are enough
 code_enough : (f g n : ℕ) → n < f → n < g → code_upto f n ≡ code_upto g n

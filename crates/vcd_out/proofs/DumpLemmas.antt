@@ -1,28 +1,23 @@
 -- The dump of a run shows what its changes tell.
 use Rattle.std.proofs.Common.{◌≡◌, ◌<◌, ◌≤◌, ◌+◌, ◌^◌, ◌==◌, ℕ, zero, suc, Bool, true, not, nat_lt, List, [], ◌∷◌, ◌++◌, length, map, filter, get_or, codes, None, refl, ap, sym, ◌∙◌, arith}
-use Rattle.std.specs.List.{fold, flat_map, list_all, range_with_len, zip}
-use Rattle.std.proofs.lemmas.Bool.{eq-eqb, ne_eqb, lt-ltb, and_parts, and_from, not-true}
-use Rattle.std.proofs.lemmas.List.{append_assoc, append-nil, length-append, length-map, length-reverse}
+use Rattle.vcd_out.proofs.Common.{fold, flat_map, list_all, range_with_len, eq-eqb, ne_eqb, lt-ltb, and_parts, and_from, not-true, append_assoc, append-nil, list_all-append, Sig, count, signal, Change, signal_name, value_after, code, variable_line, head_text, value_line, timed_lines, is_first, first_changes, later_changes, lines_from, Shown, read_line}
+use Rattle.std.specs.List.{zip}
+use Rattle.std.proofs.lemmas.List.{length-append, length-map, length-reverse}
 use Rattle.std.proofs.lemmas.List.Elements.{filter-append}
-use Rattle.std.proofs.lemmas.List.Folds.{list_all-append}
 use Rattle.std.proofs.lemmas.List.Sums.{fold-append, list_all-from_AllPass}
 use Rattle.cyc_base.specs.Names.{IsBlifName}
-use Rattle.cyc_base.specs.declared.sig.Sig.{Sig}
 use Rattle.netlist.specs.declared.parts.Parts.{Parts}
-use Rattle.netlist.specs.Netlists.{IsNetlist, count, signal, signal_names, driven_names}
-use Rattle.delay_core.specs.declared.change.Change.{Change}
+use Rattle.netlist.specs.Netlists.{IsNetlist, signal_names, driven_names}
 use Rattle.delay_core.specs.declared.plan.RoundPlan.{RoundPlan}
 use Rattle.delay_core.specs.declared.plan.Schedule.{Schedule}
 use Rattle.delay_core.specs.Plays.{PlayState}
 use Rattle.delay_core.specs.Plans.{after_plans, first_opened}
 use Rattle.delay_core.specs.Changes.{openings, round_changes, later_changes as ticks_changes, changes}
-use Rattle.probes.specs.Texts.{signal_name}
-use Rattle.probes.specs.Values.{value_after, last_value, after_ticks, history_of}
+use Rattle.probes.specs.Values.{last_value, after_ticks, history_of}
 use Rattle.probes.proofs.TimeLemmas.{openings_pass, rounds_pass, ticks_pass, rounds_grow, ticks_grow}
 use Rattle.probes.proofs.ValueLemmas.{changes_tell}
-use Rattle.vcd_out.specs.Codes.{code}
-use Rattle.vcd_out.specs.Dumps.{variable_line, head_text, value_line, timed_lines, is_first, first_changes, later_changes, vcd_text}
-use Rattle.vcd_out.specs.Reading.{lines_from, Shown, nothing_shown, read_line, shown_value, DumpsShowValues}
+use Rattle.vcd_out.specs.Dumps.{vcd_text}
+use Rattle.vcd_out.specs.Reading.{nothing_shown, shown_value, DumpsShowValues}
 use Rattle.vcd_out.proofs.LineLemmas.{is_plain, code_is_plain, piece_then, firsts_read, timed_read}
 
 -- ---- names stay on their lines

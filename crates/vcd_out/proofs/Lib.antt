@@ -1,3 +1,4 @@
+pub mod Common
 pub mod BoxLemmas
 mod CodeLemmas
 mod DumpLemmas

@@ -1,19 +1,13 @@
 -- How a reader goes over the lines of a dump.
 use Rattle.std.proofs.Common.{◌≡◌, ◌≢◌, ◌<◌, ◌+◌, ◌-◌, ◌/◌, ◌%◌, ◌^◌, ◌==◌, ◌&&◌, ℕ, zero, suc, Bool, true, false, not, nat_lt, List, [], ◌∷◌, ◌++◌, codes, decimal, Option, inl, inr, refl, ap, sym, ◌∙◌, arith}
-use Rattle.std.specs.List.{fold, flat_map, list_all}
+use Rattle.vcd_out.proofs.Common.{fold, flat_map, list_all, cases_lt, lt-ltb, le-ltb, eq-eqb, ne_eqb, and_parts, and_from, not-true, append_assoc, append-nil, list_all-append, Sig, Change, value_after, code_upto, code, value_line, timed_lines, is_first, lines_from, Shown, read_line}
 use Rattle.std.specs.Str.{bytes_eq}
-use Rattle.std.proofs.lemmas.Bool.{cases_lt, cases_eq, cases_Bool, lt-ltb, le-ltb, eq-eqb, ne_eqb, eqb-true, ltb-true, and_parts, and_from, not-true}
+use Rattle.std.proofs.lemmas.Bool.{cases_eq, cases_Bool, eqb-true, ltb-true}
 use Rattle.std.proofs.lemmas.Fmt.{decimal_is_IsNumeral, decimal_by_steps}
 use Rattle.std.proofs.lemmas.Slice.Eq.{bytes_eq-Decides}
-use Rattle.std.proofs.lemmas.List.{append_assoc, append-nil}
-use Rattle.std.proofs.lemmas.List.Folds.{list_all-append}
-use Rattle.cyc_base.specs.declared.sig.Sig.{Sig}
-use Rattle.delay_core.specs.declared.change.Change.{Change}
-use Rattle.probes.specs.Values.{value_after}
-use Rattle.vcd_out.specs.Codes.{code_upto, code}
 use Rattle.cyc_io.specs.Bits.{bit_text}
-use Rattle.vcd_out.specs.Dumps.{value_line, time_line, timed_lines, is_first}
-use Rattle.vcd_out.specs.Reading.{lines_from, Shown, read_value, read_line}
+use Rattle.vcd_out.specs.Dumps.{time_line}
+use Rattle.vcd_out.specs.Reading.{read_value}
 use Rattle.vcd_out.proofs.CodeLemmas as codes_of
 
 -- no byte of it ends a line

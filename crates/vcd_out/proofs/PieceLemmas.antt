@@ -1,6 +1,6 @@
 -- Pieces that are appended one after another.
 use Rattle.std.proofs.Common.{◌≡◌, ◌++◌, ℕ, List, ap, ◌∙◌}
-use Rattle.std.proofs.lemmas.List.{append_assoc}
+use Rattle.vcd_out.proofs.Common.{append_assoc}
 
 step : (old new piece rest : List ℕ) → new ≡ old ++ piece → new ++ rest ≡ old ++ (piece ++ rest)
 step old new piece rest e = ap (λ (xs : List ℕ). xs ++ rest) e ∙ append_assoc old piece rest

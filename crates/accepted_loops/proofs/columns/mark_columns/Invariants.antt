@@ -1,6 +1,5 @@
 use Rattle.std.proofs.Common.{take, length}
-use Rattle.isolation.specs.Cones.{AddMarks}
-use Rattle.accepted_loops.specs.Columns.{IsAmong}
+use Rattle.accepted_loops.proofs.Common.{AddMarks, IsAmong}
 use Rattle.accepted_loops.proofs.columns.mark_columns.Given as goal
 
 abbrev pub invariant-loop-signal : goal.invariant-loop-signal

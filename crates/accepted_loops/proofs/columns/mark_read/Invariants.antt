@@ -1,5 +1,4 @@
-use Rattle.isolation.specs.Cones.{AddMarks}
-use Rattle.accepted_loops.specs.Columns.{IsReadBelow}
+use Rattle.accepted_loops.proofs.Common.{AddMarks, IsReadBelow}
 use Rattle.accepted_loops.proofs.columns.mark_read.Given as goal
 
 abbrev pub invariant-loop-gate : goal.invariant-loop-gate

@@ -1,8 +1,6 @@
 use Rattle.std.proofs.Common.{◌++◌, ◌∙◌, List, ℕ, ap₂}
-use Rattle.std.proofs.lemmas.Result.{IfOk-weaker, on_ok_weaker}
-use Rattle.cyc_io.specs.Text.{text_bytes}
-use Rattle.dot_text.specs.LoopGraphs.{labelled_cluster}
-use Rattle.loops.specs.Found.{loops_of}
+use Rattle.accepted_loops.proofs.Common.{IfOk-weaker, text_bytes, labelled_cluster, loops_of}
+use Rattle.std.proofs.lemmas.Result.{on_ok_weaker}
 use Rattle.loops.proofs.ListedLemmas.{loop_gates_inside}
 use Rattle.accepted_loops.proofs.graph.tell_cluster.Goals as goal
 

@@ -1,10 +1,5 @@
 use Rattle.std.proofs.Common.{◌++◌, ap, sym, ◌∙◌, append-nil, arith}
-use Rattle.cyc_io.specs.Text.{text_bytes}
-use Rattle.loops.proofs.ListLemmas.{all_came, comes_at}
-use Rattle.loops.specs.Left.{loops_left}
-use Rattle.rewriting.specs.Rewriting.{sweeps_needed}
-use Rattle.unroll.specs.Unrolled.{sweeps_of}
-use Rattle.accepted_loops.specs.Graphs.{told_cluster}
+use Rattle.accepted_loops.proofs.Common.{text_bytes, all_came, comes_at, loops_left, sweeps_needed, sweeps_of, told_cluster}
 use Rattle.accepted_loops.proofs.GraphLemmas.{drawn_on_care}
 use Rattle.accepted_loops.proofs.LineLemmas.{all_told, each_alike, one_more_told}
 use Rattle.accepted_loops.proofs.graph.tell_clusters.Goals as goal

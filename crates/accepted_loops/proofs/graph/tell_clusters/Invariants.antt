@@ -1,9 +1,5 @@
 use Rattle.std.proofs.Common.{◌≡◌, ◌<◌, ◌++◌, length}
-use Rattle.cyc_io.specs.Text.{text_bytes}
-use Rattle.loops.specs.Looped.{IsLooped}
-use Rattle.unroll.specs.Unrolled.{sweeps_of}
-use Rattle.report.proofs.LoopTextLemmas.{told_first}
-use Rattle.accepted_loops.specs.Graphs.{told_cluster}
+use Rattle.accepted_loops.proofs.Common.{text_bytes, IsLooped, sweeps_of, told_first, told_cluster}
 use Rattle.accepted_loops.proofs.graph.tell_clusters.Given as goal
 
 abbrev pub invariant-loop-listed : goal.invariant-loop-listed

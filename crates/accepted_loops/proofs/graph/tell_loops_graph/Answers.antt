@@ -1,4 +1,4 @@
-use Rattle.std.proofs.lemmas.Result.{IfOk-weaker}
+use Rattle.accepted_loops.proofs.Common.{IfOk-weaker}
 use Rattle.accepted_loops.proofs.GraphLemmas.{three_told}
 use Rattle.accepted_loops.proofs.graph.tell_loops_graph.Goals as goal
 

@@ -1,14 +1,9 @@
 use Rattle.std.proofs.Common.{ℕ, ◌<◌, [], arith}
-use Rattle.std.specs.Prelude.{if◌then◌else◌}
-use Rattle.std.specs.List.{range_with_len}
-use Rattle.std.proofs.lemmas.List.FromFn.{length-range_with_len}
+use Rattle.accepted_loops.proofs.Common.{if◌then◌else◌, range_with_len, length-range_with_len, first_gate, is_marked, appended_equal, column_name}
 use Rattle.cyc_base.proofs.ListLemmas.{at_range}
-use Rattle.loops.specs.Sweeps.{first_gate}
-use Rattle.isolation.specs.Cones.{is_marked}
-use Rattle.cyc_io.proofs.TakenLemmas.{appended_none, appended_equal}
+use Rattle.cyc_io.proofs.TakenLemmas.{appended_none}
 use Rattle.cyc_io.proofs.ItemLemmas.{appended_item, appended_in_item, appended_items}
 use Rattle.report.proofs.LoopTextLemmas.{kept_texts}
-use Rattle.accepted_loops.specs.Lines.{column_name}
 use Rattle.accepted_loops.proofs.lines.put_columns.Goals as goal
 
 pub loop-column-init : goal.loop-column-init

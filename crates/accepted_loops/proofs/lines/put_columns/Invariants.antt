@@ -1,10 +1,7 @@
 use Rattle.std.proofs.Common.{take, []}
-use Rattle.std.specs.Prelude.{if◌then◌else◌}
-use Rattle.std.specs.List.{flat_map, range_with_len}
+use Rattle.accepted_loops.proofs.Common.{if◌then◌else◌, range_with_len, is_marked, first_gate, column_name}
+use Rattle.std.specs.List.{flat_map}
 use Rattle.cyc_io.specs.Taken.{IsAppendedWhole, sink_call}
-use Rattle.isolation.specs.Cones.{is_marked}
-use Rattle.loops.specs.Sweeps.{first_gate}
-use Rattle.accepted_loops.specs.Lines.{column_name}
 use Rattle.accepted_loops.proofs.lines.put_columns.Given as goal
 
 abbrev pub invariant-loop-column : goal.invariant-loop-column

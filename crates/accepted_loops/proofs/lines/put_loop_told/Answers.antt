@@ -1,6 +1,5 @@
 use Rattle.std.proofs.Common.{sym}
-use Rattle.cyc_io.proofs.TakenLemmas.{appended_equal}
-use Rattle.unroll.specs.Unrolled.{sweeps_of}
+use Rattle.accepted_loops.proofs.Common.{appended_equal, sweeps_of}
 use Rattle.accepted_loops.proofs.LineLemmas.{lines_told}
 use Rattle.accepted_loops.proofs.lines.put_loop_told.Goals as goal
 

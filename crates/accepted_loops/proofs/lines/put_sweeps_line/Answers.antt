@@ -1,4 +1,4 @@
-use Rattle.cyc_io.proofs.TakenLemmas.{appended_then, appended_cut}
+use Rattle.accepted_loops.proofs.Common.{appended_then, appended_cut}
 use Rattle.accepted_loops.proofs.lines.put_sweeps_line.Goals as goal
 
 pub returns-in_err-put_numbered : goal.returns-in_err-put_numbered

@@ -1,8 +1,5 @@
 use Rattle.std.proofs.Common.{ap, sym}
-use Rattle.cyc_io.proofs.TakenLemmas.{appended_then, appended_cut, appended_equal}
-use Rattle.netlist.specs.declared.parts.Parts.{Parts}
-use Rattle.accepted_loops.specs.Columns.{marked_columns}
-use Rattle.accepted_loops.specs.Lines.{columns_line}
+use Rattle.accepted_loops.proofs.Common.{appended_then, appended_cut, appended_equal, Parts, marked_columns, columns_line}
 use Rattle.accepted_loops.proofs.lines.put_told.Goals as goal
 
 pub returns-in_err-put_loop : goal.returns-in_err-put_loop

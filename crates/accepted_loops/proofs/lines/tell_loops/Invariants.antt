@@ -1,9 +1,5 @@
 use Rattle.std.proofs.Common.{◌≡◌, ◌<◌, ◌++◌, length}
-use Rattle.cyc_io.specs.Text.{text_bytes}
-use Rattle.loops.specs.Looped.{IsLooped}
-use Rattle.unroll.specs.Unrolled.{sweeps_of}
-use Rattle.report.proofs.LoopTextLemmas.{told_first}
-use Rattle.accepted_loops.specs.Lines.{told_lines}
+use Rattle.accepted_loops.proofs.Common.{text_bytes, IsLooped, sweeps_of, told_first, told_lines}
 use Rattle.accepted_loops.proofs.lines.tell_loops.Given as goal
 
 abbrev pub invariant-loop-listed : goal.invariant-loop-listed

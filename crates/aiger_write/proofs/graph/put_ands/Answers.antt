@@ -1,11 +1,5 @@
 use Rattle.std.proofs.Common.{◌<◌, ℕ, List, length, arith}
-use Rattle.std.specs.List.{enumerate_from}
-use Rattle.std.proofs.lemmas.List.FromFn.{length-enumerate_from}
-use Rattle.aig_core.specs.declared.edge.And.{And}
-use Rattle.cyc_io.proofs.TakenLemmas.{appended_equal}
-use Rattle.cyc_io.proofs.ItemLemmas.{appended_item, appended_in_item, appended_items}
-use Rattle.aiger_write.specs.Text.{and_line}
-use Rattle.cyc_base.proofs.ListLemmas.{item_at}
+use Rattle.aiger_write.proofs.Common.{enumerate_from, length-enumerate_from, And, appended_equal, appended_item, appended_in_item, appended_items, and_line, item_at}
 use Rattle.aiger_write.proofs.TextLemmas.{numbered, and_is}
 use Rattle.aiger_write.proofs.graph.put_ands.Goals as goal
 

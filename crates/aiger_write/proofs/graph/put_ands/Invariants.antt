@@ -1,7 +1,5 @@
 use Rattle.std.proofs.Common.{take}
-use Rattle.std.specs.List.{flat_map, enumerate_from}
-use Rattle.aiger_write.specs.Text.{and_line}
-use Rattle.cyc_io.specs.Taken.{IsAppendedWhole, sink_call}
+use Rattle.aiger_write.proofs.Common.{flat_map, enumerate_from, and_line, IsAppendedWhole, sink_call}
 use Rattle.aiger_write.proofs.graph.put_ands.Given as goal
 
 abbrev pub invariant-loop-place : goal.invariant-loop-place

@@ -1,5 +1,5 @@
 use Rattle.std.proofs.Common.{length, ap, sym, ◌∙◌, arith}
-use Rattle.cyc_io.proofs.TakenLemmas.{appended_then, appended_cut, appended_equal}
+use Rattle.aiger_write.proofs.Common.{appended_then, appended_cut, appended_equal}
 use Rattle.aiger_write.proofs.TextLemmas.{few_outputs, head_is}
 use Rattle.aiger_write.proofs.graph.put_counts.Goals as goal
 

@@ -1,10 +1,7 @@
 use Rattle.std.proofs.Common.{arith}
-use Rattle.std.specs.List.{range_with_len}
+use Rattle.aiger_write.proofs.Common.{range_with_len, appended_none, appended_item, appended_in_item, appended_items, input_line}
 use Rattle.std.proofs.lemmas.List.FromFn.{length-range_with_len}
 use Rattle.cyc_base.proofs.ListLemmas.{at_range}
-use Rattle.cyc_io.proofs.TakenLemmas.{appended_none}
-use Rattle.cyc_io.proofs.ItemLemmas.{appended_item, appended_in_item, appended_items}
-use Rattle.aiger_write.specs.Text.{input_line}
 use Rattle.aiger_write.proofs.graph.put_inputs.Goals as goal
 
 pub loop-input-init : goal.loop-input-init

@@ -1,7 +1,5 @@
 use Rattle.std.proofs.Common.{take}
-use Rattle.std.specs.List.{flat_map, range_with_len}
-use Rattle.aiger_write.specs.Text.{input_line}
-use Rattle.cyc_io.specs.Taken.{IsAppendedWhole, sink_call}
+use Rattle.aiger_write.proofs.Common.{flat_map, range_with_len, input_line, IsAppendedWhole, sink_call}
 use Rattle.aiger_write.proofs.graph.put_inputs.Given as goal
 
 abbrev pub invariant-loop-input : goal.invariant-loop-input

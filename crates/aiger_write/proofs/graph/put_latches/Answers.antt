@@ -1,13 +1,6 @@
 use Rattle.std.proofs.Common.{◌<◌, ℕ, List, length, get_or, ap, arith}
-use Rattle.std.specs.List.{enumerate_from}
-use Rattle.std.proofs.lemmas.List.FromFn.{length-enumerate_from}
-use Rattle.netlist.specs.declared.parts.Latch.{Latch}
+use Rattle.aiger_write.proofs.Common.{enumerate_from, length-enumerate_from, Latch, edge, appended_equal, appended_item, appended_in_item, appended_items, latch_line, item_at}
 use Rattle.aig_core.specs.declared.edge.Edge.{Edge}
-use Rattle.aig_core.specs.Graphs.{edge}
-use Rattle.cyc_io.proofs.TakenLemmas.{appended_equal}
-use Rattle.cyc_io.proofs.ItemLemmas.{appended_item, appended_in_item, appended_items}
-use Rattle.aiger_write.specs.Text.{latch_line}
-use Rattle.cyc_base.proofs.ListLemmas.{item_at}
 use Rattle.aiger_write.proofs.TextLemmas.{numbered, latch_is}
 use Rattle.aiger_write.proofs.graph.put_latches.Goals as goal
 

@@ -1,7 +1,5 @@
 use Rattle.std.proofs.Common.{take}
-use Rattle.std.specs.List.{flat_map, enumerate_from}
-use Rattle.aiger_write.specs.Text.{latch_line}
-use Rattle.cyc_io.specs.Taken.{IsAppendedWhole, sink_call}
+use Rattle.aiger_write.proofs.Common.{flat_map, enumerate_from, latch_line, IsAppendedWhole, sink_call}
 use Rattle.aiger_write.proofs.graph.put_latches.Given as goal
 
 abbrev pub invariant-loop-place : goal.invariant-loop-place

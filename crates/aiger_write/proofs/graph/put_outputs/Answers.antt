@@ -1,7 +1,5 @@
 use Rattle.std.proofs.Common.{arith}
-use Rattle.cyc_io.proofs.TakenLemmas.{appended_none}
-use Rattle.cyc_io.proofs.ItemLemmas.{appended_copied, appended_in_copied, appended_items}
-use Rattle.aiger_write.specs.Text.{output_line}
+use Rattle.aiger_write.proofs.Common.{appended_none, appended_copied, appended_in_copied, appended_items, output_line}
 use Rattle.aiger_write.proofs.graph.put_outputs.Goals as goal
 
 pub loop-output-init : goal.loop-output-init

@@ -1,7 +1,5 @@
 use Rattle.std.proofs.Common.{◌++◌, arith}
-use Rattle.std.specs.Prelude.{codes, decimal}
-use Rattle.cyc_io.proofs.TakenLemmas.{appended_none}
-use Rattle.cyc_io.proofs.ItemLemmas.{appended_copied, appended_in_copied, appended_items}
+use Rattle.aiger_write.proofs.Common.{codes, decimal, appended_none, appended_copied, appended_in_copied, appended_items}
 use Rattle.aiger_write.proofs.lines.put_next_numbers.Goals as goal
 
 pub loop-number-init : goal.loop-number-init

@@ -1,7 +1,5 @@
 use Rattle.std.proofs.Common.{take, ◌++◌}
-use Rattle.std.specs.Prelude.{codes, decimal}
-use Rattle.std.specs.List.{flat_map}
-use Rattle.cyc_io.specs.Taken.{IsAppendedWhole, sink_call}
+use Rattle.aiger_write.proofs.Common.{codes, decimal, flat_map, IsAppendedWhole, sink_call}
 use Rattle.aiger_write.proofs.lines.put_next_numbers.Given as goal
 
 abbrev pub invariant-loop-number : goal.invariant-loop-number

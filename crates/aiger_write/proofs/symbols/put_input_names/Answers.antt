@@ -1,10 +1,5 @@
 use Rattle.std.proofs.Common.{List, ℕ, arith}
-use Rattle.std.specs.Prelude.{codes}
-use Rattle.std.specs.List.{enumerate_from}
-use Rattle.std.proofs.lemmas.List.FromFn.{length-enumerate_from}
-use Rattle.cyc_io.proofs.TakenLemmas.{appended_none}
-use Rattle.cyc_io.proofs.ItemLemmas.{appended_item, appended_in_item, appended_items}
-use Rattle.aiger_write.specs.Text.{symbol_line}
+use Rattle.aiger_write.proofs.Common.{codes, enumerate_from, length-enumerate_from, appended_none, appended_item, appended_in_item, appended_items, symbol_line}
 use Rattle.aiger_write.proofs.TextLemmas.{numbered, as_item, input_name}
 use Rattle.aiger_write.proofs.symbols.put_input_names.Goals as goal
 

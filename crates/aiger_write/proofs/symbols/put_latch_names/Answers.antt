@@ -1,12 +1,5 @@
 use Rattle.std.proofs.Common.{List, ℕ, map, arith, sym, ◌∙◌}
-use Rattle.std.specs.Prelude.{codes}
-use Rattle.std.specs.List.{enumerate_from}
-use Rattle.std.proofs.lemmas.List.{length-map}
-use Rattle.std.proofs.lemmas.List.FromFn.{length-enumerate_from}
-use Rattle.cyc_io.proofs.TakenLemmas.{appended_none}
-use Rattle.cyc_io.proofs.ItemLemmas.{appended_item, appended_in_item, appended_items}
-use Rattle.netlist.specs.declared.parts.Latch.{Latch}
-use Rattle.aiger_write.specs.Text.{symbol_line}
+use Rattle.aiger_write.proofs.Common.{codes, enumerate_from, length-map, length-enumerate_from, appended_none, appended_item, appended_in_item, appended_items, Latch, symbol_line}
 use Rattle.aiger_write.proofs.TextLemmas.{numbered, as_item, latch_name}
 use Rattle.aiger_write.proofs.symbols.put_latch_names.Goals as goal
 

@@ -1,9 +1,5 @@
 use Rattle.std.proofs.Common.{take, map}
-use Rattle.std.specs.Prelude.{codes}
-use Rattle.std.specs.List.{flat_map, enumerate_from}
-use Rattle.aiger_write.specs.Text.{symbol_line}
-use Rattle.netlist.specs.declared.parts.Latch.{Latch}
-use Rattle.cyc_io.specs.Taken.{IsAppendedWhole, sink_call}
+use Rattle.aiger_write.proofs.Common.{codes, flat_map, enumerate_from, symbol_line, Latch, IsAppendedWhole, sink_call}
 use Rattle.aiger_write.proofs.symbols.put_latch_names.Given as goal
 
 abbrev pub invariant-loop-place : goal.invariant-loop-place

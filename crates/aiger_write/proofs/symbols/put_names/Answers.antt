@@ -1,4 +1,4 @@
-use Rattle.cyc_io.proofs.TakenLemmas.{appended_then, appended_cut}
+use Rattle.aiger_write.proofs.Common.{appended_then, appended_cut}
 use Rattle.aiger_write.proofs.symbols.put_names.Goals as goal
 
 pub returns-in_err-put_input_names : goal.returns-in_err-put_input_names

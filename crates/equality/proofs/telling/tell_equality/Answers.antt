@@ -1,6 +1,5 @@
 use Rattle.std.proofs.Common.{subst}
-use Rattle.equal.specs.declared.answer.Answer.{Answer}
-use Rattle.equal.specs.Rebound.{rebound}
+use Rattle.equality.proofs.Common.{Answer, rebound}
 use Rattle.equality.specs.Told.{IsToldOf}
 use Rattle.equality.proofs.FitLemmas.{answers_fit}
 use Rattle.equality.proofs.ShownLemmas.{found_shows_itself}

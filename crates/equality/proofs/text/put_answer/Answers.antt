@@ -1,11 +1,6 @@
 use Rattle.std.proofs.Common.{◌≡◌, ◌∙◌, ℕ, List, [], get_or, sym, ap, subst}
-use Rattle.std.proofs.lemmas.List.{get_or-map}
+use Rattle.equality.proofs.Common.{get_or-map, Sig, Parts, signal_names, name_of, latch_name, IsAnswerOf}
 use Rattle.std.proofs.lemmas.Option.{get_or_from_slice_get}
-use Rattle.cyc_base.specs.declared.sig.Sig.{Sig}
-use Rattle.netlist.specs.declared.parts.Parts.{Parts}
-use Rattle.netlist.specs.Netlists.{signal_names}
-use Rattle.equal.specs.Matching.{name_of, latch_name}
-use Rattle.equality.specs.Answers.{IsAnswerOf}
 use Rattle.equality.specs.Texts.{output_at, latch_at}
 use Rattle.equality.proofs.text.put_answer.Goals as goal
 

@@ -1,4 +1,4 @@
-use Rattle.cyc_io.proofs.TakenLemmas.{appended_then, appended_cut}
+use Rattle.report.proofs.Common.{appended_then, appended_cut}
 use Rattle.report.proofs.explain_text.put_explained.Goals as goal
 
 pub returns-in_err-put_refusal : goal.returns-in_err-put_refusal

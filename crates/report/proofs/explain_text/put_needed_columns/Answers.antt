@@ -1,10 +1,7 @@
 use Rattle.std.proofs.Common.{length, arith}
-use Rattle.std.specs.List.{range_with_len}
+use Rattle.report.proofs.Common.{range_with_len, needed_column, appended_none, appended_item, appended_in_item, appended_items}
 use Rattle.std.proofs.lemmas.List.FromFn.{length-range_with_len}
 use Rattle.cyc_base.proofs.ListLemmas.{at_range}
-use Rattle.report.specs.Explanations.{needed_column}
-use Rattle.cyc_io.proofs.TakenLemmas.{appended_none}
-use Rattle.cyc_io.proofs.ItemLemmas.{appended_item, appended_in_item, appended_items}
 use Rattle.report.proofs.explain_text.put_needed_columns.Goals as goal
 
 pub loop-column-init : goal.loop-column-init

@@ -1,7 +1,5 @@
 use Rattle.std.proofs.Common.{take, length}
-use Rattle.std.specs.List.{flat_map, range_with_len}
-use Rattle.cyc_io.specs.Taken.{IsAppendedWhole, sink_call}
-use Rattle.report.specs.Explanations.{needed_column}
+use Rattle.report.proofs.Common.{flat_map, range_with_len, IsAppendedWhole, sink_call, needed_column}
 use Rattle.report.proofs.explain_text.put_needed_columns.Given as goal
 
 abbrev pub invariant-loop-column : goal.invariant-loop-column

@@ -1,4 +1,4 @@
-use Rattle.cyc_io.proofs.TakenLemmas.{appended_then, appended_cut}
+use Rattle.report.proofs.Common.{appended_then, appended_cut}
 use Rattle.report.proofs.help.put_help.Goals as goal
 
 pub returns-in_err-write_whole : goal.returns-in_err-write_whole

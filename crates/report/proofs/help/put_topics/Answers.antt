@@ -1,7 +1,5 @@
 use Rattle.std.proofs.Common.{arith}
-use Rattle.report.specs.Help.{topic_text}
-use Rattle.cyc_io.proofs.TakenLemmas.{appended_none}
-use Rattle.cyc_io.proofs.ItemLemmas.{appended_copied, appended_in_copied, appended_items}
+use Rattle.report.proofs.Common.{topic_text, appended_none, appended_copied, appended_in_copied, appended_items}
 use Rattle.report.proofs.help.put_topics.Goals as goal
 
 pub loop-topic-init : goal.loop-topic-init

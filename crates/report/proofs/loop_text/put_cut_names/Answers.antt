@@ -1,11 +1,7 @@
 use Rattle.std.proofs.Common.{arith}
 use Rattle.std.proofs.Common.{[]}
-use Rattle.std.specs.Prelude.{if◌then◌else◌}
-use Rattle.loops.specs.Found.{loops_of}
-use Rattle.report.specs.LoopTexts.{gate_name}
+use Rattle.report.proofs.Common.{if◌then◌else◌, loops_of, gate_name, appended_none, appended_equal, appended_copied, appended_in_copied, appended_items}
 use Rattle.report.proofs.LoopTextLemmas.{kept_texts}
-use Rattle.cyc_io.proofs.TakenLemmas.{appended_none, appended_equal}
-use Rattle.cyc_io.proofs.ItemLemmas.{appended_copied, appended_in_copied, appended_items}
 use Rattle.report.proofs.loop_text.put_cut_names.Goals as goal
 
 pub loop-gate-init : goal.loop-gate-init

@@ -1,10 +1,6 @@
 use Rattle.std.proofs.Common.{take}
-use Rattle.std.specs.List.{flat_map}
+use Rattle.report.proofs.Common.{flat_map, if◌then◌else◌, loops_of, gate_name, IsAppendedWhole, sink_call}
 use Rattle.std.proofs.Common.{[]}
-use Rattle.std.specs.Prelude.{if◌then◌else◌}
-use Rattle.loops.specs.Found.{loops_of}
-use Rattle.report.specs.LoopTexts.{gate_name}
-use Rattle.cyc_io.specs.Taken.{IsAppendedWhole, sink_call}
 use Rattle.report.proofs.loop_text.put_cut_names.Given as goal
 
 abbrev pub invariant-loop-gate : goal.invariant-loop-gate

@@ -1,8 +1,5 @@
 use Rattle.std.proofs.Common.{ap, ◌∙◌}
-use Rattle.cyc_io.proofs.TakenLemmas.{appended_none}
-use Rattle.loops.proofs.ListLemmas.{comes_at}
-use Rattle.loops.specs.Left.{loops_left}
-use Rattle.report.specs.LoopTexts.{loop_lines}
+use Rattle.report.proofs.Common.{appended_none, comes_at, loops_left, loop_lines}
 use Rattle.report.proofs.LoopTextLemmas.{told_all, told_cut, told_more}
 use Rattle.report.proofs.loop_text.put_each_loop.Goals as goal
 

@@ -1,6 +1,5 @@
 use Rattle.std.proofs.Common.{length}
-use Rattle.cyc_io.specs.Taken.{IsAppendedWhole, sink_call}
-use Rattle.report.specs.LoopTexts.{loop_lines}
+use Rattle.report.proofs.Common.{IsAppendedWhole, sink_call, loop_lines}
 use Rattle.report.proofs.LoopTextLemmas.{told_first}
 use Rattle.report.proofs.loop_text.put_each_loop.Given as goal
 

@@ -1,7 +1,5 @@
 use Rattle.std.proofs.Common.{arith}
-use Rattle.report.specs.LoopTexts.{gate_name}
-use Rattle.cyc_io.proofs.TakenLemmas.{appended_none}
-use Rattle.cyc_io.proofs.ItemLemmas.{appended_copied, appended_in_copied, appended_items}
+use Rattle.report.proofs.Common.{gate_name, appended_none, appended_copied, appended_in_copied, appended_items}
 use Rattle.report.proofs.loop_text.put_gate_names.Goals as goal
 
 pub loop-gate-init : goal.loop-gate-init

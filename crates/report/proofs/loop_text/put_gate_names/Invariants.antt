@@ -1,7 +1,5 @@
 use Rattle.std.proofs.Common.{take}
-use Rattle.std.specs.List.{flat_map}
-use Rattle.report.specs.LoopTexts.{gate_name}
-use Rattle.cyc_io.specs.Taken.{IsAppendedWhole, sink_call}
+use Rattle.report.proofs.Common.{flat_map, gate_name, IsAppendedWhole, sink_call}
 use Rattle.report.proofs.loop_text.put_gate_names.Given as goal
 
 abbrev pub invariant-loop-gate : goal.invariant-loop-gate

@@ -1,10 +1,7 @@
 use Rattle.std.proofs.Common.{sym, ap}
 use Rattle.std.specs.Prelude.{codes}
-use Rattle.cyc_io.proofs.TakenLemmas.{appended_cut, appended_equal, appended_then}
+use Rattle.report.proofs.Common.{appended_cut, appended_equal, appended_then, loop_seen, Parts, loop_line}
 use Rattle.loops.proofs.ListedLemmas.{loop_gates_inside}
-use Rattle.loops.specs.Left.{loop_seen}
-use Rattle.netlist.specs.declared.parts.Parts.{Parts}
-use Rattle.report.specs.LoopTexts.{loop_line}
 use Rattle.report.proofs.LoopTextLemmas.{lines_are}
 use Rattle.report.proofs.loop_text.put_loop.Goals as goal
 

@@ -1,7 +1,5 @@
 use Rattle.std.proofs.Common.{arith}
-use Rattle.report.specs.Ticks.{trit_text}
-use Rattle.cyc_io.proofs.TakenLemmas.{appended_none}
-use Rattle.cyc_io.proofs.ItemLemmas.{appended_copied, appended_in_copied, appended_items}
+use Rattle.report.proofs.Common.{trit_text, appended_none, appended_copied, appended_in_copied, appended_items}
 use Rattle.report.proofs.tick.put_trits.Goals as goal
 
 pub loop-t-init : goal.loop-t-init

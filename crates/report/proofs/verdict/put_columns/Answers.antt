@@ -1,5 +1,5 @@
 use Rattle.std.proofs.Common.{arith}
-use Rattle.cyc_io.proofs.TakenLemmas.{appended_none}
+use Rattle.report.proofs.Common.{appended_none}
 use Rattle.report.proofs.ColumnLemmas.{columns_more, columns_cut, columns_whole}
 use Rattle.report.proofs.verdict.put_columns.Goals as goal
 

@@ -1,7 +1,5 @@
 use Rattle.std.proofs.Common.{take}
-use Rattle.std.specs.List.{flat_map}
-use Rattle.cyc_io.specs.Taken.{IsAppendedWhole, sink_call}
-use Rattle.report.specs.Verdicts.{column_text}
+use Rattle.report.proofs.Common.{flat_map, IsAppendedWhole, sink_call, column_text}
 use Rattle.report.proofs.ColumnLemmas.{columns_of}
 use Rattle.report.proofs.verdict.put_columns.Given as goal
 

@@ -1,6 +1,5 @@
 use Rattle.std.proofs.Common.{[]}
-use Rattle.std.proofs.lemmas.Option.{get_or_from_slice_get}
-use Rattle.netlist.specs.Netlists.{signal_names}
+use Rattle.report.proofs.Common.{get_or_from_slice_get, signal_names}
 use Rattle.report.proofs.verdict.put_refusal.Goals as goal
 
 pub returns-in-EmptyCare : goal.returns-in-EmptyCare

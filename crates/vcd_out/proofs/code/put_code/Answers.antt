@@ -1,6 +1,5 @@
 use Rattle.std.proofs.Common.{◌+◌, ◌-◌, ◌/◌, ◌%◌, ◌++◌, ◌∷◌, [], ℕ, List, ap, sym, ◌∙◌}
-use Rattle.std.proofs.lemmas.List.{append_assoc}
-use Rattle.vcd_out.specs.Codes.{code}
+use Rattle.vcd_out.proofs.Common.{append_assoc, code}
 use Rattle.vcd_out.proofs.CodeLemmas.{code_step}
 use Rattle.vcd_out.proofs.code.put_code.Goals as goal
 

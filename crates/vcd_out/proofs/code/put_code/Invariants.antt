@@ -1,5 +1,5 @@
 use Rattle.std.proofs.Common.{◌≡◌, ◌++◌}
-use Rattle.vcd_out.specs.Codes.{code}
+use Rattle.vcd_out.proofs.Common.{code}
 use Rattle.vcd_out.proofs.code.put_code.Given as goal
 
 abbrev pub invariant-loop-n : goal.invariant-loop-n

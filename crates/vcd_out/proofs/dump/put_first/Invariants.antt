@@ -1,6 +1,5 @@
 use Rattle.std.proofs.Common.{◌≡◌, ◌++◌, drop}
-use Rattle.std.specs.List.{flat_map}
-use Rattle.vcd_out.specs.Dumps.{value_line, first_changes}
+use Rattle.vcd_out.proofs.Common.{flat_map, value_line, first_changes}
 use Rattle.vcd_out.proofs.dump.put_first.Given as goal
 
 abbrev pub invariant-loop-change : goal.invariant-loop-change

@@ -1,8 +1,5 @@
 use Rattle.std.proofs.Common.{◌++◌, ℕ, List, codes, ap, ◌∙◌}
-use Rattle.std.specs.List.{flat_map, range_with_len}
-use Rattle.std.proofs.lemmas.Result.{IfOk-equal}
-use Rattle.netlist.specs.Netlists.{count}
-use Rattle.vcd_out.specs.Dumps.{variable_line, head_text}
+use Rattle.vcd_out.proofs.Common.{flat_map, range_with_len, IfOk-equal, count, variable_line, head_text}
 use Rattle.vcd_out.proofs.PieceLemmas.{five_pieces}
 use Rattle.vcd_out.proofs.dump.put_head.Goals as goal
 

@@ -1,5 +1,5 @@
 use Rattle.std.proofs.Common.{◌≡◌, ◌++◌, drop}
-use Rattle.vcd_out.specs.Dumps.{timed_lines, later_changes}
+use Rattle.vcd_out.proofs.Common.{timed_lines, later_changes}
 use Rattle.vcd_out.proofs.dump.put_later.Given as goal
 
 abbrev pub invariant-loop-change : goal.invariant-loop-change

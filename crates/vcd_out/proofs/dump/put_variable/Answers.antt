@@ -1,9 +1,5 @@
 use Rattle.std.proofs.Common.{◌++◌, codes}
-use Rattle.std.proofs.lemmas.Result.{IfOk-equal}
-use Rattle.netlist.specs.Netlists.{signal}
-use Rattle.probes.specs.Texts.{signal_name}
-use Rattle.vcd_out.specs.Codes.{code}
-use Rattle.vcd_out.specs.Dumps.{variable_line}
+use Rattle.vcd_out.proofs.Common.{IfOk-equal, signal, signal_name, code, variable_line}
 use Rattle.vcd_out.proofs.PieceLemmas.{five_pieces}
 use Rattle.vcd_out.proofs.dump.put_variable.Goals as goal
 

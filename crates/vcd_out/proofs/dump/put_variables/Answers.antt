@@ -1,8 +1,6 @@
 use Rattle.std.proofs.Common.{◌++◌, ℕ, List, ap, sym, ◌∙◌, arith}
-use Rattle.std.specs.List.{flat_map, range_with_len}
-use Rattle.std.proofs.lemmas.List.{append_assoc}
+use Rattle.vcd_out.proofs.Common.{flat_map, range_with_len, append_assoc, variable_line}
 use Rattle.probes.proofs.TextLemmas.{lines_more}
-use Rattle.vcd_out.specs.Dumps.{variable_line}
 use Rattle.vcd_out.proofs.dump.put_variables.Goals as goal
 
 pub loop-number-preserved : goal.loop-number-preserved

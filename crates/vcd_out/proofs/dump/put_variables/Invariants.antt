@@ -1,6 +1,5 @@
 use Rattle.std.proofs.Common.{◌≡◌, ◌++◌}
-use Rattle.std.specs.List.{flat_map, range_with_len}
-use Rattle.vcd_out.specs.Dumps.{variable_line}
+use Rattle.vcd_out.proofs.Common.{flat_map, range_with_len, variable_line}
 use Rattle.vcd_out.proofs.dump.put_variables.Given as goal
 
 abbrev pub invariant-loop-number : goal.invariant-loop-number

@@ -1,0 +1,34 @@
+-- The names that most proofs of this crate cite, passed on from one place. Declares nothing.
+pub use Rattle.accepted_loops.specs.Columns.{AreColumnsRead, IsAmong, IsReadBelow, columns_read, is_read, is_upstream, marked_columns}
+pub use Rattle.accepted_loops.specs.Graphs.{told_cluster}
+pub use Rattle.accepted_loops.specs.Lines.{column_name, columns_line, sweeps_line, told_lines}
+pub use Rattle.care_sets.specs.Care.{CareSet}
+pub use Rattle.cyc_io.proofs.TakenLemmas.{appended_cut, appended_equal, appended_then}
+pub use Rattle.cyc_io.specs.Text.{text_bytes}
+pub use Rattle.dot_text.specs.LoopGraphs.{labelled_cluster}
+pub use Rattle.isolation.specs.Cones.{AddMarks, is_marked}
+pub use Rattle.loops.proofs.ListLemmas.{all_came, comes_at}
+pub use Rattle.loops.specs.Blocks.{AreBlocksOf}
+pub use Rattle.loops.specs.Cuts.{IsCutOf}
+pub use Rattle.loops.specs.Found.{loops_of}
+pub use Rattle.loops.specs.Left.{loops_left}
+pub use Rattle.loops.specs.Listed.{begins_with, gate_numbers, loop_of}
+pub use Rattle.loops.specs.Looped.{IsLooped}
+pub use Rattle.loops.specs.Sweeps.{first_gate}
+pub use Rattle.loops.specs.declared.structure.Blocks.{Blocks}
+pub use Rattle.loops.specs.declared.structure.Cut.{Cut}
+pub use Rattle.loops.specs.declared.structure.SweepCounts.{SweepCounts}
+pub use Rattle.netlist.specs.Netlists.{gate_at}
+pub use Rattle.netlist.specs.declared.parts.Parts.{Parts}
+pub use Rattle.refusals.proofs.ObservedLemmas.{among, member}
+pub use Rattle.report.proofs.LoopTextLemmas.{told_first}
+pub use Rattle.report.specs.LoopTexts.{loop_lines}
+pub use Rattle.rewriting.proofs.RewrittenLemmas.{counts_are_needed}
+pub use Rattle.rewriting.specs.Rewriting.{sweeps_needed}
+pub use Rattle.std.proofs.lemmas.Bool.{and_from, and_parts, eqb-true}
+pub use Rattle.std.proofs.lemmas.List.FromFn.{length-range_with_len}
+pub use Rattle.std.proofs.lemmas.Result.{IfOk-weaker}
+pub use Rattle.std.specs.List.{range_with_len}
+pub use Rattle.std.specs.Prelude.{if◌then◌else◌}
+pub use Rattle.unroll.specs.Unrolled.{sweeps_of}
+pub use Rattle.verdict.specs.Verdicts.{AreSweepsOnCare}
