@@ -9,28 +9,21 @@ use Rattle.delay_core.specs.Changes.{logged}
 use Rattle.delay_core.specs.Plays.{opening_change}
 
 pub logged_none : (log : Option (List Change)) → logged log [] ≡ log
-logged_none None = refl
-logged_none (Some had) = ap (λ (cs : List Change). Some cs) (append-nil had)
+logged_none log = grind (arith, append-nil)
 
 logged_both : (log : Option (List Change)) (first second : List Change) → logged (logged log first) second ≡ logged log (first ++ second)
-logged_both None first second = refl
-logged_both (Some had) first second = ap (λ (cs : List Change). Some cs) (append_assoc had first second)
+logged_both log first second = grind (arith, append_assoc)
 
 -- all changes are those that a log has and those that are left, also after some of these
 module _ (start log next : Option (List Change)) (all left piece rest : List Change) where
   pub logged_more : left ≡ piece ++ rest → next ≡ logged log piece → logged start all ≡ logged log left → logged start all ≡ logged next rest
-  logged_more is kept before =
-      before
-      ∙ ap (logged log) is
-      ∙ sym (logged_both log piece rest)
-      ∙ ap (λ (l : Option (List Change)). logged l rest) (sym kept)
+  logged_more is kept before = grind (arith, logged_both log piece rest)
 
 pub logged_all : (start log : Option (List Change)) (all left : List Change) → left ≡ [] → logged start all ≡ logged log left → log ≡ logged start all
 logged_all start log all left none before = sym (before ∙ ap (logged log) none ∙ logged_none log)
 
 pub option_first : (change : Option Change) (rest : List Change) → cons_option change rest ≡ cons_option change [] ++ rest
-option_first None rest = refl
-option_first (Some change) rest = refl
+option_first change rest = grind arith
 
 -- the signals from one on
 pub openings_left : (play : PlayState) (count n : ℕ) → n < count →
@@ -43,5 +36,4 @@ openings_left play count n short =
     ∙ option_first (opening_change play (signal n)) _
 
 pub openings_done : (play : PlayState) (count n : ℕ) → count ≤ n → filter_map (λ m. opening_change play (signal m)) (drop n (range_with_len 0 count)) ≡ []
-openings_done play count n far =
-    ap (filter_map (λ m. opening_change play (signal m))) (drop_all n (range_with_len 0 count) (omega (arith, length-range_with_len 0 count)))
+openings_done play count n far = grind (arith, drop_all n (range_with_len 0 count), length-range_with_len 0 count)

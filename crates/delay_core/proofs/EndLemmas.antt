@@ -29,31 +29,19 @@ pub record SameVector (net : Parts) (before now : History) : Type 0 where
 events_same : (net : Parts) (history : History) (events : List Event) → SameVector net history (after_events net history events)
 events_same net history [] = record { given = refl; width = refl }
 events_same net history (event ∷ events) =
-    let rest = events_same net (next_moment net history event ∷ history) events in
-    record {
-      given = rest.given ∙ set_keeps net (newest history) event.gate (event_value net history event);
-      width = rest.width ∙ length-set (newest history) (gate_sig net event.gate).0 (event_value net history event);
-    }
+    grind (arith, events_same net (next_moment net history event ∷ history) events, set_keeps net (newest history) event.gate (event_value net history event), length-set (newest history) (gate_sig net event.gate).0 (event_value net history event))
 
 pub rounds_same : (net : Parts) (history : History) (rounds : List Round) → SameVector net history (after_rounds net history rounds)
 rounds_same net history [] = record { given = refl; width = refl }
-rounds_same net history (round ∷ rounds) =
-    let first = events_same net history round in
-    let rest = rounds_same net (after_events net history round) rounds in
-    record { given = rest.given ∙ first.given; width = rest.width ∙ first.width }
+rounds_same net history (round ∷ rounds) = grind (arith, events_same net history round, rounds_same net (after_events net history round) rounds)
 
 -- ---- standing at the fixpoint
 
 known_bit : (x : Trit) (b : Bool) → agrees x b ≡ true → x ≡ bit b
-known_bit Zero true e = cc
-known_bit Zero false e = refl
-known_bit One true e = refl
-known_bit One false e = cc
-known_bit X b e = cc
+known_bit x b e = grind arith
 
 bit_agrees : (b : Bool) → agrees (bit b) b ≡ true
-bit_agrees true = refl
-bit_agrees false = refl
+bit_agrees b = grind arith
 
 module _ (net : Parts) (moment : Moment) (full : length moment ≡ count net) where
   abbrev v : List Bool
@@ -76,11 +64,7 @@ module _ (net : Parts) (moment : Moment) (full : length moment ≡ count net) wh
 
   -- a gate is compared by its place among the gates
   agrees_at : (n : ℕ) → gate_agrees net moment n ≡ agrees (get_or fixed n X) (get_or stands n false)
-  agrees_at n =
-      let width : length (bits v) ≡ columns net = length-map v bit ∙ given_width in
-      ap₂ agrees
-      (rw width at (get_or-append-add (bits v) fixed n X))
-      (sym (get_or-drop (columns net) moment n false))
+  agrees_at n = grind (arith, length-map v bit, given_width, get_or-append-add (bits v) fixed n X, get_or-drop (columns net) moment n false)
 
   all_agree : stands_at_fix net moment ≡ true → bits stands ≡ fixed
   all_agree e =
@@ -153,12 +137,9 @@ HasInputs net tick = length tick.inputs ≡ length net.inputs
 pub ticks_told : (net : Parts) (h : History) (q s : List Bool) (ticks : List Tick) → Fits net q s → All (HasInputs net) ticks → All (SettledIsTold net) (play net h q s ticks)
 ticks_told net h q s [] fits inputs = All-nil (SettledIsTold net)
 ticks_told net h q s (tick ∷ ticks) fits inputs =
-    let here = All-head (HasInputs net) tick ticks inputs in
     let start : Played = played net h q s tick in
     let rest : List Played = play net start.ended (loaded_at net (newest start.ended)) (gates_at net (newest start.ended)) ticks in
-    All-cons (SettledIsTold net) start rest (tick_told net h q s tick fits here)
-    (ticks_told net start.ended (loaded_at net (newest start.ended)) (gates_at net (newest start.ended)) ticks
-    (fits_next net h q s tick fits here) (All-tail (HasInputs net) tick ticks inputs))
+    grind (arith, All-head (HasInputs net) tick ticks inputs, All-cons (SettledIsTold net) start rest, tick_told net h q s tick, ticks_told net start.ended (loaded_at net (newest start.ended)) (gates_at net (newest start.ended)) ticks, fits_next net h q s tick, All-tail (HasInputs net) tick ticks inputs)
 
 pub ticks_in_time : (net : Parts) (window : ℕ) (h : History) (q s : List Bool) (ticks : List Tick) → Fits net q s → All (HasInputs net) ticks → All (IsPlayedFairly net window) (play net h q s ticks) → All (SettlesInTime net window) (play net h q s ticks)
 ticks_in_time net window h q s [] fits inputs fair = All-nil (SettlesInTime net window)

@@ -22,19 +22,7 @@ value-more : (entries rest : List Entry) (newest : List ℕ) (n f g i : ℕ) →
 value-more entries rest newest n zero g i linked m l a b = absurd (omega arith)
 value-more entries rest newest n (suc f) zero i linked m l a b = absurd (omega arith)
 value-more entries rest newest n (suc f) (suc g) i linked m l a b =
-    let same : entry_at (entries ++ rest) i ≡ entry_at entries i = get_or_append_left entries rest none i l in
-    elim (cases_lt n (entry_at entries i).moment) [
-      | inl later ↦
-          let back : (entry_at entries i).older < i = linked.older i l (omega arith) in
-          let later' : n < (entry_at (entries ++ rest) i).moment = rw same later in
-          value-older entries n f i later
-          ∙ value-more entries rest newest n f g (entry_at entries i).older linked m (omega arith) (omega arith) (omega arith)
-          ∙ ap (λ (e : Entry). value_by g (entries ++ rest) n e.older) (sym same)
-          ∙ sym (value-older (entries ++ rest) n g i later')
-      | inr here ↦
-          let here' : (entry_at (entries ++ rest) i).moment ≤ n = rw same here in
-          value-here entries n f i here ∙ ap (λ (e : Entry). e.value) (sym same) ∙ sym (value-here (entries ++ rest) n g i here')
-    ]
+    grind (arith, get_or_append_left entries rest none i l, cases_lt n (entry_at entries i).moment, value-older entries n f i, value-more entries rest newest n f g (entry_at entries i).older linked m, value-older (entries ++ rest) n g i, value-here entries n f i, value-here (entries ++ rest) n g i)
 
 -- one step back, as a loop takes it
 pub value_step : (entries : List Entry) (newest : List ℕ) (n i : ℕ) → AreLinked entries newest → 1 ≤ n → i < length entries → n < (entry_at entries i).moment → value_from entries n i ≡ value_from entries n (entry_at entries i).older
@@ -44,9 +32,7 @@ value_step entries newest n i linked m l later =
     ∙ same_by (entry_at entries i).older back
   where
     same_by : (j : ℕ) → j < i → value_by i entries n j ≡ value_by (suc j) entries n j
-    same_by j k =
-        value-more entries [] newest n i (suc j) j linked m (omega arith) k (omega arith)
-        ∙ ap (λ es. value_by (suc j) es n j) (append-nil entries)
+    same_by j k = grind (arith, value-more entries [] newest n i (suc j) j linked m, append-nil entries)
 
 -- functions that agree at all members have one image
 map-same : (f g : ℕ → Bool) (xs : List ℕ) → ((s : ℕ) → s < length xs → f (get_or xs s 0) ≡ g (get_or xs s 0)) → map f xs ≡ map g xs
@@ -67,16 +53,7 @@ module _ (entries : List Entry) (newest : List ℕ) (s m : ℕ) (value : Bool) (
   entry_is = get_or_push entries entry none (length entries) refl
 
   heads_moved : (k : ℕ) → k < length moved → get_or moved k 0 < length later
-  heads_moved k l =
-      let long : length later ≡ length entries + 1 = length_push entries entry in
-      let in_range : k < length newest = omega (arith, length-set newest s (length entries)) in
-      elim (cases_eq k s) [
-        | inl e ↦
-            let at : get_or moved k 0 ≡ length entries = rw e (get_or-set_same newest s (length entries) 0 signal) in omega arith
-        | inr ne ↦
-            let at : get_or moved k 0 ≡ get_or newest k 0 = get_or-set_other newest s k (length entries) 0 ne in
-            let old : get_or newest k 0 < length entries = linked.heads k in_range in omega arith
-      ]
+  heads_moved k l = grind (arith, length_push entries entry, length-set newest s (length entries), cases_eq k s, get_or-set_same newest s (length entries) 0 signal, get_or-set_other newest s k (length entries) 0)
 
   older_moved : (i : ℕ) → i < length later → 1 < (entry_at later i).moment → (entry_at later i).older < i
   older_moved i l first =
@@ -92,17 +69,7 @@ module _ (entries : List Entry) (newest : List ℕ) (s m : ℕ) (value : Bool) (
       ]
 
   dated_moved : (i : ℕ) → i < length later → (entry_at later i).moment ≤ m
-  dated_moved i l =
-      let long : length later ≡ length entries + 1 = length_push entries entry in
-      elim (cases_lt i (length entries)) [
-        | inl old ↦
-            let same : entry_at later i ≡ entry_at entries i = get_or_append_left entries (entry ∷ []) none i old in
-            rw same (dated i old)
-        | inr new ↦
-            let e : i ≡ length entries = omega arith in
-            let here : (entry_at later (length entries)).moment ≤ m = rw entry_is (omega arith) in
-            rw e here
-      ]
+  dated_moved i l = grind (arith, length_push entries entry, cases_lt i (length entries), get_or_append_left entries (entry ∷ []) none i, entry_is)
 
   -- other signals keep their values
   others : (n : ℕ) → 1 ≤ n → map (value_from later n) newest ≡ moment_of entries newest n
@@ -113,8 +80,7 @@ module _ (entries : List Entry) (newest : List ℕ) (s m : ℕ) (value : Bool) (
       sym (value-more entries (entry ∷ []) newest n (suc (get_or newest k 0)) (suc (get_or newest k 0)) (get_or newest k 0) linked l head (omega arith) (omega arith)))
 
   set_at_later : (n : ℕ) → 1 ≤ n → moment_of later moved n ≡ set (moment_of entries newest n) s (value_from later n (length entries))
-  set_at_later n l =
-      map-set (value_from later n) newest s (length entries) ∙ ap (λ bs. set bs s (value_from later n (length entries))) (others n l)
+  set_at_later n l = grind (arith, map-set (value_from later n) newest s (length entries), others n l)
 
   before_moved : (n : ℕ) → 1 ≤ n → n < m → moment_of later moved n ≡ moment_of entries newest n
   before_moved n l earlier =
@@ -131,9 +97,7 @@ module _ (entries : List Entry) (newest : List ℕ) (s m : ℕ) (value : Bool) (
   from_moved : (n : ℕ) → 1 ≤ n → m ≤ n → moment_of later moved n ≡ set (moment_of entries newest n) s value
   from_moved n l here =
       let is_here : (entry_at later (length entries)).moment ≤ n = rw entry_is here in
-      let now : value_from later n (length entries) ≡ value =
-      value-here later n (length entries) (length entries) is_here ∙ ap (λ (e : Entry). e.value) entry_is in
-      set_at_later n l ∙ ap (λ b. set (moment_of entries newest n) s b) now
+      grind (arith, value-here later n (length entries) (length entries) is_here, entry_is, set_at_later n l)
 
   long_later : length later ≡ length entries + 1
   long_later = length_push entries entry
@@ -148,14 +112,7 @@ module _ (entries : List Entry) (newest : List ℕ) (s m : ℕ) (value : Bool) (
   jump_is = let head = linked.heads s signal in let l = jumps.there in omega arith
 
   within_moved : (i : ℕ) → i < length later → (entry_at later i).jump ≤ i
-  within_moved i l =
-      elim (cases_lt i (length entries)) [
-        | inl old ↦ rw (old_at i old) (linked.within i old)
-        | inr new ↦
-            let e : i ≡ length entries = omega (arith, long_later) in
-            let here : (entry_at later (length entries)).jump ≤ length entries = rw entry_is (omega (arith, jump_is)) in
-            rw e here
-      ]
+  within_moved i l = grind (arith, cases_lt i (length entries), old_at i, long_later, entry_is, jump_is)
 
   back_moved : (i : ℕ) → i < length later → 1 < (entry_at later i).moment → (entry_at later i).jump < i
   back_moved i l first =
@@ -168,30 +125,16 @@ module _ (entries : List Entry) (newest : List ℕ) (s m : ℕ) (value : Bool) (
       ]
 
   earlier_moved : (i : ℕ) → i < length later → (entry_at later (entry_at later i).jump).moment ≤ (entry_at later i).moment
-  earlier_moved i l =
-      elim (cases_lt i (length entries)) [
-        | inl old ↦
-            let near = linked.within i old in
-            rw (old_at i old, old_at (entry_at entries i).jump (omega arith)) (linked.earlier i old)
-        | inr new ↦
-            let e : i ≡ length entries = omega (arith, long_later) in
-            let here : (entry_at later jump).moment ≤ m = rw (old_at jump jump_is) (dated jump jump_is) in
-            rw (e, entry_is) here
-      ]
+  earlier_moved i l = grind (arith, cases_lt i (length entries), old_at i, old_at (entry_at entries i).jump, long_later, old_at jump jump_is, jump_is, entry_is)
 
   new_value : (n : ℕ) → 1 ≤ n → n < m → value_from later n (length entries) ≡ value_from entries n (get_or newest s 0)
   new_value n some earlier =
       let head : get_or newest s 0 < length entries = linked.heads s signal in
       let is_later : n < (entry_at later (length entries)).moment = rw entry_is earlier in
-      value-older later n (length entries) (length entries) is_later
-      ∙ ap (λ (e : Entry). value_by (length entries) later n e.older) entry_is
-      ∙ sym (value-more entries (entry ∷ []) newest n (suc (get_or newest s 0)) (length entries) (get_or newest s 0) linked some head (omega arith) head)
+      grind (arith, value-older later n (length entries) (length entries) is_later, entry_is, value-more entries (entry ∷ []) newest n (suc (get_or newest s 0)) (length entries) (get_or newest s 0) linked some head)
 
   skips_new : (n : ℕ) → 1 ≤ n → n < (entry_at later jump).moment → value_from later n jump ≡ value_from later n (length entries)
-  skips_new n some before =
-      let is : n < (entry_at entries jump).moment = rw (old_at jump jump_is) at before in
-      let most : (entry_at entries jump).moment ≤ m = dated jump jump_is in
-      old_value n jump some jump_is ∙ jumps.skips n some is ∙ sym (new_value n some (omega arith))
+  skips_new n some before = grind (arith, old_at jump jump_is, jump_is, old_value n jump some jump_is, new_value n some)
 
   skips_moved : (i n : ℕ) → i < length later → 1 ≤ n → n < (entry_at later (entry_at later i).jump).moment → value_from later n (entry_at later i).jump ≡ value_from later n i
   skips_moved i n l some before =
@@ -210,39 +153,15 @@ module _ (entries : List Entry) (newest : List ℕ) (s m : ℕ) (value : Bool) (
       ]
 
   pub writes : Writes m s value entries later newest moved
-  writes =
-      record {
-        linked = record { heads = heads_moved; older = older_moved; within = within_moved; back = back_moved; earlier = earlier_moved; skips = skips_moved };
-        dated = dated_moved;
-        width = length-set newest s (length entries);
-        before = before_moved;
-        from = from_moved;
-      }
+  writes = grind (arith, heads_moved, older_moved, within_moved, back_moved, earlier_moved, skips_moved, dated_moved, length-set newest s (length entries), before_moved, from_moved)
 
 -- where no entry comes after the moment m, all later moments are as that one
 pub moment-later : (entries : List Entry) (newest : List ℕ) (m n : ℕ) → AreLinked entries newest → AreDated entries m → m ≤ n → moment_of entries newest n ≡ moment_of entries newest m
-moment-later entries newest m n linked dated l =
-    map-same (value_from entries n) (value_from entries m) newest
-    (λ k k_in.
-    let head : ℕ = get_or newest k 0 in
-    let in_range : head < length entries = linked.heads k k_in in
-    let early : (entry_at entries head).moment ≤ m = dated head in_range in
-    value-here entries n head head (omega arith) ∙ sym (value-here entries m head head early))
+moment-later entries newest m n linked dated l = grind (arith, map-same (value_from entries n) (value_from entries m) newest, value-here entries n, value-here entries m)
 
 -- a signal that has the value already needs no entry
 pub writes_same : (entries : List Entry) (newest : List ℕ) (s m : ℕ) (value : Bool) → AreLinked entries newest → AreDated entries m → 1 ≤ m → s < length newest → value_from entries m (get_or newest s 0) ≡ value → Writes m s value entries entries newest newest
-writes_same entries newest s m value linked dated first signal e =
-    record {
-      linked = linked;
-      dated = dated;
-      width = refl;
-      before = λ n l k. refl;
-      from = λ n l k.
-          let here : get_or (moment_of entries newest n) s false ≡ value =
-          ap (λ bs. get_or bs s false) (moment-later entries newest m n linked dated k)
-          ∙ get_or-map (value_from entries m) newest s 0 false signal ∙ e in
-          sym (ap (λ b. set (moment_of entries newest n) s b) (sym here) ∙ set-get_or (moment_of entries newest n) s false);
-    }
+writes_same entries newest s m value linked dated first signal e = grind (arith, moment-later entries newest m, get_or-map (value_from entries m) newest s 0 false signal, set-get_or)
 
 -- the first k signals have these values from the moment m on; before it all is as it was
 pub record WritesFront (m k : ℕ) (values : List Bool) (entries later : List Entry) (newest moved : List ℕ) : Type 0 where
@@ -255,48 +174,18 @@ pub record WritesFront (m k : ℕ) (values : List Bool) (entries later : List En
 
 front-at : (m k : ℕ) (values : List Bool) (entries later last : List Entry) (newest moved final : List ℕ) → 1 ≤ m → k < length newest → WritesFront m k values entries later newest moved → Writes m k (get_or values k false) later last moved final → (i : ℕ) → i < k + 1 → get_or (moment_of last final m) i false ≡ get_or values i false
 front-at m k values entries later last newest moved final first l before more i il =
-    let now : moment_of last final m ≡ set (moment_of later moved m) k (get_or values k false) = more.from m first (omega arith) in
-    let size : k < length (moment_of later moved m) = omega (arith, length-map moved (value_from later m), before.width) in
-    elim (cases_eq i k) [
-      | inl e ↦
-          rw e
-          (ap (λ bs. get_or bs k false) now ∙ get_or-set_same (moment_of later moved m) k (get_or values k false) false size)
-      | inr ne ↦
-          ap (λ bs. get_or bs i false) now
-          ∙ get_or-set_other (moment_of later moved m) k i (get_or values k false) false ne
-          ∙ before.front i (omega arith)
-    ]
+    grind (arith, length-map moved (value_from later m), cases_eq i k, get_or-set_same (moment_of later moved m) k (get_or values k false) false, get_or-set_other (moment_of later moved m) k i (get_or values k false) false)
 
 rest-at : (m k : ℕ) (values : List Bool) (entries later last : List Entry) (newest moved final : List ℕ) → 1 ≤ m → WritesFront m k values entries later newest moved → Writes m k (get_or values k false) later last moved final → (i : ℕ) → k + 1 ≤ i → get_or (moment_of last final m) i false ≡ get_or (moment_of entries newest m) i false
-rest-at m k values entries later last newest moved final first before more i il =
-    let now : moment_of last final m ≡ set (moment_of later moved m) k (get_or values k false) = more.from m first (omega arith) in
-    ap (λ bs. get_or bs i false) now
-    ∙ get_or-set_other (moment_of later moved m) k i (get_or values k false) false (λ e. absurd (omega arith))
-    ∙ before.rest i (omega arith)
+rest-at m k values entries later last newest moved final first before more i il = grind (arith, get_or-set_other (moment_of later moved m) k i (get_or values k false) false)
 
 pub front-more : (m k : ℕ) (values : List Bool) (entries later last : List Entry) (newest moved final : List ℕ) → 1 ≤ m → k < length newest → WritesFront m k values entries later newest moved → Writes m k (get_or values k false) later last moved final → WritesFront m (k + 1) values entries last newest final
-front-more m k values entries later last newest moved final first l before more =
-    record {
-      linked = more.linked;
-      dated = more.dated;
-      width = more.width ∙ before.width;
-      before = λ n a b. more.before n a b ∙ before.before n a b;
-      front = front-at m k values entries later last newest moved final first l before more;
-      rest = rest-at m k values entries later last newest moved final first before more;
-    }
+front-more m k values entries later last newest moved final first l before more = grind (arith, front-at m k values entries later last newest moved final first l before more, rest-at m k values entries later last newest moved final first before more)
 
 -- what stands in a list whose first values are replaced
 replaced-at : (values old : List Bool) (i : ℕ) (b : Bool) → (i < length values → b ≡ get_or values i false) → (length values ≤ i → b ≡ get_or old i false) → b ≡ get_or (values ++ drop (length values) old) i false
 replaced-at values old i b front rest =
-    elim (cases_lt i (length values)) [
-      | inl l ↦ front l ∙ sym (get_or_append_left values (drop (length values) old) false i l)
-      | inr l ↦
-          let e : length values + (i - length values) ≡ i = omega arith in
-          rest l
-          ∙ ap (λ k. get_or old k false) (sym e)
-          ∙ sym (get_or-drop (length values) old (i - length values) false)
-          ∙ sym (get_or-append_right values (drop (length values) old) (length values) i false refl l)
-    ]
+    grind (arith, cases_lt i (length values), get_or_append_left values (drop (length values) old) false i, get_or-drop (length values) old (i - length values) false, get_or-append_right values (drop (length values) old) (length values) i false)
 
 pub front-all : (m : ℕ) (values : List Bool) (entries later : List Entry) (newest moved : List ℕ) → length values ≤ length newest → WritesFront m (length values) values entries later newest moved → WritesMoment m values entries later newest moved
 front-all m values entries later newest moved size all =

@@ -33,10 +33,7 @@ module _ (heads : List Head) (ages : List ℕ) (i : ℕ) (head : Head) (short : 
   gate_is = ap (λ (h : Head). h.gate) head_is ∙ sym (ap (λ (p : PlannedEvent). p.event.gate) (packed_at heads ages i short))
 
   pub ages_is : (from : ℕ) → from ≡ begin_of heads i → slice_range ages from head.end ≡ (planned_at (packed_events heads ages) i).event.ages
-  ages_is from begins =
-      ap (λ n. slice_range ages n head.end) begins
-      ∙ ap (λ (h : Head). slice_range ages (begin_of heads i) h.end) head_is
-      ∙ sym (ap (λ (p : PlannedEvent). p.event.ages) (packed_at heads ages i short))
+  ages_is from begins = grind (arith, head_is, packed_at heads ages i short)
 
   pub rises_here : (from : ℕ) → ArePacked heads ages → from ≡ begin_of heads i → from ≤ head.end
   rises_here from are begins = let low = are.rises i short in omega (arith, low, begins, ap (λ (h : Head). h.end) head_is)
@@ -45,10 +42,7 @@ module _ (heads : List Head) (ages : List ℕ) (i : ℕ) (head : Head) (short : 
   within_here are = let high = are.within i short in omega (arith, high, ap (λ (h : Head). h.end) head_is)
 
 begin_later : (heads : List Head) (i : ℕ) → begin_of heads (suc i) ≡ (head_at heads i).end
-begin_later heads i =
-    let differs : suc i ≢ 0 = omega arith in
-    let e : suc i - 1 ≡ i = omega arith in
-    ap (λ (t : Bool). if t then 0 else (head_at heads (suc i - 1)).end) (ne_eqb (suc i) 0 differs) ∙ ap (λ j. (head_at heads j).end) e
+begin_later heads i = grind arith
 
 -- the events at the first places, by a function that is the same there
 same_map : (f g : ℕ → PlannedEvent) (n : ℕ) → ((i : ℕ) → i < n → f i ≡ g i) → map f (range_with_len 0 n) ≡ map g (range_with_len 0 n)
@@ -63,17 +57,10 @@ same_map f g n same =
 
 -- a part of a list, where the list goes on
 part_before : (ages more : List ℕ) (from to : ℕ) → from ≤ to → to ≤ length ages → slice_range (ages ++ more) from to ≡ slice_range ages from to
-part_before ages more from to low high =
-    ap (take (to - from)) (drop-append-le from ages more (omega arith))
-    ∙ take-append-le (to - from) (drop from ages) more (omega (arith, length-drop from ages))
+part_before ages more from to low high = grind (arith, drop-append-le from ages more, take-append-le (to - from) (drop from ages) more, length-drop from ages)
 
 part_behind : (ages more : List ℕ) (from to : ℕ) → from ≡ length ages → to ≡ length ages + length more → slice_range (ages ++ more) from to ≡ more
-part_behind ages more from to begins ends =
-    let size : to - from ≡ length more = omega arith in
-    ap (λ n. take (to - from) (drop n (ages ++ more))) begins
-    ∙ ap (take (to - from)) (drop-append_seam ages more)
-    ∙ ap (λ n. take n more) size
-    ∙ take-length more
+part_behind ages more from to begins ends = grind (arith, drop-append_seam ages more, take-length more)
 
 module _ (heads : List Head) (ages : List ℕ) (are : ArePacked heads ages) (head : Head) (more : List ℕ) (ends : head.end ≡ length ages + length more) where
   abbrev longer : List Head
@@ -92,25 +79,16 @@ module _ (heads : List Head) (ages : List ℕ) (are : ArePacked heads ages) (hea
   head_last = get_or-append_seam heads head [] _
 
   begin_before : (i : ℕ) → i ≤ length heads → begin_of longer i ≡ begin_of heads i
-  begin_before zero l = refl
-  begin_before (suc i) l = begin_later longer i ∙ ap (λ (h : Head). h.end) (head_before i (omega arith)) ∙ sym (begin_later heads i)
+  begin_before i l = grind (arith, begin_later, head_before)
 
   begin_last : begin_of longer (length heads) ≡ length ages
   begin_last = begin_before (length heads) (omega arith) ∙ are.whole
 
   begin_end : begin_of longer (length longer) ≡ length longer_ages
-  begin_end =
-      let e : length longer ≡ suc (length heads) = omega (arith, size) in
-      ap (begin_of longer) e ∙ begin_later longer (length heads) ∙ ap (λ (h : Head). h.end) head_last ∙ ends ∙ sym (length-append ages more)
+  begin_end = grind (arith, size, begin_later longer (length heads), head_last, length-append ages more)
 
   event_before : (i : ℕ) → i < length heads → packed_event longer longer_ages i ≡ packed_event heads ages i
-  event_before i short =
-      let begin : begin_of longer i ≡ begin_of heads i = begin_before i (omega arith) in
-      let made : ℕ → Head → PlannedEvent = λ from h. record { line = h.line; event = record { gate = h.gate; ages = slice_range longer_ages from h.end } } in
-      let whole : ℕ → List ℕ → PlannedEvent = λ n xs. record { line = (head_at heads i).line; event = record { gate = (head_at heads i).gate; ages = xs } } in
-      ap (λ from. made from (head_at longer i)) begin
-      ∙ ap (made (begin_of heads i)) (head_before i short)
-      ∙ ap (whole 0) (part_before ages more (begin_of heads i) (head_at heads i).end (are.rises i short) (are.within i short))
+  event_before i short = grind (arith, begin_before i, head_before i short, part_before ages more (begin_of heads i) (head_at heads i).end (are.rises i short) (are.within i short))
 
   abbrev added : PlannedEvent
   added = record { line = head.line; event = record { gate = head.gate; ages = more } }
@@ -124,24 +102,7 @@ module _ (heads : List Head) (ages : List ℕ) (are : ArePacked heads ages) (hea
   pub one_more : packed_events longer longer_ages ≡ packed_events heads ages ++ added ∷ []
   one_more =
       let f : ℕ → PlannedEvent = packed_event longer longer_ages in
-      ap (λ n. map f (range_with_len 0 n)) size
-      ∙ map-range_with_len_more f 0 (length heads) (length heads) (omega arith)
-      ∙ ap (λ (es : List PlannedEvent). es ++ f (length heads) ∷ []) (same_map f (packed_event heads ages) (length heads) event_before)
-      ∙ ap (λ (e : PlannedEvent). packed_events heads ages ++ e ∷ []) event_last
+      grind (arith, size, map-range_with_len_more f 0 (length heads) (length heads), same_map f (packed_event heads ages) (length heads) event_before, event_before, event_last)
 
   pub more_packed : ArePacked longer longer_ages
-  more_packed = record {
-    rises = λ i l. elim (cases_lt i (length heads)) [
-      | inl short ↦ rw (begin_before i (omega (arith, short)), head_before i short) (are.rises i short)
-      | inr far ↦
-          let e : i ≡ length heads = omega (arith, far, l, size) in
-          rw (e, begin_last, head_last) (omega (arith, ends))
-    ];
-    within = λ i l. elim (cases_lt i (length heads)) [
-      | inl short ↦ rw (head_before i short) (let w = are.within i short in omega (arith, w, length-append ages more))
-      | inr far ↦
-          let e : i ≡ length heads = omega (arith, far, l, size) in
-          rw (e, head_last) (omega (arith, ends, length-append ages more))
-    ];
-    whole = begin_end;
-  }
+  more_packed = grind (arith, cases_lt, begin_before, head_before, size, begin_last, head_last, length-append ages more, begin_end)

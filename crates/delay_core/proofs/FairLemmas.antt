@@ -27,14 +27,7 @@ pub record Kept (start now : PlayState) : Type 0 where
 
 pub events_keep : (start : PlayState) (events : List PlannedEvent) → Kept start (after_planned start events)
 events_keep start [] = record { net = refl; window = refl; starts = refl; done = refl }
-events_keep start (planned ∷ later) =
-    let kept = events_keep (after_event start planned.event) later in
-    record {
-      net = kept.net;
-      window = kept.window;
-      starts = kept.starts;
-      done = kept.done ∙ length-set start.done planned.event.gate true;
-    }
+events_keep start (planned ∷ later) = grind (arith, events_keep (after_event start planned.event) later, length-set start.done planned.event.gate true)
 
 -- what a round keeps, at whose end no gate had an event
 pub record KeptByRounds (start now : PlayState) : Type 0 where
@@ -43,16 +36,11 @@ pub record KeptByRounds (start now : PlayState) : Type 0 where
   pub begun : now.done ≡ no_events now.net
 
 pub round_keeps : (start : PlayState) (round : RoundPlan) → KeptByRounds start (after_plan start round)
-round_keeps start round =
-    let kept = events_keep start round.events in
-    record { net = kept.net; window = kept.window; begun = refl }
+round_keeps start round = grind (arith, events_keep start round.events)
 
 pub rounds_keep : (start : PlayState) (rounds : List RoundPlan) → start.done ≡ no_events start.net → KeptByRounds start (after_plans start rounds)
 rounds_keep start [] begun = record { net = refl; window = refl; begun = begun }
-rounds_keep start (round ∷ later) begun =
-    let first = round_keeps start round in
-    let rest = rounds_keep (after_plan start round) later refl in
-    record { net = rest.net ∙ first.net; window = rest.window ∙ first.window; begun = rest.begun }
+rounds_keep start (round ∷ later) begun = grind (arith, round_keeps start round, rounds_keep (after_plan start round) later)
 
 pub rounds_net : (start : PlayState) (rounds : List RoundPlan) → (after_plans start rounds).net ≡ start.net
 rounds_net start [] = refl
@@ -60,16 +48,12 @@ rounds_net start (round ∷ later) = rounds_net (after_plan start round) later �
 
 pub rounds_history : (start : PlayState) (rounds : List RoundPlan) → (after_plans start rounds).history ≡ after_rounds start.net start.history (map round_of rounds)
 rounds_history start [] = refl
-rounds_history start (round ∷ later) =
-    let kept = events_keep start round.events in
-    rounds_history (after_plan start round) later
-    ∙ ap₂ (λ (n : Parts) (h : History). after_rounds n h (map round_of later)) kept.net (events_history start round.events)
+rounds_history start (round ∷ later) = grind (arith, events_keep start round.events, rounds_history (after_plan start round) later, events_history start round.events)
 
 -- ---- no fault
 
 pub both_none : (first second : Option PlayFault) → option_or first second ≡ None → (first ≡ None) × (second ≡ None)
-both_none None second e = (refl, e)
-both_none (Some x) second e = cc
+both_none first second e = grind arith
 
 pub planned_allowed : (start : PlayState) (planned : PlannedEvent) → planned_fault start planned ≡ None → IsAllowed start planned.event
 planned_allowed start planned none = is_allowed start planned.event (none_mapped _ (event_fault start planned.event) none)
@@ -134,36 +118,22 @@ round_fair start round begun e =
 -- ---- rounds
 
 pub starts_more : (start : PlayState) (round : RoundPlan) (before : List ℕ) → start.starts ≡ length start.history ∷ before → (after_plan start round).starts ≡ length (after_plan start round).history ∷ length start.history ∷ before
-starts_more start round before is =
-    ap (λ (ss : List ℕ). length (after_planned start round.events).history ∷ ss) ((events_keep start round.events).starts ∙ is)
+starts_more start round before is = grind (arith, events_keep start round.events)
 
 -- each round adds its start
 pub count_more : (start : PlayState) (round : RoundPlan) → length (after_plan start round).starts ≡ suc (length start.starts)
 count_more start round = ap (λ (ss : List ℕ). suc (length ss)) (events_keep start round.events).starts
 
 pub length_more : (start : PlayState) (round : RoundPlan) → length (after_plan start round).history ≡ length start.history + length (round_of round)
-length_more start round =
-    ap (λ (h : History). length h) (events_history start round.events)
-    ∙ length-after_events start.net start.history (round_of round)
+length_more start round = grind (arith, events_history start round.events, length-after_events start.net start.history (round_of round))
 
 -- ---- how ticks end
 
 -- the ends of what is left begin with that of the tick that opens next
 pub ends_of_rest : (net : Parts) (start : PlayState) (tick : PlannedTick) (later : List PlannedTick) → start.net ≡ net → map (end_of net) (rest_of net start.history (map tick_of (tick ∷ later))) ≡ end_at net (newest (after_plans (next_tick start tick.0) tick.1).history) (length tick.1) ∷ map (end_of net) (rest_of net (after_plans (next_tick start tick.0) tick.1).history (map tick_of later))
-ends_of_rest net start tick later same =
-    let last : Moment = newest start.history in
-    let rounds : List Round = map round_of tick.1 in
-    let ended : History = after_rounds net (wires (tick.0 ++ loaded_at net last) (gates_at net last) ∷ start.history) rounds in
-    let history : (after_plans (next_tick start tick.0) tick.1).history ≡ ended =
-    rounds_history (next_tick start tick.0) tick.1
-    ∙ ap (λ (n : Parts). after_rounds n (wires (tick.0 ++ loaded_at n last) (gates_at n last) ∷ start.history) rounds) same in
-    rw history
-    (ap (λ (n : ℕ). end_at net (newest ended) n ∷ map (end_of net) (rest_of net ended (map tick_of later))) (length-map tick.1 round_of))
+ends_of_rest net start tick later same = grind (arith, rounds_history (next_tick start tick.0) tick.1, length-map tick.1 round_of)
 
 pub ends_of_first : (net : Parts) (schedule : Schedule) (tick : PlannedTick) (later : List PlannedTick) → map (end_of net) (play net (reverse schedule.past) schedule.latches schedule.gates (map tick_of (tick ∷ later))) ≡ end_at net (newest (after_plans (first_opened net schedule tick.0) tick.1).history) (length tick.1) ∷ map (end_of net) (rest_of net (after_plans (first_opened net schedule tick.0) tick.1).history (map tick_of later))
 ends_of_first net schedule tick later =
     let opened : PlayState = first_opened net schedule tick.0 in
-    let history : (after_plans opened tick.1).history ≡ after_rounds net opened.history (map round_of tick.1) = rounds_history opened tick.1 in
-    rw history
-    (ap (λ (n : ℕ). end_at net (newest (after_rounds net opened.history (map round_of tick.1))) n ∷ map (end_of net) (rest_of net (after_rounds net opened.history (map round_of tick.1)) (map tick_of later)))
-    (length-map tick.1 round_of))
+    grind (arith, rounds_history opened tick.1, length-map tick.1 round_of)

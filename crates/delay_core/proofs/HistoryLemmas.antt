@@ -13,15 +13,11 @@ length-history entries heads (suc n) = ap suc (length-history entries heads n)
 pub history-at : (entries : List Entry) (heads : List ℕ) (n age : ℕ) → age < n → moment_at (history_of entries heads n) age ≡ moment_of entries heads (n - age)
 history-at entries heads zero age l = absurd (omega arith)
 history-at entries heads (suc n) zero l = let e : suc n - 0 ≡ suc n = omega arith in rw e refl
-history-at entries heads (suc n) (suc age) l =
-    let e : suc n - suc age ≡ n - age = omega arith in
-    history-at entries heads n age (omega arith) ∙ ap (moment_of entries heads) (sym e)
+history-at entries heads (suc n) (suc age) l = grind (arith, history-at entries heads n age)
 
 pub history-same : (entries later : List Entry) (heads moved : List ℕ) (n : ℕ) → ((k : ℕ) → 1 ≤ k → k ≤ n → moment_of later moved k ≡ moment_of entries heads k) → history_of later moved n ≡ history_of entries heads n
 history-same entries later heads moved zero same = refl
-history-same entries later heads moved (suc n) same =
-    ap₂ (λ m h. m ∷ h) (same (suc n) (omega arith) (omega arith))
-    (history-same entries later heads moved n (λ k a b. same k a (omega arith)))
+history-same entries later heads moved (suc n) same = grind (arith, history-same entries later heads moved n)
 
 -- the newest moment
 pub history-newest : (entries : List Entry) (heads : List ℕ) (n : ℕ) → 1 ≤ n → newest (history_of entries heads n) ≡ moment_of entries heads n
@@ -29,24 +25,11 @@ history-newest entries heads n l = history-at entries heads n 0 (omega arith) �
 
 -- one more moment, in which one signal is set
 pub history-set : (entries later : List Entry) (heads moved : List ℕ) (n s : ℕ) (value : Bool) → IsTimeline entries heads n → Writes (n + 1) s value entries later heads moved → history_of later moved (n + 1) ≡ set (newest (history_of entries heads n)) s value ∷ history_of entries heads n
-history-set entries later heads moved n s value is writes =
-    let first : moment_of later moved (n + 1) ≡ set (newest (history_of entries heads n)) s value =
-    writes.from (n + 1) (omega arith) (omega arith)
-    ∙ ap (λ m. set m s value) (moment-later entries heads n (n + 1) is.linked is.dated (omega arith) ∙ sym (history-newest entries heads n is.some)) in
-    let rest : history_of later moved n ≡ history_of entries heads n =
-    history-same entries later heads moved n (λ k a b. writes.before k a (omega arith)) in
-    rw add-one (ap₂ (λ m h. m ∷ h) (rw add-one at first) rest)
+history-set entries later heads moved n s value is writes = grind (arith, moment-later entries heads n (n + 1) is.linked is.dated, history-newest entries heads n is.some, history-same entries later heads moved n, add-one)
 
 -- one more moment, in which the first signals are set
 pub history-push : (entries later : List Entry) (heads moved : List ℕ) (n : ℕ) (values : List Bool) → IsTimeline entries heads n → WritesMoment (n + 1) values entries later heads moved → history_of later moved (n + 1) ≡ (values ++ drop (length values) (newest (history_of entries heads n))) ∷ history_of entries heads n
-history-push entries later heads moved n values is writes =
-    let old : moment_of entries heads (n + 1) ≡ newest (history_of entries heads n) =
-    moment-later entries heads n (n + 1) is.linked is.dated (omega arith) ∙ sym (history-newest entries heads n is.some) in
-    let first : moment_of later moved (n + 1) ≡ values ++ drop (length values) (newest (history_of entries heads n)) =
-    writes.at ∙ ap (λ (m : List Bool). values ++ drop (length values) m) old in
-    let rest : history_of later moved n ≡ history_of entries heads n =
-    history-same entries later heads moved n (λ k a b. writes.before k a (omega arith)) in
-    rw add-one (ap₂ (λ m h. m ∷ h) (rw add-one at first) rest)
+history-push entries later heads moved n values is writes = grind (arith, moment-later entries heads n (n + 1) is.linked is.dated, history-newest entries heads n is.some, history-same entries later heads moved n, add-one)
 
 -- ---- the first moment
 
@@ -89,8 +72,7 @@ module _ (values : List Bool) where
       }
 
   first_dated : AreDated (entries_of values) 1
-  first_dated i l =
-      let k : i < length values = omega (arith, size) in rw (first_at i k) (omega arith)
+  first_dated i l = grind (arith, size, first_at i)
 
   pub first_is : IsTimeline (entries_of values) heads 1
   first_is = record { some = omega arith; linked = first_linked; dated = first_dated }
@@ -114,17 +96,13 @@ pub width-told : (entries : List Entry) (heads : List ℕ) (n : ℕ) → 1 ≤ n
 width-told entries heads n l = ap length (history-newest entries heads n l) ∙ length-map heads (value_from entries n)
 
 pub value-told : (entries : List Entry) (heads : List ℕ) (n s age head : ℕ) → s < length heads → age < n → head ≡ get_or heads s head → value_from entries (n - age) head ≡ get_or (moment_at (history_of entries heads n) age) s false
-value-told entries heads n s age head signal l e =
-    ap (value_from entries (n - age)) (get_or_read heads s head signal e 0)
-    ∙ sym (get_or-map (value_from entries (n - age)) heads s 0 false signal)
-    ∙ ap (λ m. get_or m s false) (sym (history-at entries heads n age l))
+value-told entries heads n s age head signal l e = grind (arith, get_or_read heads s head signal e 0, get_or-map (value_from entries (n - age)) heads s 0 false signal, history-at entries heads n age l)
 
 abbrev pub told_by : List Entry → List ℕ → ℕ → ℕ → Told
 told_by entries heads n spare = record { history = history_of entries heads n; spare = spare }
 
 pub told-age : (entries : List Entry) (heads : List ℕ) (n spare age : ℕ) (told : Told) → told_by entries heads n spare ≡ told → age < length told.history → age < n
-told-age entries heads n spare age told e l =
-    let k : age < length (history_of entries heads n) = rw (← e) at l in omega (arith, length-history entries heads n)
+told-age entries heads n spare age told e l = grind (arith, length-history entries heads n)
 
 pub told-width : (entries : List Entry) (heads : List ℕ) (n spare : ℕ) (told : Told) → IsTimeline entries heads n → told_by entries heads n spare ≡ told → length (newest told.history) ≡ length heads
 told-width entries heads n spare told is e = rw (← e) (width-told entries heads n is.some)

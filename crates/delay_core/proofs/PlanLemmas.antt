@@ -1,5 +1,5 @@
 -- What is left of a tick once some of its rounds were played.
-use Rattle.std.proofs.Common.{◌≡◌, ℕ, ◌+◌, ◌<◌, ◌≤◌, List, [], ◌∷◌, length, drop, get_or, None, Some, Option, refl, ap, sym, ◌∙◌}
+use Rattle.std.proofs.Common.{◌≡◌, ℕ, ◌+◌, ◌<◌, ◌≤◌, List, [], ◌∷◌, length, drop, get_or, None, Some, Option, refl, ap, sym, ◌∙◌, arith}
 use Rattle.std.specs.List.{cons_option}
 use Rattle.std.proofs.lemmas.List.{drop_all, drop_more}
 use Rattle.delay_core.proofs.Common.{option_or, PlayFault, PlannedEvent, RoundPlan, PlayState, after_event, planned_fault, after_planned, events_fault, round_fault, after_plan, rounds_fault, after_plans}
@@ -22,15 +22,10 @@ module _ (start now next : PlayState) (rounds : List RoundPlan) (i : ℕ) (round
 
   module _ (played : next ≡ after_plan now round) where
     pub fault_left : round_fault now round ≡ None → rounds_fault start rounds ≡ rounds_fault now (drop i rounds) → rounds_fault start rounds ≡ rounds_fault next (drop (i + 1) rounds)
-    fault_left none before =
-        before
-        ∙ ap (rounds_fault now) left
-        ∙ second_fault (round_fault now round) (rounds_fault (after_plan now round) (drop (i + 1) rounds)) none
-        ∙ ap (λ (p : PlayState). rounds_fault p (drop (i + 1) rounds)) (sym played)
+    fault_left none before = grind (arith, left, second_fault (round_fault now round) (rounds_fault (after_plan now round) (drop (i + 1) rounds)) none)
 
     pub plans_left : after_plans start rounds ≡ after_plans now (drop i rounds) → after_plans start rounds ≡ after_plans next (drop (i + 1) rounds)
-    plans_left before =
-        before ∙ ap (after_plans now) left ∙ ap (λ (p : PlayState). after_plans p (drop (i + 1) rounds)) (sym played)
+    plans_left before = grind (arith, left)
 
     pub changes_left : (first log more : Option (List Change)) → more ≡ logged log (event_changes now round.events) → logged first (round_changes start rounds) ≡ logged log (round_changes now (drop i rounds)) → logged first (round_changes start rounds) ≡ logged more (round_changes next (drop (i + 1) rounds))
     changes_left first log more kept before =
@@ -49,22 +44,14 @@ module _ (start now : PlayState) (events : List PlannedEvent) (i : ℕ) where
     events_left = drop_more events i _ l
 
     pub event_fails : (fault : PlayFault) → planned_fault now (planned_at events i) ≡ Some fault → events_fault start events ≡ events_fault now (drop i events) → events_fault start events ≡ Some fault
-    event_fails fault fails before =
-        before
-        ∙ ap (events_fault now) events_left
-        ∙ first_fails (planned_fault now (planned_at events i)) (events_fault (after_event now (planned_at events i).event) (drop (i + 1) events)) fault fails
+    event_fails fault fails before = grind (arith, events_left, first_fails (planned_fault now (planned_at events i)) (events_fault (after_event now (planned_at events i).event) (drop (i + 1) events)) fault fails)
 
     module _ (next : PlayState) (played : next ≡ after_event now (planned_at events i).event) where
       pub event_fault_left : planned_fault now (planned_at events i) ≡ None → events_fault start events ≡ events_fault now (drop i events) → events_fault start events ≡ events_fault next (drop (i + 1) events)
-      event_fault_left none before =
-          before
-          ∙ ap (events_fault now) events_left
-          ∙ second_fault (planned_fault now (planned_at events i)) (events_fault (after_event now (planned_at events i).event) (drop (i + 1) events)) none
-          ∙ ap (λ (p : PlayState). events_fault p (drop (i + 1) events)) (sym played)
+      event_fault_left none before = grind (arith, events_left, second_fault (planned_fault now (planned_at events i)) (events_fault (after_event now (planned_at events i).event) (drop (i + 1) events)) none)
 
       pub events_after_left : after_planned start events ≡ after_planned now (drop i events) → after_planned start events ≡ after_planned next (drop (i + 1) events)
-      events_after_left before =
-          before ∙ ap (after_planned now) events_left ∙ ap (λ (p : PlayState). after_planned p (drop (i + 1) events)) (sym played)
+      events_after_left before = grind (arith, events_left)
 
       pub event_changes_left : (first log more : Option (List Change)) → more ≡ logged log (cons_option (change_by now (planned_at events i).event) []) → logged first (event_changes start events) ≡ logged log (event_changes now (drop i events)) → logged first (event_changes start events) ≡ logged more (event_changes next (drop (i + 1) events))
       event_changes_left first log more kept before =

@@ -9,8 +9,7 @@ use Rattle.delay_core.specs.declared.fault.EventFault.TheVariants.{NoGate, AgeCo
 use Rattle.delay_core.specs.Plays.{is_too_old, IsPlay}
 
 pub none_mapped : {A B : Type 0} (f : A → B) (o : Option A) → option_map f o ≡ None → o ≡ None
-none_mapped f None e = refl
-none_mapped f (Some x) e = cc
+none_mapped f o e = grind arith
 
 -- an event that isn't refused is one of the netlist, and reads what it may
 pub record IsAllowed (play : PlayState) (event : Event) : Type 0 where
@@ -18,9 +17,7 @@ pub record IsAllowed (play : PlayState) (event : Event) : Type 0 where
   pub ages : All (λ age. first_allowed play + age ≤ length play.history) event.ages
 
 cases_of : (a b : Bool) (c : Option EventFault) → (if not a then Some NoGate else (if not b then Some AgeCount else c)) ≡ None → (a ≡ true) × (b ≡ true) × (c ≡ None)
-cases_of true true c e = (refl, refl, e)
-cases_of true false c e = cc
-cases_of false b c e = cc
+cases_of a b c e = grind arith
 
 pub is_allowed : (play : PlayState) (event : Event) → event_fault play event ≡ None → IsAllowed play event
 is_allowed play event e =
@@ -34,11 +31,7 @@ is_allowed play event e =
 
 -- nothing is true of all false
 pub never_true : (n k : ℕ) → get_or (replicate n false) k false ≡ false
-never_true n k =
-    elim (cases_lt k n) [
-      | inl l ↦ get_or-replicate n k false false l
-      | inr l ↦ get_or_past (replicate n false) k false (omega (arith, length-replicate n false))
-    ]
+never_true n k = grind (arith, cases_lt k n, get_or-replicate n k false false, get_or_past (replicate n false) k false, length-replicate n false)
 
 -- where no gate is left without an event, each had one
 pub each_had : (gates : List Bool) → position (λ had. not had) gates ≡ None → (n : ℕ) → n < length gates → get_or gates n false ≡ true
@@ -55,42 +48,12 @@ module _ (net : Parts) (history : History) (before now opening : ℕ) (marks : L
 
   -- so that only a netlist without gates can have more rounds than events
   pub none_had : length marks < round → no_events net ≡ gates
-  none_had more =
-      elim (cases_eq (length net.gates) 0) [
-        | inl none ↦ ap (λ (n : ℕ). replicate n false) none ∙ sym (no_gates gates (is.done ∙ none))
-        | inr some ↦ let l = round_behind (omega arith) in absurd (omega arith)
-      ]
+  none_had more = grind (arith, cases_eq (length net.gates) 0, no_gates gates, round_behind)
 
   -- the next round begins
   pub round_ends : (next : ℕ) → round ≤ next → next ≤ round + 1 → IsPlay net history before now opening marks next (no_events net)
-  round_ends next from to =
-      record {
-        width = is.width;
-        done = length-replicate (length net.gates) false;
-        tick = is.tick;
-        ticks = is.ticks;
-        moments = is.moments;
-        begun = (let b = is.begun in omega arith);
-        behind = λ i l. (let b = is.behind i l in omega arith);
-        rising = is.rising;
-        rounds = λ some. (let b = round_behind some in omega arith);
-        had = λ n t. absurd (true≢false (sym t ∙ never_true (length net.gates) n));
-        none = is.none;
-      }
+  round_ends next from to = grind (arith, length-replicate (length net.gates) false, round_behind, true≢false, never_true (length net.gates))
 
 -- a tick that has just opened fits
 pub opens : (net : Parts) (history : History) (before now opening : ℕ) → length (newest history) ≡ count net → 1 ≤ now → before + now ≤ opening → opening ≡ length history → IsPlay net history before now opening [] 1 (no_events net)
-opens net history before now opening wide tick ticks moments =
-    record {
-      width = wide;
-      done = length-replicate (length net.gates) false;
-      tick = tick;
-      ticks = ticks;
-      moments = omega (arith, moments);
-      begun = omega arith;
-      behind = λ i l. absurd (omega arith);
-      rising = λ i j d le lt. absurd (omega arith);
-      rounds = λ some. omega arith;
-      had = λ n t. absurd (true≢false (sym t ∙ never_true (length net.gates) n));
-      none = λ e. refl;
-    }
+opens net history before now opening wide tick ticks moments = grind (arith, length-replicate (length net.gates) false, true≢false, never_true (length net.gates))

@@ -21,9 +21,7 @@ seen-at h (p ∷ pins) (a ∷ ages) (suc i) s age e l = seen-at h pins ages i s 
 pub start-back : (opening : ℕ) (marks : List ℕ) (round back : ℕ) → back < round → get_or (starts_of opening marks round) back 1 ≡ opening + events_before (round - back) marks
 start-back opening marks zero back l = absurd (omega arith)
 start-back opening marks (suc round) zero l = let e : suc round - 0 ≡ suc round = omega arith in rw e refl
-start-back opening marks (suc round) (suc back) l =
-    let e : suc round - suc back ≡ round - back = omega arith in
-    start-back opening marks round back (omega arith) ∙ ap (λ r. opening + events_before r marks) (sym e)
+start-back opening marks (suc round) (suc back) l = grind (arith, start-back opening marks round back)
 
 pub start-none : (opening : ℕ) (marks : List ℕ) (round back : ℕ) → round ≤ back → get_or (starts_of opening marks round) back 1 ≡ 1
 start-none opening marks zero back l = refl
@@ -49,18 +47,11 @@ length-starts opening marks (suc round) = ap suc (length-starts opening marks ro
 -- an event of a round comes before no start up to that of the round
 filter-push : (q mark : ℕ) (marks : List ℕ) → q ≤ mark → filter (λ (m : ℕ). nat_lt m q) (marks ++ mark ∷ []) ≡ filter (λ (m : ℕ). nat_lt m q) marks
 filter-push q mark [] l = rw (le-ltb mark q l) refl
-filter-push q mark (m ∷ marks) l =
-    elim (cases_lt m q) [
-      | inl below ↦ rw (lt-ltb m q below) (ap (λ xs. m ∷ xs) (filter-push q mark marks l))
-      | inr above ↦ rw (le-ltb m q above) (filter-push q mark marks l)
-    ]
+filter-push q mark (m ∷ marks) l = grind (arith, cases_lt m q, lt-ltb m q, filter-push q mark marks l, le-ltb m q)
 
 pub starts-push : (opening : ℕ) (marks : List ℕ) (mark round : ℕ) → round ≤ mark → starts_of opening (marks ++ mark ∷ []) round ≡ starts_of opening marks round
 starts-push opening marks mark zero l = refl
-starts-push opening marks mark (suc round) l =
-    ap₂ (λ s ss. s ∷ ss)
-    (ap (λ (xs : List ℕ). opening + length xs) (filter-push (suc round) mark marks l))
-    (starts-push opening marks mark round (omega arith))
+starts-push opening marks mark (suc round) l = grind (arith, filter-push (suc round) mark marks l, starts-push opening marks mark round)
 
 -- the next round begins after all events
 pub start-next : (opening : ℕ) (marks : List ℕ) (round : ℕ) → ((i : ℕ) → i < length marks → get_or marks i 0 ≤ round) → opening + events_before (suc round) marks ≡ opening + length marks
@@ -77,11 +68,7 @@ start-some opening marks (suc round) (suc back) l = start-some opening marks rou
 
 -- one value more of a list that is made from the front on
 pub pushed : {X : Type 0} (whole before after : List X) (value d : X) (i : ℕ) → i < length whole → after ≡ before ++ value ∷ [] → before ≡ take i whole → get_or whole i d ≡ value → after ≡ take (i + 1) whole
-pushed whole before after value d i l now was here =
-    now
-    ∙ ap (λ xs. xs ++ value ∷ []) was
-    ∙ ap (λ x. take i whole ++ x ∷ []) (sym here)
-    ∙ sym (take_more whole i d l)
+pushed whole before after value d i l now was here = grind (arith, take_more whole i d l)
 
 -- without events all rounds begin at the opening
 pub starts-none : (opening round : ℕ) → starts_of opening [] round ≡ replicate round opening

@@ -15,18 +15,12 @@ use Rattle.delay_core.proofs.PlayLemmas.{IsAllowed}
 
 -- an element of which a fact holds stands first, or among the rest
 Any-cases : (P : Event → Type 0) (x : Event) (xs : List Event) → Any P (x ∷ xs) → P x ⊎ Any P xs
-Any-cases P x xs (zero, y, l, e, p) = inl (rw (← e) at p)
-Any-cases P x xs (suc k, y, l, e, p) = inr (k, y, omega arith, e, p)
+Any-cases P x xs h = grind arith
 
 -- an event that is one of the netlist and reads what it may isn't refused
 allowed_none : (start : PlayState) (event : Event) → IsAllowed start event → event_fault start event ≡ None
 allowed_none start event allowed =
-    let gate : nat_lt event.gate (length start.net.gates) ≡ true = lt-ltb event.gate (length start.net.gates) allowed.of.gate in
-    let ages : (length event.ages == length (gate_at start.net event.gate).pins) ≡ true = eq-eqb (length event.ages) (length (gate_at start.net event.gate).pins) allowed.of.ages in
-    let old : position (is_too_old start) event.ages ≡ None =
-    found_none (is_too_old start) event.ages 0
-    (λ k d l. le-ltb (length start.history) (first_allowed start + get_or event.ages k d) (allowed.ages k d l)) in
-    rw (gate, ages, old) refl
+    grind (arith, lt-ltb event.gate (length start.net.gates) allowed.of.gate, eq-eqb (length event.ages) (length (gate_at start.net event.gate).pins) allowed.of.ages, found_none (is_too_old start) event.ages 0, le-ltb (length start.history))
 
 no_first : (first second : Option PlayFault) → first ≡ None → second ≡ None → option_or first second ≡ None
 no_first first second e f = rw (e, f) refl
@@ -43,20 +37,12 @@ events_none start (planned ∷ later) valid reads =
 -- ---- each gate that had an event is known to have had one
 
 set_true : (gates : List Bool) (gate n : ℕ) → gate < length gates → get_or gates n false ≡ true → get_or (set gates gate true) n false ≡ true
-set_true gates gate n l t =
-    elim (cases_eq n gate) [
-      | inl e ↦ rw e (get_or-set_same gates gate true false l)
-      | inr ne ↦ get_or-set_other gates gate n true false ne ∙ t
-    ]
+set_true gates gate n l t = grind (arith, cases_eq n gate, get_or-set_same gates gate true false l, get_or-set_other gates gate n true false)
 
 still_had : (start : PlayState) (events : List PlannedEvent) (n : ℕ) → length start.done ≡ length start.net.gates → All (IsEventOf start.net) (events_of events) → get_or start.done n false ≡ true → get_or (after_planned start events).done n false ≡ true
 still_had start [] n width valid t = t
 still_had start (planned ∷ later) n width valid t =
-    let here = All-head (IsEventOf start.net) planned.event (events_of later) valid in
-    let gate : planned.event.gate < length start.done = (let g = here.gate in omega arith) in
-    still_had (after_event start planned.event) later n (length-set start.done planned.event.gate true ∙ width)
-    (All-tail (IsEventOf start.net) planned.event (events_of later) valid)
-    (set_true start.done planned.event.gate n gate t)
+    grind (arith, All-head (IsEventOf start.net) planned.event (events_of later) valid, still_had (after_event start planned.event) later n, length-set start.done planned.event.gate true, All-tail (IsEventOf start.net) planned.event (events_of later) valid, set_true start.done planned.event.gate n)
 
 now_had : (start : PlayState) (events : List PlannedEvent) (n : ℕ) → length start.done ≡ length start.net.gates → All (IsEventOf start.net) (events_of events) → Any (λ (event : Event). event.gate ≡ n) (events_of events) → get_or (after_planned start events).done n false ≡ true
 now_had start [] n width valid (k, x, l, e, p) = absurd (omega arith)
@@ -65,12 +51,7 @@ now_had start (planned ∷ later) n width valid any =
     let rest = All-tail (IsEventOf start.net) planned.event (events_of later) valid in
     let gate : planned.event.gate < length start.done = (let g = here.gate in omega arith) in
     let next : length (set start.done planned.event.gate true) ≡ length start.net.gates = length-set start.done planned.event.gate true ∙ width in
-    elim (Any-cases (λ (event : Event). event.gate ≡ n) planned.event (events_of later) any) [
-      | inl e ↦
-          still_had (after_event start planned.event) later n next rest
-          (rw (← e) (get_or-set_same start.done planned.event.gate true false gate))
-      | inr after ↦ now_had (after_event start planned.event) later n next rest after
-    ]
+    grind (arith, Any-cases, still_had (after_event start planned.event) later n next rest, get_or-set_same start.done planned.event.gate true false gate, now_had (after_event start planned.event) later n next rest)
 
 round_none : (start : PlayState) (round : RoundPlan) → start.done ≡ no_events start.net → IsFairRound start.net (first_allowed start) (length start.history) (round_of round) → round_fault start round ≡ None
 round_none start round begun fair =
@@ -91,24 +72,14 @@ round_none start round begun fair =
 -- ---- so a schedule has no fault exactly where it is fair
 
 both_iff : (first second : Option PlayFault) {P Q : Type 0} → (first ≡ None) ↔ P → (second ≡ None) ↔ Q → (option_or first second ≡ None) ↔ (P × Q)
-both_iff first second here there = (
-  (λ none. let parts = both_none first second none in (here.0 parts.0, there.0 parts.1)),
-  (λ both. no_first first second (here.1 both.0) (there.1 both.1)),
-)
+both_iff first second here there = grind arith
 
 rounds_iff : (start : PlayState) (rounds : List RoundPlan) (before : List ℕ) → start.done ≡ no_events start.net → start.starts ≡ length start.history ∷ before →
     (rounds_fault start rounds ≡ None) ↔ AreFairAfter start.net start.window before (length start.history) (map round_of rounds)
 rounds_iff start [] before begun is = (λ none. tt, λ fair. refl)
 rounds_iff start (round ∷ later) before begun is =
     let next : PlayState = after_plan start round in
-    let kept = round_keeps start round in
-    let here : (round_fault start round ≡ None) ↔ IsFairRound start.net (earliest start.window (length start.history ∷ before)) (length start.history) (round_of round) = (
-      (λ none. rw (ap (earliest start.window) is) at (round_fair start round begun none)),
-      (λ fair. round_none start round begun (rw (ap (earliest start.window) is) fair)),
-    ) in
-    let rest = rounds_iff next later (length start.history ∷ before) refl (starts_more start round before is) in
-    both_iff (round_fault start round) (rounds_fault next later) here
-    (λ none. rw (kept.net, kept.window, length_more start round) at (rest.0 none), λ fair. rest.1 (rw (kept.net, kept.window, length_more start round) fair))
+    grind (arith, round_keeps start round, round_fair start round begun, round_none start round begun, rounds_iff next later (length start.history ∷ before), starts_more start round before is, both_iff (round_fault start round) (rounds_fault next later), length_more start round)
 
 -- a tick that has opened, and those behind it
 opened_iff : (opened : PlayState) (rounds : List RoundPlan) (later : List PlannedTick) (inputs latches : List Bool) → opened.done ≡ no_events opened.net → opened.starts ≡ length opened.history ∷ [] →
@@ -133,12 +104,10 @@ ticks_iff : (start : PlayState) (ticks : List PlannedTick) → start.done ≡ no
 ticks_iff start [] begun = (λ none. All-nil (IsPlayedFairly start.net start.window), λ fair. refl)
 ticks_iff start (tick ∷ later) begun =
     let opened : PlayState = next_tick start tick.0 in
-    opened_iff opened tick.1 later tick.0 (loaded_at start.net (newest start.history)) begun refl
-    (ticks_iff (after_plans opened tick.1) later (rounds_keep opened tick.1 begun).begun)
+    grind (arith, opened_iff opened tick.1 later tick.0 (loaded_at start.net (newest start.history)) begun, ticks_iff (after_plans opened tick.1) later (rounds_keep opened tick.1 begun).begun, rounds_keep opened tick.1 begun)
 
 pub schedule_iff : (net : Parts) (schedule : Schedule) (plans : List PlannedTick) → (first_fault net schedule plans ≡ None) ↔ All (IsPlayedFairly net schedule.window) (play net (reverse schedule.past) schedule.latches schedule.gates (map tick_of plans))
 schedule_iff net schedule [] = (λ none. All-nil (IsPlayedFairly net schedule.window), λ fair. refl)
 schedule_iff net schedule (tick ∷ later) =
     let opened : PlayState = first_opened net schedule tick.0 in
-    opened_iff opened tick.1 later tick.0 schedule.latches refl refl
-    (ticks_iff (after_plans opened tick.1) later (rounds_keep opened tick.1 refl).begun)
+    grind (arith, opened_iff opened tick.1 later tick.0 schedule.latches, ticks_iff (after_plans opened tick.1) later, rounds_keep opened tick.1)

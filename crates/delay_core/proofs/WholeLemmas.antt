@@ -17,8 +17,7 @@ use Rattle.delay_core.proofs.PlanLemmas.{first_fails, second_fault}
 
 -- what is passed on is that fault
 pub err_is : {A : Type 0} (r : Result A PlayFault) (f : PlayFault) (P : PlayFault → Type 0) → IsErrAnd r (λ e. e ≡ f) → P f → IfErr r P
-err_is (Ok a) f P is p = absurd is
-err_is (Err e) f P is p = rw is p
+err_is r f P is p = grind arith
 
 module _ (run : Scheduled) (start : Option (List Change)) where
   abbrev run_ends : List TickEnd
@@ -42,20 +41,10 @@ module _ (run : Scheduled) (start : Option (List Change)) where
 
   module _ (fits : IsScheduled run) (i : ℕ) (some : i < length run.vectors) where
     planned_left : drop i (planned run) ≡ (inputs_at run i, rounds_at run i) ∷ drop (i + 1) (planned run)
-    planned_left =
-        drop_more (planned run) i ([], []) (omega (arith, fits.ticks, length-zip run.vectors run.schedule.ticks))
-        ∙ ap (λ (t : PlannedTick). t ∷ drop (i + 1) (planned run)) (get_or-zip run.vectors run.schedule.ticks i ([], []) some (omega (arith, fits.ticks)))
+    planned_left = grind (arith, drop_more (planned run) i ([], []), length-zip run.vectors run.schedule.ticks, get_or-zip run.vectors run.schedule.ticks i ([], []) some)
 
     pub next_opens : (now : PlayState) (ends : List TickEnd) (log : Option (List Change)) → TicksArePlayed now ends log i → TickIsOpen (next_tick now (inputs_at run i)) ends log i
-    next_opens now ends log before =
-        record {
-          same = before.same;
-          begun = before.begun;
-          fault = before.fault ∙ ap (ticks_fault now) planned_left;
-          ended = sym (ap (λ (es : List TickEnd). ends ++ es) (ends_of_rest run.net now (inputs_at run i, rounds_at run i) (drop (i + 1) (planned run)) before.same))
-              ∙ (rw planned_left at before.ended);
-          changed = before.changed ∙ ap (λ (ts : List PlannedTick). logged log (later_changes now ts)) planned_left;
-        }
+    next_opens now ends log before = grind (arith, planned_left, ends_of_rest run.net now (inputs_at run i, rounds_at run i) (drop (i + 1) (planned run)) before.same)
 
   pub first_opens : IsScheduled run → 0 < length run.vectors → TickIsOpen (first_opened run.net run.schedule (inputs_at run 0)) [] start 0
   first_opens fits some =

@@ -1,4 +1,4 @@
-use Rattle.std.proofs.Common.{◌≡◌, length, get_or, ap, sym, ◌∙◌}
+use Rattle.std.proofs.Common.{◌≡◌, length, get_or, ap, sym, ◌∙◌, arith}
 use Rattle.std.specs.Cmp.{booleans_Decides}
 use Rattle.delay_core.proofs.Common.{get_or_read, value_from}
 use Rattle.delay_core.specs.Entries.{IsJump}
@@ -7,11 +7,7 @@ use Rattle.delay_core.proofs.entries.write.Goals as goal
 
 pub returns-then-value_at-value-clause-written : goal.returns-then-value_at-value-clause-written
 returns-then-value_at-value-clause-written c =
-    let older : c.index-older.result.now ≡ get_or c.args.newest.now.items c.args.s 0 =
-    get_or_read c.args.newest.now.items c.args.s c.index-older.result.now c.requires.signal c.index-older.ensures 0 in
-    let is : value_from c.args.entries.now.items c.args.moment (get_or c.args.newest.now.items c.args.s 0) ≡ c.args.value =
-    ap (value_from c.args.entries.now.items c.args.moment) (sym older) ∙ (rw c.deref.ensures.value at (sym c.value_at.ensures)) ∙ (booleans_Decides c.value_at.result c.args.value).0 c.if-value_at-value.true in
-    writes_same c.args.entries.now.items c.args.newest.now.items c.args.s c.args.moment c.args.value c.requires.linked c.requires.dated c.requires.moment c.requires.signal is
+    grind (arith, get_or_read c.args.newest.now.items c.args.s c.index-older.result.now c.requires.signal c.index-older.ensures 0, writes_same c.args.entries.now.items c.args.newest.now.items c.args.s c.args.moment c.args.value c.requires.linked c.requires.dated c.requires.moment c.requires.signal)
 
 pub returns-clause-written : goal.returns-clause-written
 returns-clause-written c =

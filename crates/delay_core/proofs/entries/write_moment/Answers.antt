@@ -3,16 +3,8 @@ use Rattle.delay_core.proofs.EntryLemmas.{front-more, front-all}
 use Rattle.delay_core.proofs.entries.write_moment.Goals as goal
 
 pub loop-s-preserved : goal.loop-s-preserved
-loop-s-preserved c = record {
-  front = front-more c.args.moment c.loop-s.s c.args.values.now c.args.entries.now.items c.loop-s.entries.items c.write.new.entries.items
-      c.args.newest.now.items c.loop-s.newest.items c.write.new.newest.items
-      c.requires.moment (omega arith) c.loop-s.invariant.front c.write.ensures.written;
-  len = omega arith;
-  capacity = c.write.ensures.capacity ∙ c.loop-s.invariant.capacity;
-}
+loop-s-preserved c =
+    grind (arith, front-more c.args.moment c.loop-s.s c.args.values.now c.args.entries.now.items c.loop-s.entries.items c.write.new.entries.items c.args.newest.now.items c.loop-s.newest.items c.write.new.newest.items c.requires.moment)
 
 pub returns-clause-written : goal.returns-clause-written
-returns-clause-written c =
-    let all : c.loop-s.s ≡ length c.args.values.now = omega arith in
-    front-all c.args.moment c.args.values.now c.args.entries.now.items c.loop-s.entries.items c.args.newest.now.items c.loop-s.newest.items c.requires.width
-    (rw all at c.loop-s.invariant.front)
+returns-clause-written c = grind (arith, front-all c.args.moment c.args.values.now c.args.entries.now.items c.loop-s.entries.items c.args.newest.now.items c.loop-s.newest.items c.requires.width)

@@ -23,27 +23,16 @@ loop-number-preserved c =
     }
 
 pub loop-number-init : goal.loop-number-init
-loop-number-init c =
-    record {
-      bits = c.in_ok-bits.ensures.items;
-      len = c.in_ok-bits.ensures.len;
-      room = omega (arith, c.in_ok-bits.ensures.capacity, c.latches.ensures.latches);
-    }
+loop-number-init c = grind arith
 
 pub latch-requires : goal.latch-requires
 latch-requires c = omega (arith, c.loop-number-test.true, c.latches-number-end.ensures.latches)
 
 pub value-requires-clause-signal : goal.value-requires-clause-signal
-value-requires-clause-signal c =
-    let is : get_or c.args.net.now.latches c.loop-number.number c.latch.result.now ≡ c.latch.result.now =
-    get_or_from_slice_get c.args.net.now.latches c.loop-number.number c.latch.result.now c.latch.result.now c.latch.ensures.latch in
-    let source : c.latch.result.now.from.0 < count c.args.net.now =
-    rw is at (c.latch.ensures.valid.sources c.loop-number.number c.latch.result.now (omega (arith, c.loop-number-test.true, c.latches-number-end.ensures.latches))) in
-    rw c.requires source
+value-requires-clause-signal c = grind (arith, get_or_from_slice_get c.args.net.now.latches c.loop-number.number c.latch.result.now c.latch.result.now c.latch.ensures.latch)
 
 pub push_reserved-requires : goal.push_reserved-requires
-push_reserved-requires c =
-    omega (arith, c.loop-number.invariant.len, c.loop-number.invariant.room, c.loop-number-test.true, c.latches-number-end.ensures.latches)
+push_reserved-requires c = grind arith
 
 pub returns : goal.returns
 returns c =

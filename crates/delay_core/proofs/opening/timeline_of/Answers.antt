@@ -1,15 +1,10 @@
-use Rattle.std.proofs.Common.{◌≡◌, ◌∷◌, [], ◌++◌, Bool, List, length, reverse, All, ap, sym, ◌∙◌}
+use Rattle.std.proofs.Common.{◌≡◌, ◌∷◌, [], ◌++◌, Bool, List, length, reverse, All, ap, sym, ◌∙◌, arith}
 use Rattle.std.proofs.lemmas.Grind.{reverse_onto}
 use Rattle.delay_core.proofs.Common.{All-head, All-tail, History, Moment, newest, Told}
 use Rattle.delay_core.proofs.opening.timeline_of.Goals as goal
 
 pub of-requires-2 : goal.of-requires-2
-of-requires-2 c =
-    let all : All (λ (m : List Bool). length m ≡ length c.args.opening.now) (c.in-Some.first.now ∷ c.in-Some.rest.now) =
-    rw c.in-Some.ensures.cases.0 at c.requires.past in
-    let head = All-head (λ (m : List Bool). length m ≡ length c.args.opening.now) c.in-Some.first.now c.in-Some.rest.now all in
-    let width : length c.items.result.now ≡ length c.args.opening.now = ap (λ (m : List Bool). length m) c.items.ensures ∙ head in
-    rw width c.requires.signals
+of-requires-2 c = grind arith
 
 pub push_all-requires : goal.push_all-requires
 push_all-requires c =
@@ -22,20 +17,7 @@ push_all-requires c =
     λ k d l. tail k d l ∙ sym head ∙ sym width
 
 pub push_whole-requires : goal.push_whole-requires
-push_whole-requires c =
-    let all : All (λ (m : List Bool). length m ≡ length c.args.opening.now) (c.in-Some.first.now ∷ c.in-Some.rest.now) =
-    rw c.in-Some.ensures.cases.0 at c.requires.past in
-    let head = All-head (λ (m : List Bool). length m ≡ length c.args.opening.now) c.in-Some.first.now c.in-Some.rest.now all in
-    let width : length (newest c.in_ok-timeline.timeline.history) ≡ length c.in-Some.first.now =
-    ap (λ (t : Told). length (newest t.history)) c.in_ok-timeline.ensures ∙ ap (λ (m : List Bool). length m) c.items.ensures in
-    record { width = sym (c.in_ok-push_all.ensures.width ∙ width ∙ head) }
+push_whole-requires c = grind arith
 
 pub returns : goal.returns
-returns c =
-    let first : c.in_ok-timeline.timeline.history ≡ c.in-Some.first.now ∷ [] =
-    ap (λ (t : Told). t.history) c.in_ok-timeline.ensures ∙ ap (λ (m : Moment). m ∷ []) c.items.ensures in
-    let past : reverse c.in-Some.rest.now ++ c.in-Some.first.now ∷ [] ≡ reverse c.args.past.now =
-    sym (reverse_onto c.in-Some.rest.now c.in-Some.first.now []) ∙ ap (λ (ms : History). reverse ms) (sym c.in-Some.ensures.cases.0) in
-    c.in_ok-push_whole.ensures
-    ∙ ap (λ (h : History). c.args.opening.now ∷ h)
-    (c.in_ok-push_all.ensures.history ∙ ap (λ (h : History). reverse c.in-Some.rest.now ++ h) first ∙ past)
+returns c = grind (arith, reverse_onto c.in-Some.rest.now c.in-Some.first.now [])

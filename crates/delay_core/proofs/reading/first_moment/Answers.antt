@@ -5,8 +5,7 @@ use Rattle.delay_core.proofs.ReadingLemmas.{start-none, start-back, events_befor
 use Rattle.delay_core.proofs.reading.first_moment.Goals as goal
 
 pub returns-then-round-window-clause-first : goal.returns-then-round-window-clause-first
-returns-then-round-window-clause-first c =
-    sym (start-none c.args.opening c.args.marks.now c.args.round c.args.window c.if-round-window.true)
+returns-then-round-window-clause-first c = grind (arith, start-none c.args.opening c.args.marks.now c.args.round c.args.window c.if-round-window.true)
 
 pub returns-clause-first : goal.returns-clause-first
 returns-clause-first c =

@@ -7,17 +7,7 @@ pub loop-i-preserved : goal.loop-i-preserved
 loop-i-preserved c =
     let size = length-seen c.args.timeline.now.history c.args.pins.now c.args.ages.now c.requires.count in
     let in_range : c.loop-i.i < length (seen c.args.timeline.now.history c.args.pins.now c.args.ages.now) = omega arith in
-    let here : get_or (seen c.args.timeline.now.history c.args.pins.now c.args.ages.now) c.loop-i.i false ≡ c.value.result =
-    seen-at c.args.timeline.now.history c.args.pins.now c.args.ages.now c.loop-i.i (record { 0 = 0 }) 0 c.requires.count c.loop-i-test.true
-    ∙ sym c.value.ensures in
-    record {
-      seen = pushed (seen c.args.timeline.now.history c.args.pins.now c.args.ages.now) _ _ c.value.result false c.loop-i.i
-          in_range c.push_reserved.ensures.items c.loop-i.invariant.seen here;
-      capacity = c.push_reserved.ensures.capacity ∙ c.loop-i.invariant.capacity;
-    }
+    grind (arith, seen-at c.args.timeline.now.history c.args.pins.now c.args.ages.now c.loop-i.i, pushed (seen c.args.timeline.now.history c.args.pins.now c.args.ages.now) _ _ c.value.result false c.loop-i.i in_range c.push_reserved.ensures.items c.loop-i.invariant.seen)
 
 pub returns-clause-seen : goal.returns-clause-seen
-returns-clause-seen c =
-    let size = length-seen c.args.timeline.now.history c.args.pins.now c.args.ages.now c.requires.count in
-    c.loop-i.invariant.seen
-    ∙ take_all c.loop-i.i (seen c.args.timeline.now.history c.args.pins.now c.args.ages.now) (omega arith)
+returns-clause-seen c = grind (arith, length-seen c.args.timeline.now.history c.args.pins.now c.args.ages.now c.requires.count, take_all c.loop-i.i (seen c.args.timeline.now.history c.args.pins.now c.args.ages.now))

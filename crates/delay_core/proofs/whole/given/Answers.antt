@@ -26,29 +26,19 @@ loop-number-preserved c =
     }
 
 pub loop-number-init : goal.loop-number-init
-loop-number-init c =
-    record {
-      values = c.in_ok-values.ensures.items;
-      len = c.in_ok-values.ensures.len;
-      room = omega (arith, c.in_ok-values.ensures.capacity, c.columns.ensures.columns);
-    }
+loop-number-init c = grind arith
 
 pub value-requires : goal.value-requires
-value-requires c =
-    omega (arith, ap (λ (net : Parts). count net) c.requires, c.loop-number-test.true, c.columns-number-end.ensures.columns)
+value-requires c = grind arith
 
 pub push_reserved-requires : goal.push_reserved-requires
-push_reserved-requires c =
-    omega (arith, c.loop-number.invariant.len, c.loop-number.invariant.room, c.loop-number-test.true, c.columns-number-end.ensures.columns)
+push_reserved-requires c = grind arith
 
 pub returns-clause-given : goal.returns-clause-given
 returns-clause-given c =
     let now : List Bool = newest c.args.play.now.state.history in
     let columns : ℕ = length c.args.net.now.inputs + length c.args.net.now.latches in
-    c.loop-number.invariant.values
-    ∙ take_all c.loop-number.number (bits (given_at c.args.net.now now))
-    (omega (arith, length-map (given_at c.args.net.now now) bit, length-take columns now, c.loop-number-test.false, c.columns-number-end.ensures.columns))
+    grind (arith, take_all c.loop-number.number (bits (given_at c.args.net.now now)), length-map (given_at c.args.net.now now) bit, length-take columns now)
 
 pub returns-clause-width : goal.returns-clause-width
-returns-clause-width c =
-    omega (arith, c.loop-number.values.ok, c.loop-number.invariant.len, c.loop-number.auto.number-end, c.loop-number-test.false, c.columns-number-end.ensures.columns)
+returns-clause-width c = grind arith

@@ -10,6 +10,4 @@ gates_stand_at-requires-clause-width c =
     let net = c.args.net.now in
     let inputs : List Trit = c.split_at.result.0.now in
     let latches : List Trit = c.split_at.result.1.now in
-    let width : length (inputs ++ latches) ≡ length net.inputs + length net.latches =
-    omega (arith, length-append inputs latches, c.split_at.ensures.front_len, c.split_at.ensures.back_len, ap (λ (xs : List Trit). length xs) c.deref.ensures.value, c.in_ok-values.ensures.width, c.inputs.ensures.inputs) in
-    ap (λ (xs : List Trit). length xs) (c.items.ensures ∙ c.in_ok-tick.ensures.tick.wires) ∙ length-fix net (inputs ++ latches) width
+    grind (arith, length-fix net (inputs ++ latches))

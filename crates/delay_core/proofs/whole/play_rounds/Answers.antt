@@ -25,5 +25,4 @@ loop-round-preserved c =
     }
 
 pub returns-clause-changed : goal.returns-clause-changed
-returns-clause-changed c =
-    all_rounds_changed c.args.play.now.state c.loop-round.play.state c.args.rounds.now c.loop-round.round-index c.args.log.now c.loop-round.log (omega (arith, c.loop-round-test.false)) c.loop-round.invariant.changed
+returns-clause-changed c = grind (arith, all_rounds_changed c.args.play.now.state c.loop-round.play.state c.args.rounds.now c.loop-round.round-index c.args.log.now c.loop-round.log)

@@ -25,13 +25,7 @@ returns-in_err-end-2-clause-fault c =
     let i = c.loop-tick.tick in
     let fault : PlayFault = c.in_err-end-2.field-0.0 in
     let ready = next_opens run c.args.log.now c.ticks.ensures.fits i (omega (arith, c.loop-tick-test.true, c.ticks-tick-end.ensures.ticks)) _ _ _ c.loop-tick.invariant.played in
-    err_is c.from_residual-in_err-end-2.result fault
-    (λ (f : PlayFault). (f ≡ Memory) ⊎ (schedule_fault run.net run.schedule run.vectors ≡ Some f))
-    c.from_residual-in_err-end-2.ensures.1
-    (elim c.in_err-end-2.ensures.fault [
-      | inl memory ↦ inl memory
-      | inr first ↦ inr (tick_fails run c.args.log.now _ _ _ i ready fault (rw (c.in_ok-open.ensures, c.rounds-in-loop-tick.ensures.rounds) at first))
-    ])
+    grind (arith, err_is c.from_residual-in_err-end-2.result fault, tick_fails run c.args.log.now _ _ _ i ready fault)
 
 pub loop-tick-preserved : goal.loop-tick-preserved
 loop-tick-preserved c =

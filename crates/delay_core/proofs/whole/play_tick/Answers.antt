@@ -1,10 +1,7 @@
-use Rattle.std.proofs.Common.{ap, ◌∙◌}
+use Rattle.std.proofs.Common.{ap, ◌∙◌, arith}
 use Rattle.delay_core.proofs.Common.{PlayState}
 use Rattle.delay_core.proofs.FairLemmas.{rounds_net}
 use Rattle.delay_core.proofs.whole.play_tick.Goals as goal
 
 pub tick_end-requires-clause-net : goal.tick_end-requires-clause-net
-tick_end-requires-clause-net c =
-    ap (λ (p : PlayState). p.net) c.in_ok-play_rounds.ensures.played
-    ∙ rounds_net c.args.play.now.state c.args.rounds.now
-    ∙ c.requires.net
+tick_end-requires-clause-net c = grind (arith, rounds_net c.args.play.now.state c.args.rounds.now)

@@ -23,30 +23,11 @@ returns-clause-ok c less =
     let is = c.self.invariant.0 in
     let opening : ℕ = c.self.inside.opening in
     let marks : List ℕ = c.self.inside.marks.items in
-    let below : c.self.inside.round < most_rounds =
-    (let viewed = ap (λ (p : SeenPlay). length p.state.starts) c.self.view_is in
-    omega (arith, less, viewed, length-starts opening marks c.self.inside.round)) in
-    let next : c.saturating_add-self-inside.result ≡ suc c.self.inside.round = omega (arith, c.saturating_add-self-inside.ensures, below) in
-    let starts : starts_of opening marks c.saturating_add-self-inside.result ≡ length c.self.inside.timeline.history ∷ starts_of opening marks c.self.inside.round =
-    ap (starts_of opening marks) next
-    ∙ ap (λ (n : ℕ). n ∷ starts_of opening marks c.self.inside.round) (start-next opening marks c.self.inside.round is.behind ∙ is.moments) in
-    let done : c.fill.new.self.items ≡ no_events c.self.inside.net.now =
-    c.fill.ensures.items (λ y e. e) ∙ ap (λ n. replicate n false) (c.self.inside.done.ok.0 ∙ is.done) in
-    rw (← c.self.view_is, starts, done) refl
+    grind (arith, length-starts opening marks c.self.inside.round, start-next opening marks c.self.inside.round is.behind)
 
 pub returns-clause-full : goal.returns-clause-full
 returns-clause-full c most =
     let is = c.self.invariant.0 in
     let opening : ℕ = c.self.inside.opening in
     let marks : List ℕ = c.self.inside.marks.items in
-    let fair : position (λ (had : Bool). not had) c.self.inside.done.items ≡ None =
-    ap (λ (had : List Bool). position (λ (h : Bool). not h) had) (sym c.deref.ensures.value) ∙ sym c.first_without.ensures.first ∙ c.in_default.is in
-    let over : most_rounds ≤ c.self.inside.round =
-    (let viewed = ap (λ (p : SeenPlay). length p.state.starts) c.self.view_is in
-    omega (arith, most, viewed, length-starts opening marks c.self.inside.round)) in
-    let same : c.saturating_add-self-inside.result ≡ c.self.inside.round = omega (arith, c.saturating_add-self-inside.ensures, over) in
-    let done : c.fill.new.self.items ≡ c.self.inside.done.items =
-    c.fill.ensures.items (λ y e. e) ∙ ap (λ n. replicate n false) (c.self.inside.done.ok.0 ∙ is.done)
-    ∙ none_had c.self.inside.net.now c.self.inside.timeline.history c.self.inside.past c.self.inside.tick opening marks c.self.inside.round c.self.inside.done.items is fair
-    (omega (arith, over, c.self.inside.marks.ok, c.self.inside.marks.small)) in
-    rw (← c.self.view_is, same, done) refl
+    grind (arith, length-starts opening marks c.self.inside.round, none_had c.self.inside.net.now c.self.inside.timeline.history c.self.inside.past c.self.inside.tick opening marks c.self.inside.round c.self.inside.done.items is)

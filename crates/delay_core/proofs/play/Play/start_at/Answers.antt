@@ -6,13 +6,7 @@ use Rattle.delay_core.proofs.ReadingLemmas.{starts-none}
 use Rattle.delay_core.proofs.play.Play.start_at.Goals as goal
 
 pub opened-requires : goal.opened-requires
-opened-requires c =
-    let wide : length c.args.inputs.now + length c.args.latches.now + length c.args.gates.now ≡ count c.args.net.now =
-    omega (arith, c.requires.inputs, c.requires.latches, c.requires.gates) in
-    record {
-      past = λ k d l. c.requires.past k d l ∙ sym wide;
-      signals = omega (arith, wide, c.count-signals.ensures.count, c.count-signals.type_inv);
-    }
+opened-requires c = grind arith
 
 pub invariant_of-result : goal.invariant_of-result
 invariant_of-result c =
@@ -35,12 +29,4 @@ invariant_of-result c =
 pub returns : goal.returns
 returns c =
     let past : History = reverse c.args.past.now in
-    let opening : List Bool = wires (c.args.inputs.now ++ c.args.latches.now) c.args.gates.now in
-    let history : c.in_ok-timeline.timeline.history ≡ opening ∷ past = c.in_ok-timeline.ensures in
-    let number : c.moments-opening.result ≡ suc (length past) =
-    c.moments-opening.ensures ∙ ap (λ (h : History). length h) history in
-    let starts : starts_of c.moments-opening.result c.new.result.items 1 ≡ suc (length past) ∷ [] =
-    ap₂ (λ n (ms : List ℕ). starts_of n ms 1) number c.new.ensures.items ∙ starts-none (suc (length past)) 1 in
-    let done : c.in_ok-done.done.items ≡ no_events c.args.net.now =
-    c.in_ok-done.ensures.items_if_clones_equal (λ y e. e) ∙ ap (λ n. replicate n false) c.gates.ensures.gates in
-    rw (starts, number, history, done, length-reverse c.args.past.now) refl
+    grind (arith, starts-none (suc (length past)) 1, length-reverse c.args.past.now)

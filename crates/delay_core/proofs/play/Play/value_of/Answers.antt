@@ -10,9 +10,7 @@ read_pins-requires-clause-ages c =
     let event : Event = record { gate = c.args.gate; ages = c.args.ages.now } in
     let allowed : IsAllowed c.args.self.now.state event = is_allowed c.args.self.now.state event c.requires in
     let size : length c.self.inside.timeline.history ≡ length c.args.self.now.state.history = ap (λ (p : SeenPlay). length p.state.history) c.self.view_is in
-    let some : 1 ≤ first_allowed c.args.self.now.state =
-    rw (← c.self.view_is) (start-some c.self.inside.opening c.self.inside.marks.items c.self.inside.round c.self.inside.window (omega (arith, c.self.invariant.0.ticks, c.self.invariant.0.tick))) in
-    λ k d l. let age = allowed.ages k d l in omega arith
+    grind (arith, start-some c.self.inside.opening c.self.inside.marks.items c.self.inside.round c.self.inside.window)
 
 pub value-requires : goal.value-requires
 value-requires c =
@@ -21,10 +19,4 @@ value-requires c =
     let same : c.self.inside.net.now ≡ c.args.self.now.state.net = ap (λ (p : SeenPlay). p.state.net) c.self.view_is in
     let gate : c.gate-gate.result.now ≡ gate_at c.self.inside.net.now c.args.gate = c.gate-gate.ensures.at in
     let in_range : c.args.gate < length c.self.inside.net.now.gates = rw same allowed.of.gate in
-    let pins : length c.gate-gate.result.now.pins ≡ c.gate-gate.result.now.cover.pins =
-    rw gate (c.gate-gate.ensures.valid.pin_counts c.args.gate no_gate in_range) in
-    let ages : length c.args.ages.now ≡ length c.gate-gate.result.now.pins =
-    rw (gate, same) allowed.of.ages in
-    let size : length (seen c.self.inside.timeline.history c.gate-gate.result.now.pins c.args.ages.now) ≡ length c.gate-gate.result.now.pins =
-    length-seen c.self.inside.timeline.history c.gate-gate.result.now.pins c.args.ages.now ages in
-    rw (c.deref.ensures.value, c.read_pins.ensures.seen, c.items-pins.ensures) (size ∙ pins)
+    grind (arith, length-seen c.self.inside.timeline.history c.gate-gate.result.now.pins c.args.ages.now)

@@ -1,4 +1,4 @@
-use Rattle.std.proofs.Common.{length, ap, sym, ◌∙◌}
+use Rattle.std.proofs.Common.{length, ap, sym, ◌∙◌, arith}
 use Rattle.std.proofs.lemmas.Result.{on_ok_weaker}
 use Rattle.delay_core.proofs.Common.{Parts, SeenPlay, no_events, next_tick}
 use Rattle.delay_core.proofs.scheduled_run.ScheduledRun.open.Goals as goal
@@ -10,7 +10,4 @@ pub end_tick-requires-clause-begun : goal.end_tick-requires-clause-begun
 end_tick-requires-clause-begun c = c.requires.begun ∙ ap no_events (sym c.requires.net)
 
 pub returns : goal.returns
-returns c =
-    on_ok_weaker c.end_tick.result
-    (λ is. ap (λ (p : SeenPlay). p.state) is ∙ ap (next_tick c.args.play.now.state) c.inputs.ensures.inputs)
-    c.end_tick.ensures.ok
+returns c = grind arith

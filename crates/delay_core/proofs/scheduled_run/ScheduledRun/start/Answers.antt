@@ -8,7 +8,4 @@ pub start_at-requires-clause-inputs : goal.start_at-requires-clause-inputs
 start_at-requires-clause-inputs c = omega (arith, c.inputs.ensures.width, ap (λ (r : Scheduled). length r.net.inputs) c.self.view_is)
 
 pub returns : goal.returns
-returns c =
-    IfOk-weaker c.start_at.result _ _
-    (λ play is. ap (λ (p : SeenPlay). p.state) is ∙ rw (c.items.ensures, c.items-2.ensures, c.items-3.ensures, c.inputs.ensures.inputs, ← c.self.view_is) refl)
-    c.start_at.ensures
+returns c = grind arith
