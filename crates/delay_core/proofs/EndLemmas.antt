@@ -1,12 +1,12 @@
 -- Whether a tick ends settled.
-use Rattle.std.proofs.Common.{◌≡◌, ◌↔◌, ℕ, ◌<◌, Bool, true, false, List, [], ◌∷◌, length, map, set, get_or, All, refl, ap, ap₂, sym, ◌∙◌, arith}
+use Rattle.std.proofs.Common.{◌≡◌, ◌↔◌, ℕ, ◌<◌, Bool, true, false, List, [], ◌∷◌, length, map, set, get_or, All, refl, ap, sym, ◌∙◌, arith}
 use Rattle.delay_core.proofs.Common.{range_with_len, zip, get_or-map, ext_get_or, length-map, length-set, All-head, All-tail, length-range_with_len, get_or-range_with_len, bits, Parts, count, gate_sig, Event, Moment, History, bit_at, newest, Played, gates_at, loaded_at, played, play, RoundPlan, given_at, gate_agrees, tick_of, IsPlayedFairly}
 use Rattle.std.proofs.Math.Seq.{take-append_seam}
 use Rattle.std.proofs.lemmas.List.{get_or-append-add, get_or-drop, length-append, length-drop, length-take, take-set-le}
 use Rattle.std.proofs.lemmas.List.Elements.{All-nil, All-cons}
 use Rattle.std.proofs.lemmas.List.Sums.{AllPass-from_list_all, list_all-from_AllPass}
 use Rattle.cyc_base.specs.declared.trit.Trit.{Trit}
-use Rattle.cyc_base.specs.declared.trit.Trit.TheVariants.{Zero, One, X}
+use Rattle.cyc_base.specs.declared.trit.Trit.TheVariants.{X}
 use Rattle.cyc_base.specs.Values.{bit}
 use Rattle.netlist.specs.Fixpoint.{fix_gates}
 use Rattle.netlist.proofs.FixpointLemmas.{length-steps}

@@ -1,9 +1,8 @@
 -- The events of a round, packed: what is at a place, and one event more.
-use Rattle.std.proofs.Common.{◌≡◌, ◌≢◌, ◌+◌, ◌-◌, ◌<◌, ◌≤◌, ◌==◌, inl, inr, ℕ, zero, suc, Bool, false, List, [], ◌∷◌, ◌++◌, take, drop, length, map, get_or, refl, ap, sym, ◌∙◌, arith, length-append, length-drop}
+use Rattle.std.proofs.Common.{◌≡◌, ◌+◌, ◌-◌, ◌<◌, ◌≤◌, ◌==◌, ℕ, suc, Bool, false, List, [], ◌∷◌, ◌++◌, drop, length, map, get_or, ap, sym, ◌∙◌, arith, length-append, length-drop}
 use Rattle.std.specs.Prelude.{slice_range, if◌then◌else◌}
 use Rattle.delay_core.proofs.Common.{range_with_len, cases_lt, get_or_default, ext_get_or, PlannedEvent}
 use Rattle.std.proofs.Math.Seq.{get_or-append_seam, drop-append_seam, take-length}
-use Rattle.std.proofs.lemmas.Bool.{ne_eqb}
 use Rattle.std.proofs.lemmas.List.{get_or_append_left, take-append-le, drop-append-le}
 use Rattle.std.proofs.lemmas.List.FromFn.{length-map-range_with_len, get_or-map-range_with_len, map-range_with_len_more}
 use Rattle.delay_core.specs.declared.events.Head.{Head}

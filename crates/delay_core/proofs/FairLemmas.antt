@@ -1,6 +1,6 @@
 -- What is played without a fault is fair, and makes the moments of its run.
-use Rattle.std.proofs.Common.{◌≡◌, ◌⊎◌, inl, inr, ℕ, suc, ◌+◌, Bool, true, false, List, [], ◌∷◌, ◌++◌, length, map, reverse, get_or, All, Any, None, Some, Option, refl, ap, ap₂, sym, ◌∙◌, arith, true≢false}
-use Rattle.delay_core.proofs.Common.{option_or, cases_eq, length-set, length-map, length-replicate, get_or-set_other, Parts, wires, Event, Moment, History, newest, IsEventOf, gates_at, loaded_at, play, PlayFault, PlannedEvent, RoundPlan, Schedule, PlayState, first_allowed, event_fault, no_events, after_event, next_tick, planned_fault, after_planned, events_fault, after_plan, round_fault, after_plans, PlannedTick, first_opened, tick_of, rest_of}
+use Rattle.std.proofs.Common.{◌≡◌, ◌⊎◌, inl, inr, ℕ, suc, ◌+◌, Bool, true, false, List, [], ◌∷◌, length, map, reverse, get_or, All, Any, None, Option, refl, ap, sym, ◌∙◌, arith, true≢false}
+use Rattle.delay_core.proofs.Common.{option_or, cases_eq, length-set, length-map, length-replicate, get_or-set_other, Parts, Event, newest, IsEventOf, play, PlayFault, PlannedEvent, RoundPlan, Schedule, PlayState, first_allowed, event_fault, no_events, after_event, next_tick, planned_fault, after_planned, events_fault, after_plan, round_fault, after_plans, PlannedTick, first_opened, tick_of, rest_of}
 use Rattle.std.proofs.lemmas.List.Elements.{All-nil, All-cons}
 use Rattle.schedules.specs.Moments.{Round, after_events, after_rounds}
 use Rattle.schedules.specs.Fairness.{ReadsFrom, IsFairRound}

@@ -1,5 +1,5 @@
 -- The history that entries tell.
-use Rattle.std.proofs.Common.{◌≡◌, ℕ, zero, suc, ◌+◌, ◌-◌, ◌<◌, ◌≤◌, Bool, false, List, [], ◌∷◌, ◌++◌, length, drop, get_or, set, refl, ap, ap₂, sym, ◌∙◌, arith, add-one}
+use Rattle.std.proofs.Common.{◌≡◌, ℕ, zero, suc, ◌+◌, ◌-◌, ◌<◌, ◌≤◌, Bool, false, List, [], ◌∷◌, ◌++◌, length, drop, get_or, set, refl, ap, ◌∙◌, arith, add-one}
 use Rattle.delay_core.proofs.Common.{range_with_len, length-map, ext_get_or, get_or-map, get_or_read, length-range_with_len, get_or-range_with_len, moment_at, newest, value_from, history_of, WritesMoment, Told}
 use Rattle.delay_core.specs.declared.entry.Entry.{Entry}
 use Rattle.delay_core.specs.Entries.{entry_at, moment_of, entries_of, AreLinked, AreDated, Writes}

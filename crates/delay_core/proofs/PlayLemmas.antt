@@ -1,5 +1,5 @@
 -- What is known of an event that isn't refused.
-use Rattle.std.proofs.Common.{◌≡◌, inl, inr, ℕ, ◌+◌, ◌≤◌, ◌<◌, ◌==◌, Bool, true, false, not, List, [], ◌∷◌, length, replicate, get_or, All, Some, None, Option, refl, ap, sym, ◌∙◌, arith, nat_lt, eqb-true, true≢false}
+use Rattle.std.proofs.Common.{◌≡◌, ℕ, ◌+◌, ◌≤◌, ◌<◌, ◌==◌, Bool, true, false, not, List, [], ◌∷◌, length, replicate, get_or, All, Some, None, Option, refl, arith, nat_lt, eqb-true, true≢false}
 use Rattle.delay_core.proofs.Common.{cases_eq, cases_lt, length-replicate, Parts, History, newest, position, option_map, count, gate_at, Event, IsEventOf, EventFault, PlayState, first_allowed, event_fault, no_events}
 use Rattle.std.proofs.lemmas.List.{get_or-replicate, get_or_past}
 use Rattle.std.specs.Prelude.{if◌then◌else◌}

@@ -1,5 +1,5 @@
 -- What pins see, and where rounds begin.
-use Rattle.std.proofs.Common.{◌≡◌, inl, inr, ℕ, zero, suc, ◌+◌, ◌-◌, ◌<◌, ◌≤◌, false, List, [], ◌∷◌, ◌++◌, length, filter, take, replicate, get_or, refl, ap, ap₂, sym, ◌∙◌, arith, nat_lt}
+use Rattle.std.proofs.Common.{◌≡◌, ℕ, zero, suc, ◌+◌, ◌-◌, ◌<◌, ◌≤◌, false, List, [], ◌∷◌, ◌++◌, length, filter, take, replicate, get_or, refl, ap, ap₂, arith, nat_lt}
 use Rattle.delay_core.proofs.Common.{get_or_default, cases_lt, Sig, History, bit_at, moment_at, seen, starts_of}
 use Rattle.std.proofs.lemmas.List.{take_more}
 use Rattle.std.proofs.lemmas.Bool.{lt-ltb, le-ltb}

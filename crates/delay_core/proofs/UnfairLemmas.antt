@@ -1,16 +1,16 @@
 -- What is fair is played without a fault, and nothing else is.
-use Rattle.std.proofs.Common.{◌≡◌, ◌↔◌, ◌⊎◌, inl, inr, ℕ, zero, suc, ◌+◌, ◌<◌, ◌==◌, Bool, true, false, not, List, [], ◌∷◌, length, map, reverse, get_or, set, All, Any, None, Option, refl, ap, ◌∙◌, arith, nat_lt}
-use Rattle.delay_core.proofs.Common.{position, option_map, option_or, cases_eq, length-set, length-replicate, get_or-set_other, get_or_default, All-head, All-tail, Parts, History, gate_at, Event, newest, IsEventOf, Played, loaded_at, play, EventFault, PlayFault, PlannedEvent, RoundPlan, Schedule, PlayState, first_allowed, event_fault, no_events, after_event, next_tick, planned_fault, after_planned, events_fault, after_plan, round_fault, after_plans, rounds_fault, PlannedTick, ticks_fault, first_opened, tick_of, IsPlayedFairly, rest_of}
+use Rattle.std.proofs.Common.{◌≡◌, ◌↔◌, ◌⊎◌, ℕ, ◌<◌, Bool, true, false, not, List, [], ◌∷◌, length, map, reverse, get_or, set, All, Any, None, Option, refl, ap, ◌∙◌, arith}
+use Rattle.delay_core.proofs.Common.{option_map, option_or, cases_eq, length-set, length-replicate, get_or-set_other, get_or_default, All-head, All-tail, Parts, History, gate_at, Event, newest, IsEventOf, Played, loaded_at, play, EventFault, PlayFault, PlannedEvent, RoundPlan, Schedule, PlayState, first_allowed, event_fault, no_events, after_event, next_tick, planned_fault, after_planned, events_fault, after_plan, round_fault, after_plans, rounds_fault, PlannedTick, ticks_fault, first_opened, tick_of, IsPlayedFairly, rest_of}
 use Rattle.std.proofs.lemmas.Bool.{lt-ltb, le-ltb, eq-eqb}
 use Rattle.std.proofs.lemmas.List.{get_or-set_same}
 use Rattle.std.proofs.lemmas.List.Elements.{All-nil, All-cons}
 use Rattle.netlist.proofs.Decisions.{found_none}
 use Rattle.schedules.specs.Moments.{after_rounds}
-use Rattle.schedules.specs.Fairness.{ReadsFrom, IsFairRound, earliest, AreFairAfter}
+use Rattle.schedules.specs.Fairness.{ReadsFrom, IsFairRound, AreFairAfter}
 use Rattle.delay_core.specs.declared.fault.PlayFault.TheVariants as refused
 use Rattle.delay_core.specs.Plays.{is_too_old, unfair_gate}
 use Rattle.delay_core.specs.Plans.{unfair_fault, first_fault, round_of}
-use Rattle.delay_core.proofs.FairLemmas.{events_of, both_none, round_fair, events_keep, round_keeps, rounds_keep, rounds_history, starts_more, length_more}
+use Rattle.delay_core.proofs.FairLemmas.{events_of, round_fair, events_keep, round_keeps, rounds_keep, rounds_history, starts_more, length_more}
 use Rattle.delay_core.proofs.PlayLemmas.{IsAllowed}
 
 -- an element of which a fact holds stands first, or among the rest

@@ -1,6 +1,6 @@
 -- Tick by tick, a schedule is played whole.
 use Rattle.std.proofs.Common.{◌≡◌, ℕ, ◌+◌, ◌<◌, ◌≤◌, List, [], ◌∷◌, ◌++◌, length, map, drop, None, Some, Option, refl, ap, sym, ◌∙◌, arith}
-use Rattle.std.specs.Prelude.{Ok, Err, IfErr, IsErrAnd}
+use Rattle.std.specs.Prelude.{IfErr, IsErrAnd}
 use Rattle.std.specs.declared.result.Result.{Result}
 use Rattle.delay_core.proofs.Common.{option_or, newest, PlayFault, PlayState, no_events, next_tick, after_plans, rounds_fault, PlannedTick, ticks_fault, first_opened, schedule_fault, tick_of, rest_of}
 use Rattle.std.proofs.lemmas.List.{append_assoc, append-nil, drop_all, drop_more}

@@ -1,6 +1,5 @@
-use Rattle.std.proofs.Common.{◌≡◌, length, get_or, ap, sym, ◌∙◌, arith}
-use Rattle.std.specs.Cmp.{booleans_Decides}
-use Rattle.delay_core.proofs.Common.{get_or_read, value_from}
+use Rattle.std.proofs.Common.{◌≡◌, length, get_or, ◌∙◌, arith}
+use Rattle.delay_core.proofs.Common.{get_or_read}
 use Rattle.delay_core.specs.Entries.{IsJump}
 use Rattle.delay_core.proofs.EntryLemmas.{writes, writes_same}
 use Rattle.delay_core.proofs.entries.write.Goals as goal

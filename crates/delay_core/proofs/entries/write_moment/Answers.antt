@@ -1,4 +1,4 @@
-use Rattle.std.proofs.Common.{◌≡◌, ◌∙◌, length, arith}
+use Rattle.std.proofs.Common.{arith}
 use Rattle.delay_core.proofs.EntryLemmas.{front-more, front-all}
 use Rattle.delay_core.proofs.entries.write_moment.Goals as goal
 

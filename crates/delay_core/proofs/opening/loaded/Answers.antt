@@ -1,5 +1,5 @@
 use Rattle.std.proofs.Common.{◌≡◌, ◌<◌, Bool, List, false, length, get_or, sym, ap, ◌∙◌, arith}
-use Rattle.delay_core.proofs.Common.{get_or-map, length-map, take_all, count, newest, bit_at, loaded_at}
+use Rattle.delay_core.proofs.Common.{get_or-map, length-map, take_all, newest, bit_at, loaded_at}
 use Rattle.std.proofs.lemmas.Option.{get_or_from_slice_get}
 use Rattle.netlist.specs.declared.parts.Latch.{Latch}
 use Rattle.delay_core.proofs.ReadingLemmas.{pushed}

@@ -1,6 +1,6 @@
-use Rattle.std.proofs.Common.{◌≡◌, ◌∷◌, [], ◌++◌, Bool, List, length, reverse, All, ap, sym, ◌∙◌, arith}
+use Rattle.std.proofs.Common.{◌≡◌, ◌∷◌, [], Bool, List, length, All, ap, sym, ◌∙◌, arith}
 use Rattle.std.proofs.lemmas.Grind.{reverse_onto}
-use Rattle.delay_core.proofs.Common.{All-head, All-tail, History, Moment, newest, Told}
+use Rattle.delay_core.proofs.Common.{All-head, All-tail, newest, Told}
 use Rattle.delay_core.proofs.opening.timeline_of.Goals as goal
 
 pub of-requires-2 : goal.of-requires-2

@@ -1,4 +1,4 @@
-use Rattle.std.proofs.Common.{◌≡◌, ◌<◌, false, length, get_or, sym, ◌∙◌, arith}
+use Rattle.std.proofs.Common.{◌<◌, false, length, arith}
 use Rattle.delay_core.proofs.Common.{take_all, seen}
 use Rattle.delay_core.proofs.ReadingLemmas.{length-seen, seen-at, pushed}
 use Rattle.delay_core.proofs.reading.read_pins.Goals as goal

@@ -1,5 +1,5 @@
 use Rattle.std.proofs.Common.{◌≡◌, ◌+◌, ◌<◌, Bool, List, ℕ, false, length, get_or, ap, sym, ◌∙◌, arith}
-use Rattle.delay_core.proofs.Common.{take_all, length-map, get_or-map, bits, Parts, count, newest, given_at}
+use Rattle.delay_core.proofs.Common.{take_all, length-map, get_or-map, bits, newest, given_at}
 use Rattle.std.proofs.lemmas.List.{get_or-take, length-take}
 use Rattle.cyc_base.specs.declared.trit.Trit.TheVariants.{X}
 use Rattle.cyc_base.specs.Values.{bit}

@@ -1,6 +1,5 @@
 -- The values of a tick have an entry for each signal.
-use Rattle.std.proofs.Common.{◌≡◌, ◌+◌, ◌++◌, List, length, ap, ◌∙◌, arith}
-use Rattle.std.proofs.lemmas.List.{length-append}
+use Rattle.std.proofs.Common.{◌+◌, ◌++◌, List, arith}
 use Rattle.cyc_base.specs.declared.trit.Trit.{Trit}
 use Rattle.simulation.proofs.LoadLemmas.{length-fix}
 use Rattle.delay_core.proofs.whole.is_settled.Goals as goal

@@ -1,6 +1,4 @@
-use Rattle.std.proofs.Common.{◌<◌, ◌∙◌, ℕ, List, length, ap, arith}
-use Rattle.delay_core.proofs.Common.{PlayState, SeenPlay, most_rounds}
-use Rattle.delay_core.specs.Plays.{after_round}
+use Rattle.std.proofs.Common.{arith}
 use Rattle.delay_core.proofs.FairLemmas.{events_keep}
 use Rattle.delay_core.proofs.whole.play_round.Goals as goal
 

@@ -1,8 +1,7 @@
 -- Tick by tick, a run is played whole.
-use Rattle.std.proofs.Common.{◌≡◌, ◌⊎◌, [], inl, inr, map, reverse, Some, arith}
-use Rattle.delay_core.proofs.Common.{PlayFault, schedule_fault, tick_of}
+use Rattle.std.proofs.Common.{[], map, reverse, arith}
+use Rattle.delay_core.proofs.Common.{PlayFault, tick_of}
 use Rattle.delay_core.specs.ScheduledRuns.{Scheduled, planned}
-use Rattle.delay_core.specs.declared.fault.PlayFault.TheVariants.{Memory}
 use Rattle.delay_core.proofs.EndLemmas.{ticks_told, ticks_in_time, inputs_fit}
 use Rattle.delay_core.proofs.UnfairLemmas.{schedule_iff}
 use Rattle.delay_core.proofs.WholeLemmas.{err_is, first_opens, next_opens, tick_fails, tick_played, whole_none, whole_ends, whole_changes}

@@ -1,5 +1,4 @@
-use Rattle.std.proofs.Common.{ap, ◌∙◌, arith}
-use Rattle.delay_core.proofs.Common.{PlayState}
+use Rattle.std.proofs.Common.{arith}
 use Rattle.delay_core.proofs.FairLemmas.{rounds_net}
 use Rattle.delay_core.proofs.whole.play_tick.Goals as goal
 

@@ -1,4 +1,4 @@
-use Rattle.std.proofs.Common.{refl, arith}
+use Rattle.std.proofs.Common.{arith}
 use Rattle.delay_core.proofs.ReadingLemmas.{starts-push}
 use Rattle.delay_core.proofs.play.Play.add.Goals as goal
 

@@ -1,6 +1,5 @@
-use Rattle.std.proofs.Common.{◌≡◌, ◌-◌, suc, Bool, true, false, length, refl, ap, ◌∙◌, arith}
+use Rattle.std.proofs.Common.{◌≡◌, ◌-◌, Bool, true, false, arith}
 use Rattle.std.proofs.Math.Bool.{beq}
-use Rattle.delay_core.proofs.Common.{Sig, gate_sig, bit_at, newest}
 use Rattle.delay_core.specs.Plays.{differ}
 use Rattle.delay_core.proofs.ReadingLemmas.{length-starts}
 use Rattle.delay_core.proofs.play.Play.change_to.Goals as goal

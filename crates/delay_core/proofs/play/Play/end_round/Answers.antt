@@ -1,5 +1,5 @@
-use Rattle.std.proofs.Common.{◌≡◌, ◌∷◌, ◌<◌, ◌≤◌, ℕ, suc, List, Bool, not, length, replicate, false, None, refl, ap, sym, ◌∙◌, arith}
-use Rattle.delay_core.proofs.Common.{position, SeenPlay, starts_of, no_events, most_rounds}
+use Rattle.std.proofs.Common.{◌≡◌, ℕ, List, Bool, not, replicate, false, None, ap, sym, ◌∙◌, arith}
+use Rattle.delay_core.proofs.Common.{position, no_events}
 use Rattle.delay_core.specs.Plays.{IsPlay}
 use Rattle.delay_core.proofs.PlayLemmas.{round_ends, none_had}
 use Rattle.delay_core.proofs.ReadingLemmas.{length-starts, start-next}

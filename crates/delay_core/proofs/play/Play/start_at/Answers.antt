@@ -1,6 +1,6 @@
-use Rattle.std.proofs.Common.{◌≡◌, ◌∷◌, [], ◌++◌, ◌+◌, ℕ, suc, List, Bool, length, reverse, false, replicate, refl, ap, ap₂, sym, ◌∙◌, arith}
+use Rattle.std.proofs.Common.{◌≡◌, ◌∷◌, ◌++◌, ◌+◌, suc, List, Bool, length, reverse, false, replicate, ap, ◌∙◌, arith}
 use Rattle.std.proofs.lemmas.List.{length-append, length-reverse}
-use Rattle.delay_core.proofs.Common.{count, wires, History, newest, no_events, starts_of}
+use Rattle.delay_core.proofs.Common.{count, wires, History, newest, no_events}
 use Rattle.delay_core.proofs.PlayLemmas.{opens}
 use Rattle.delay_core.proofs.ReadingLemmas.{starts-none}
 use Rattle.delay_core.proofs.play.Play.start_at.Goals as goal

@@ -1,6 +1,5 @@
-use Rattle.std.proofs.Common.{◌≡◌, ◌<◌, ◌≤◌, length, ap, ◌∙◌, arith}
-use Rattle.delay_core.proofs.Common.{gate_at, Event, seen, SeenPlay, first_allowed}
-use Rattle.netlist.specs.Netlists.{no_gate}
+use Rattle.std.proofs.Common.{◌≡◌, ◌<◌, length, ap, arith}
+use Rattle.delay_core.proofs.Common.{gate_at, Event, SeenPlay}
 use Rattle.delay_core.proofs.PlayLemmas.{IsAllowed, is_allowed}
 use Rattle.delay_core.proofs.ReadingLemmas.{start-some, length-seen}
 use Rattle.delay_core.proofs.play.Play.value_of.Goals as goal

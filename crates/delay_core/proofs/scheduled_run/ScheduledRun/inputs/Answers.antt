@@ -1,4 +1,4 @@
-use Rattle.std.proofs.Common.{◌<◌, List, Bool, [], length, ap, ◌∙◌, arith}
+use Rattle.std.proofs.Common.{length, ap, ◌∙◌, arith}
 use Rattle.delay_core.specs.ScheduledRuns.{Scheduled, inputs_at}
 use Rattle.delay_core.proofs.scheduled_run.ScheduledRun.inputs.Goals as goal
 

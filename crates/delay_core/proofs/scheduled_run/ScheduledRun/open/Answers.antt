@@ -1,6 +1,5 @@
 use Rattle.std.proofs.Common.{length, ap, sym, ◌∙◌, arith}
-use Rattle.std.proofs.lemmas.Result.{on_ok_weaker}
-use Rattle.delay_core.proofs.Common.{Parts, SeenPlay, no_events, next_tick}
+use Rattle.delay_core.proofs.Common.{Parts, no_events}
 use Rattle.delay_core.proofs.scheduled_run.ScheduledRun.open.Goals as goal
 
 pub end_tick-requires-clause-inputs : goal.end_tick-requires-clause-inputs

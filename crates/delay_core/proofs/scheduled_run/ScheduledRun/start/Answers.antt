@@ -1,6 +1,4 @@
-use Rattle.std.proofs.Common.{length, refl, ap, ◌∙◌, arith}
-use Rattle.std.proofs.lemmas.Result.{IfOk-weaker}
-use Rattle.delay_core.proofs.Common.{SeenPlay}
+use Rattle.std.proofs.Common.{length, ap, arith}
 use Rattle.delay_core.specs.ScheduledRuns.{Scheduled}
 use Rattle.delay_core.proofs.scheduled_run.ScheduledRun.start.Goals as goal
 

@@ -1,4 +1,4 @@
-use Rattle.std.proofs.Common.{length, refl, ap, arith}
+use Rattle.std.proofs.Common.{refl, arith}
 use Rattle.delay_core.proofs.HistoryLemmas.{size, first_is, first_history}
 use Rattle.delay_core.proofs.timeline.Timeline.of.Goals as goal
 

@@ -1,5 +1,4 @@
-use Rattle.std.proofs.Common.{◌≡◌, ◌+◌, refl, arith}
-use Rattle.delay_core.proofs.Common.{WritesMoment}
+use Rattle.std.proofs.Common.{arith}
 use Rattle.delay_core.proofs.HistoryLemmas.{told-width, history-push}
 use Rattle.delay_core.proofs.timeline.Timeline.push.Goals as goal
 

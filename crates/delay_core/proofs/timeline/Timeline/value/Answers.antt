@@ -1,5 +1,5 @@
-use Rattle.std.proofs.Common.{◌≡◌, ◌<◌, ◌-◌, false, length, get_or, ap, ◌∙◌, arith}
-use Rattle.delay_core.proofs.Common.{get_or_read, moment_at, value_from, Told}
+use Rattle.std.proofs.Common.{◌<◌, ◌-◌, length, arith}
+use Rattle.delay_core.proofs.Common.{get_or_read}
 use Rattle.delay_core.proofs.HistoryLemmas.{told-age, told-width, value-told}
 use Rattle.delay_core.proofs.timeline.Timeline.value.Goals as goal
 
