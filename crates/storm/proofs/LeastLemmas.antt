@@ -21,29 +21,19 @@ use Rattle.storm.specs.Laws.{FirstIsLeast}
 -- ---- a value is the wanted one, or the other
 
 is_wanted : (wanted b : Bool) → (is wanted b ≡ true) ↔ (b ≡ wanted)
-is_wanted true b = (λ e. e, λ e. e)
-is_wanted false true = (λ e. cc, λ e. cc)
-is_wanted false false = (λ e. refl, λ e. refl)
+is_wanted wanted b = grind arith
 
 is_other : (wanted b : Bool) → (is wanted b ≡ false) ↔ (b ≡ not wanted)
-is_other true b = (λ e. e, λ e. e)
-is_other false true = (λ e. refl, λ e. refl)
-is_other false false = (λ e. cc, λ e. cc)
+is_other wanted b = grind arith
 
 other_is : (wanted b : Bool) → b ≢ not wanted → is wanted b ≡ true
-other_is true true n = refl
-other_is false false n = refl
-other_is wanted b n = absurd (n refl)
+other_is wanted b n = grind arith
 
 -- ---- the first that passes a test
 
 none_passes : {A : Type 0} (p : A → Bool) (xs : List A) → (find p xs ≡ None) ↔ (list_all (λ x. not (p x)) xs ≡ true)
 none_passes p [] = (λ e. refl, λ e. refl)
-none_passes p (x ∷ xs) = by (p x) (none_passes p xs)
-  where
-    by : (t : Bool) → (find p xs ≡ None) ↔ (list_all (λ y. not (p y)) xs ≡ true) → (cond t (Some x) (find p xs) ≡ None) ↔ ((not t && list_all (λ y. not (p y)) xs) ≡ true)
-    by true rest = (λ e. cc, λ e. cc)
-    by false rest = rest
+none_passes p (x ∷ xs) = grind (arith, none_passes p xs)
 
 -- no completion passes where none is found
 none_above : (p : List Bool → Bool) (ts : List Trit) → find p (completions ts) ≡ None → (bs : List Bool) → Completes ts bs → p bs ≡ false
@@ -73,13 +63,10 @@ find_split p (t ∷ ts) zero known l x = cc
 -- ---- a value that is possible
 
 none_where : (f : List Bool → Bool) (wanted : Bool) (ts : List Trit) → exact f ts ≡ bit (not wanted) → first_where f wanted ts ≡ None
-none_where f wanted ts out =
-    (none_passes (λ bs. is wanted (f bs)) (completions ts)).1
-    (passes_listed (λ bs. not (is wanted (f bs))) ts (λ bs above. not_from_false (is wanted (f bs)) ((is_other wanted (f bs)).1 (exact_says f ts (not wanted) out bs above))))
+none_where f wanted ts out = grind (arith, none_passes, passes_listed, not_from_false, is_other wanted, exact_says f ts (not wanted) out)
 
 some_is : {A : Type 0} (o : Option A) → o ≢ None → (x : A) × (o ≡ Some x)
-some_is None n = absurd (n refl)
-some_is (Some x) n = (x, refl)
+some_is o n = grind arith
 
 -- there is a first completion with a value that isn't excluded
 pub found_where : (f : List Bool → Bool) (wanted : Bool) (ts : List Trit) → exact f ts ≢ bit (not wanted) → (bs : List Bool) × (first_where f wanted ts ≡ Some bs)
@@ -101,8 +88,7 @@ module _ (f : List Bool → Bool) (wanted : Bool) (ts : List Trit) (n : ℕ) (kn
       ∙ ap (λ o. unwrap_or o []) (sym (find_split (λ cs. is wanted (f cs)) ts n known inside unknown ∙ ap (λ o. option_or o (first_where f wanted (set ts n One))) (none_where f wanted (set ts n Zero) out)))
 
   pub one_possible : exact f ts ≢ bit (not wanted) → exact f (set ts n Zero) ≡ bit (not wanted) → exact f (set (set ts n Zero) n One) ≢ bit (not wanted)
-  one_possible possible out both =
-      possible ((exact_split f ts n (not wanted) unknown).1 (out, ap (exact f) (sym (set-set ts n Zero One)) ∙ both))
+  one_possible possible out both = grind (arith, exact_split f ts n (not wanted) unknown, set-set ts n Zero One)
 
 -- ---- all values are known
 
@@ -118,16 +104,11 @@ completions_of_bits (false ∷ bs) = ap (map (λ cs. false ∷ cs)) (completions
 completions_of_bits (true ∷ bs) = ap (map (λ cs. true ∷ cs)) (completions_of_bits bs)
 
 pub least_of_bits : (f : List Bool → Bool) (wanted : Bool) (bs : List Bool) → exact f (bits bs) ≢ bit (not wanted) → least_where f wanted (bits bs) ≡ bs
-least_of_bits f wanted bs possible =
-    let passes : is wanted (f bs) ≡ true = other_is wanted (f bs) (λ e. possible (exact_at_bits f bs ∙ ap bit e)) in
-    ap (λ all. unwrap_or (find (λ cs. is wanted (f cs)) all) []) (completions_of_bits bs)
-    ∙ ap (λ (t : Bool). unwrap_or (cond t (Some bs) None) []) passes
+least_of_bits f wanted bs possible = grind (arith, other_is wanted (f bs), exact_at_bits f bs, completions_of_bits bs)
 
 -- so they are the least completion
 pub least_is_known : (f : List Bool → Bool) (wanted : Bool) (ts : List Trit) → AreKnown ts (length ts) → exact f ts ≢ bit (not wanted) → least_where f wanted ts ≡ map or_zero ts
-least_is_known f wanted ts known possible =
-    let are = known_are_bits ts known in
-    ap (least_where f wanted) are ∙ least_of_bits f wanted (map or_zero ts) (λ e. possible (ap (exact f) are ∙ e))
+least_is_known f wanted ts known possible = grind (arith, known_are_bits ts known, least_of_bits f wanted (map or_zero ts))
 
 -- ---- the first completion is the least
 
@@ -135,12 +116,10 @@ abbrev IsFirst : (List Bool → Bool) → List Trit → List Bool → Type 0
 IsFirst p ts bs = Completes ts bs × (p bs ≡ true) × ((other : List Bool) → Completes ts other → p other ≡ true → AtMost bs other)
 
 mapped_some : {A B : Type 0} (g : A → B) (o : Option A) (y : B) → option_map g o ≡ Some y → (x : A) × (o ≡ Some x) × (g x ≡ y)
-mapped_some g None y e = cc
-mapped_some g (Some x) y e = (x, refl, (let P : Some (g x) ≡ Some y = e in cc))
+mapped_some g o y e = grind arith
 
 test_some : {A : Type 0} (t : Bool) (x y : A) → cond t (Some x) None ≡ Some y → (x ≡ y) × (t ≡ true)
-test_some true x y e = ((let P : Some x ≡ Some y = e in cc), refl)
-test_some false x y e = cc
+test_some t x y e = grind arith
 
 -- the least with this value in front is the least of all, where none of the others that pass is less
 first_behind : (b : Bool) (p : List Bool → Bool) (t : Trit) (ts : List Trit) (bs : List Bool) → Below t (bit b)
@@ -153,9 +132,7 @@ first_behind b p t ts bs here least found first =
     subst (λ ds. IsFirst p (t ∷ ts) ds) same ((here, rest.0), rest.1, λ other. least cs other rest.2)
 
 pub first_is_least : (p : List Bool → Bool) (ts : List Trit) (bs : List Bool) → find p (completions ts) ≡ Some bs → IsFirst p ts bs
-first_is_least p [] bs e =
-    let (same, passes) = test_some (p []) [] bs e in
-    subst (λ cs. IsFirst p [] cs) same (tt, passes, λ other above ok. tt)
+first_is_least p [] bs e = grind arith
 first_is_least p (Zero ∷ ts) bs e =
     first_behind false p Zero ts bs refl below (sym (find-map p (λ cs. false ∷ cs) (completions ts)) ∙ e) (first_is_least (λ cs. p (false ∷ cs)) ts)
   where
@@ -202,13 +179,7 @@ first_is_least p (X ∷ ts) bs e =
     by lows highs (inr found) = first_behind true p X ts bs tt (below_high (option_map-nothing (λ cs. false ∷ cs) low found.0)) found.1 highs
 
 pub first_where_is_least : FirstIsLeast
-first_where_is_least f wanted ts bs found =
-    let (above, passes, below) = first_is_least (λ cs. is wanted (f cs)) ts bs found in
-    record {
-      above = above;
-      value = (is_wanted wanted (f bs)).0 passes;
-      least = λ other completes same. below other completes ((is_wanted wanted (f other)).1 same);
-    }
+first_where_is_least f wanted ts bs found = grind (arith, first_is_least, is_wanted wanted (f bs), is_wanted wanted)
 
 -- a possible value has a least completion
 pub least_is_least : (f : List Bool → Bool) (wanted : Bool) (ts : List Trit) → exact f ts ≢ bit (not wanted) → IsLeastWhere f wanted ts (least_where f wanted ts)

@@ -28,17 +28,14 @@ use Rattle.storm.proofs.LeastLemmas.{least_is_least}
 use Rattle.storm.proofs.PlanLemmas.{fix_is_fixed, unknown_is_no_bit}
 
 bit_is_known : (b : Bool) → is_unknown (bit b) ≡ false
-bit_is_known true = refl
-bit_is_known false = refl
+bit_is_known b = grind arith
 
 -- two bits above one known value
 pub same_above : (x : Trit) (a b : Bool) → is_unknown x ≡ false → Below x (bit a) → Below x (bit b) → a ≡ b
-same_above X a b known ha hb = cc
-same_above x a b known ha hb = same_bit a b (ha ∙ sym hb)
+same_above x a b known ha hb = grind arith
 
 below_of_unknown : (x y : Trit) → is_unknown x ≡ true → Below x y
-below_of_unknown X y e = tt
-below_of_unknown x y e = cc
+below_of_unknown x y e = grind arith
 
 module _ (net : Parts) (v : List Bool) (valid : IsNetlist net) (wide : length v ≡ length net.inputs + length net.latches) where
   abbrev pub fixed : List Trit
@@ -56,26 +53,13 @@ module _ (net : Parts) (v : List Bool) (valid : IsNetlist net) (wide : length v 
   shakes_is n inside = get_or-map-range_with_len (is_shaking net fixed) 0 (length net.gates) n n false inside (omega arith)
 
   given_is_known : (s : Sig) → s.0 < length net.inputs + length net.latches → is_unknown (wire fixed s) ≡ false
-  given_is_known s inside =
-      let width : length (bits v) ≡ length net.inputs + length net.latches = length-map v bit ∙ wide in
-      ap is_unknown (get_or_append_left (bits v) (fix_gates net (bits v)) X s.0 (omega arith) ∙ get_or-map bit v s.0 false X (omega arith))
-      ∙ bit_is_known (get_or v s.0 false)
+  given_is_known s inside = grind (arith, length-map v bit, get_or_append_left (bits v) (fix_gates net (bits v)) X s.0, get_or-map bit v s.0 false X, bit_is_known (get_or v s.0 false))
 
   -- a signal is that of a shaking gate exactly where it is unknown
   pub of_shaking_is : (s : Sig) → IsSignal net s → is_of_shaking net plan s ≡ is_unknown (wire fixed s)
   of_shaking_is s inside =
       let given : ℕ = length net.inputs + length net.latches in
-      elim (cases_lt s.0 given) [
-        | inl column ↦
-            let early : nat_le given s.0 ≡ false = grind (arith, nat_tests) in
-            ap (λ t. t && shakes plan (s.0 - given)) early ∙ sym (given_is_known s column)
-        | inr late ↦
-            let here : nat_le given s.0 ≡ true = grind (arith, nat_tests) in
-            let place : (gate_sig net (s.0 - given)).0 ≡ s.0 = omega arith in
-            ap (λ t. t && shakes plan (s.0 - given)) here
-            ∙ shakes_is (s.0 - given) (omega (arith, inside))
-            ∙ ap (λ k. is_unknown (get_or fixed k X)) place
-      ]
+      grind (arith, cases_lt s.0 given, nat_tests, given_is_known s, shakes_is (s.0 - given))
 
   -- a shaking signal has the value at which the shaking gates stand
   stands_at : (b : Bool) (m : Moment) (s : Sig) → Stands b m → IsSignal net s → is_unknown (wire fixed s) ≡ true → bit_at m s ≡ b
@@ -99,12 +83,7 @@ module _ (net : Parts) (v : List Bool) (valid : IsNetlist net) (wide : length v 
     pub turn_least : IsLeastWhere (value (gate_at net turn.gate).cover) wanted (map (wire fixed) (gate_at net turn.gate).pins) turn.values
     turn_least =
         let gate : Gate = gate_at net turn.gate in
-        let least : turn.values ≡ least_where (value gate.cover) wanted (map (wire fixed) gate.pins) =
-        values ∙ ap (λ (t : Bool). if t then least_where (value gate.cover) wanted (map (wire fixed) gate.pins) else []) shaking in
-        let unknown : is_unknown (ext gate.cover (map (wire fixed) gate.pins)) ≡ true =
-        ap is_unknown (sym ((fix_is_fixed net v wide).gates turn.gate inside)) ∙ shaking in
-        subst (λ bs. IsLeastWhere (value gate.cover) wanted (map (wire fixed) gate.pins) bs) (sym least)
-        (least_is_least (value gate.cover) wanted (map (wire fixed) gate.pins) (unknown_is_no_bit (ext gate.cover (map (wire fixed) gate.pins)) (not wanted) unknown))
+        grind (arith, fix_is_fixed net v wide, least_is_least (value gate.cover) wanted (map (wire fixed) gate.pins), unknown_is_no_bit (ext gate.cover (map (wire fixed) gate.pins)) (not wanted))
 
     pub turn_width : length turn.values ≡ length (gate_at net turn.gate).pins
     turn_width = sym (Completes-length (map (wire fixed) (gate_at net turn.gate).pins) turn.values turn_least.above) ∙ length-map (gate_at net turn.gate).pins (wire fixed)
@@ -117,17 +96,14 @@ module _ (net : Parts) (v : List Bool) (valid : IsNetlist net) (wide : length v 
 
     -- a pin sees the value that it is to see
     pin_sees : (s : Sig) (b : Bool) → IsSignal net s → Below (wire fixed s) (bit b) → bit_at (moment_at h (pin_age net plan back i (s, b))) s ≡ b
-    pin_sees s b inside below =
-        ap (λ (t : Bool). bit_at (moment_at h (if t && not b then i + back else i)) s) (of_shaking_is s inside)
-        ∙ pin_by s b (is_unknown (wire fixed s)) inside refl below
+    pin_sees s b inside below = grind (arith, of_shaking_is s inside, pin_by s b (is_unknown (wire fixed s)) inside)
 
     pins_see : (pins : List Sig) (bs : List Bool) → All (IsSignal net) pins → Completes (map (wire fixed) pins) bs → seen h pins (map (pin_age net plan back i) (zip pins bs)) ≡ bs
     pins_see [] [] inside above = refl
     pins_see [] (b ∷ bs) inside above = absurd above
     pins_see (s ∷ pins) [] inside above = absurd above
     pins_see (s ∷ pins) (b ∷ bs) inside above =
-        ap (λ c. c ∷ seen h pins (map (pin_age net plan back i) (zip pins bs))) (pin_sees s b (All-head (IsSignal net) s pins inside) above.0)
-        ∙ ap (λ l. b ∷ l) (pins_see pins bs (All-tail (IsSignal net) s pins inside) above.1)
+        grind (arith, pin_sees s b (All-head (IsSignal net) s pins inside) above.0, All-head (IsSignal net) s pins inside, pins_see pins bs (All-tail (IsSignal net) s pins inside) above.1, All-tail (IsSignal net) s pins inside)
 
     resting_see : (pins : List Sig) → seen h pins (map (λ (pin : Sig). i) pins) ≡ map (bit_at (moment_at h i)) pins
     resting_see [] = refl
@@ -145,20 +121,13 @@ module _ (net : Parts) (v : List Bool) (valid : IsNetlist net) (wide : length v 
 
       -- a shaking gate takes the value that its turn is to give
       pub shaking_takes : (wanted : Bool) → is_shaking net fixed turn.gate ≡ true → turn.values ≡ pin_values net fixed wanted turn.gate → event_at ≡ wanted
-      shaking_takes wanted shaking values =
-          let is = turn_least turn inside wanted shaking values in
-          rw (shakes_is turn.gate inside, shaking, pins_see gate.pins turn.values signals is.above) is.value
+      shaking_takes wanted shaking values = grind (arith, turn_least turn inside wanted shaking values, shakes_is turn.gate inside, pins_see gate.pins turn.values signals, signals)
 
       -- any other keeps its value of the fixpoint
       resting_by : (shaking : Bool) → is_shaking net fixed turn.gate ≡ shaking → Below (wire fixed (gate_sig net turn.gate)) (bit event_at)
       resting_by true is = below_of_unknown (wire fixed (gate_sig net turn.gate)) (bit event_at) is
       resting_by false is =
-          let sees : event_at ≡ value gate.cover (map (bit_at (moment_at h i)) gate.pins) = rw (shakes_is turn.gate inside, is, resting_see gate.pins) refl in
-          let P : Bool → Type 0 = λ b. Below (wire fixed (gate_sig net turn.gate)) (bit b) in
-          let Q : Trit → Type 0 = λ x. Below x (bit (value gate.cover (map (bit_at (moment_at h i)) gate.pins))) in
-          subst P (sym sees)
-          (subst Q (sym ((fix_is_fixed net v wide).gates turn.gate inside))
-          (ext_below_value gate.cover (map (wire fixed) gate.pins) (map (bit_at (moment_at h i)) gate.pins) (signals_above fixed (moment_at h i) gate.pins ones.above)))
+          grind (arith, shakes_is turn.gate inside, resting_see gate.pins, fix_is_fixed net v wide, ext_below_value gate.cover (map (wire fixed) gate.pins) (map (bit_at (moment_at h i)) gate.pins) (signals_above fixed (moment_at h i) gate.pins ones.above), signals_above fixed (moment_at h i) gate.pins ones.above)
 
       pub takes_above : Below (wire fixed (gate_sig net turn.gate)) (bit event_at)
       takes_above = resting_by (is_shaking net fixed turn.gate) refl

@@ -29,9 +29,7 @@ module _ (net : Parts) (v : List Bool) (wide : length v ≡ length net.inputs + 
   length-given = length-map v bit ∙ wide
 
   pub fix_at_gate : (n : ℕ) → wire (fix net (bits v)) (gate_sig net n) ≡ get_or (fix_gates net (bits v)) n X
-  fix_at_gate n =
-      let width : length (bits v) ≡ length net.inputs + length net.latches = length-given in
-      rw width at (get_or-append-add (bits v) (fix_gates net (bits v)) n X)
+  fix_at_gate n = grind (arith, length-given, get_or-append-add (bits v) (fix_gates net (bits v)) n X)
 
   pub fix_is_fixed : AreFixed net (fix net (bits v))
   fix_is_fixed = record {
@@ -45,8 +43,7 @@ module _ (net : Parts) (v : List Bool) (wide : length v ≡ length net.inputs + 
 -- ---- a known or unknown value
 
 pub unknown_is_no_bit : (x : Trit) (b : Bool) → is_unknown x ≡ true → x ≢ bit b
-unknown_is_no_bit x true e same = let h : is_unknown (bit true) ≡ true = ap is_unknown (sym same) ∙ e in cc
-unknown_is_no_bit x false e same = let h : is_unknown (bit false) ≡ true = ap is_unknown (sym same) ∙ e in cc
+unknown_is_no_bit x b e same = grind arith
 
 -- ---- lists that grow
 
@@ -54,13 +51,11 @@ range_more : (n : ℕ) → range_with_len 0 (n + 1) ≡ range_with_len 0 n ++ n 
 range_more n = sym (map-id (range_with_len 0 (n + 1))) ∙ map-range_with_len_more (λ k. k) 0 n n (omega arith) ∙ ap (λ l. l ++ n ∷ []) (map-id (range_with_len 0 n))
 
 at_least : (rounds turns : ℕ) → 1 ≤ rounds → rounds * turns ≤ most_events → turns ≤ most_events
-at_least (suc rounds) turns some few = let e = suc-mul rounds turns in omega (arith, e, few)
-at_least zero turns some few = absurd (omega (arith, some))
+at_least rounds turns some few = grind arith
 
 -- one more item of a list by numbers
 pub one_more : {T : Type 0} (f : ℕ → T) (n : ℕ) (old new : List T) (x : T) → new ≡ old ++ x ∷ [] → old ≡ map f (range_with_len 0 n) → x ≡ f n → new ≡ map f (range_with_len 0 (n + 1))
-one_more f n old new x pushed listed is =
-    pushed ∙ ap (λ l. l ++ x ∷ []) listed ∙ ap (λ y. map f (range_with_len 0 n) ++ y ∷ []) is ∙ sym (map-range_with_len_more f 0 n n (omega arith))
+one_more f n old new x pushed listed is = grind (arith, map-range_with_len_more f 0 n n)
 
 module _ (net : Parts) (plan : StormPlan) (back : ℕ) where
   pub length-turn_events : (i : ℕ) (ts : List Turn) → length (turn_events net plan back i ts) ≡ length ts
@@ -69,17 +64,14 @@ module _ (net : Parts) (plan : StormPlan) (back : ℕ) where
 
   pub turn_events-append : (i : ℕ) (ts us : List Turn) → turn_events net plan back i (ts ++ us) ≡ turn_events net plan back i ts ++ turn_events net plan back (i + length ts) us
   turn_events-append i [] us = ap (λ j. turn_events net plan back j us) (let e : i ≡ i + 0 = omega arith in e)
-  turn_events-append i (t ∷ ts) us =
-      ap (λ l. turn_event net plan back i t ∷ l)
-      (turn_events-append (suc i) ts us ∙ ap (λ j. turn_events net plan back (suc i) ts ++ turn_events net plan back j us) (let e : suc i + length ts ≡ i + suc (length ts) = omega arith in e))
+  turn_events-append i (t ∷ ts) us = grind (arith, turn_events-append (suc i) ts us)
 
   -- the first half with one more gate
   pub low_more : (n : ℕ) (old new : List PlannedEvent) (values : List Bool) → new ≡ old ++ turn_event net plan back (length old) (record { gate = n; values = values }) ∷ []
       → values ≡ get_or plan.low n [] → old ≡ turn_events net plan back 0 (map (low_turn plan) (range_with_len 0 n)) → new ≡ turn_events net plan back 0 (map (low_turn plan) (range_with_len 0 (n + 1)))
   low_more n old new values pushed is listed =
       let before : List Turn = map (low_turn plan) (range_with_len 0 n) in
-      let count : length old ≡ 0 + length before = ap length listed ∙ length-turn_events 0 before ∙ (let e : length before ≡ 0 + length before = omega arith in e) in
-      rw (pushed, count, listed, is, map-range_with_len_more (low_turn plan) 0 n n (omega arith)) (sym (turn_events-append 0 before (low_turn plan n ∷ [])))
+      grind (arith, length-turn_events 0 before, map-range_with_len_more (low_turn plan) 0 n n, turn_events-append 0 before (low_turn plan n ∷ []))
 
   pub low_count : (n : ℕ) → length (turn_events net plan back 0 (map (low_turn plan) (range_with_len 0 n))) ≡ n
   low_count n = length-turn_events 0 (map (low_turn plan) (range_with_len 0 n)) ∙ length-map-range_with_len (low_turn plan) 0 n
@@ -89,10 +81,7 @@ module _ (net : Parts) (plan : StormPlan) (back : ℕ) where
   high_turns n = map (high_turn plan) (filter (shakes plan) (range_with_len 0 n))
 
   high_turns-more : (n : ℕ) → high_turns (n + 1) ≡ high_turns n ++ map (high_turn plan) (filter (shakes plan) (n ∷ []))
-  high_turns-more n =
-      ap (λ l. map (high_turn plan) (filter (shakes plan) l)) (range_more n)
-      ∙ ap (map (high_turn plan)) (filter-append (shakes plan) (range_with_len 0 n) (n ∷ []))
-      ∙ map-append (high_turn plan) (filter (shakes plan) (range_with_len 0 n)) (filter (shakes plan) (n ∷ []))
+  high_turns-more n = grind (arith, range_more n, filter-append (shakes plan) (range_with_len 0 n) (n ∷ []), map-append (high_turn plan) (filter (shakes plan) (range_with_len 0 n)) (filter (shakes plan) (n ∷ [])))
 
   pub high_more : (n : ℕ) (first old new : List PlannedEvent) → new ≡ old ++ turn_events net plan back (length old) (map (high_turn plan) (filter (shakes plan) (n ∷ [])))
       → old ≡ first ++ turn_events net plan back (length first) (high_turns n) → new ≡ first ++ turn_events net plan back (length first) (high_turns (n + 1))
@@ -116,8 +105,7 @@ module _ (net : Parts) (plan : StormPlan) (back : ℕ) where
 -- ---- the plan of a vector
 
 if_some : {A : Type 0} (t : Bool) (x y : A) → (if t then Some x else None) ≡ Some y → y ≡ x
-if_some true x y e = let P : Some x ≡ Some y = e in cc
-if_some false x y e = cc
+if_some t x y e = grind arith
 
 module _ (net : Parts) (v : List Bool) (plan : StormPlan) where
   values_of_plan : (values : List Trit) → plan ≡ plan_at net values → values ≡ fix net (bits v) → if_shaking plan ≡ storm_plan net v
@@ -149,8 +137,7 @@ module _ (net : Parts) (v : List Bool) (plan : StormPlan) where
 -- ---- rounds
 
 few_by : (net : Parts) (plan : StormPlan) (first : Bool) → FitsRound net plan → (if first then 1 else shaking_count plan) ≤ most_events
-few_by net plan true fits = omega arith
-few_by net plan false fits = let few = fits.few in omega arith
+few_by net plan first fits = grind arith
 
 pub few_back : (net : Parts) (plan : StormPlan) (n : ℕ) → FitsRound net plan → zeros_back plan n ≤ most_events
 few_back net plan n fits = few_by net plan (n == 0) fits
@@ -162,9 +149,7 @@ pub both_halves : (net : Parts) (plan : StormPlan) (back : ℕ) (low all : List 
 both_halves net plan back low all is whole =
     let first : List Turn = each_gate net (low_turn plan) in
     let second : List Turn = high_turns net plan back (length net.gates) in
-    let count : length low ≡ 0 + length first = ap length is ∙ length-turn_events net plan back 0 first ∙ (let e : length first ≡ 0 + length first = omega arith in e) in
-    let events : all ≡ turn_events net plan back 0 (turns net plan) = rw (whole, count, is) (sym (turn_events-append net plan back 0 first second)) in
-    ap (λ es. record { line = 0; events = es }) events
+    grind (arith, length-turn_events net plan back 0 first, turn_events-append net plan back 0 first second)
 
 -- a product that is cut off at the greatest number, and isn't over the limit
 pub not_over : (events found : ℕ) → found ≡ min events 18446744073709551615 → found ≤ most_events → events ≤ most_events
@@ -174,9 +159,4 @@ not_over events found is few = let few : min events 18446744073709551615 ≤ mos
 pub unknown_gates_have_plans : UnknownGatesHavePlans
 unknown_gates_have_plans net v n inside unknown =
     let values : List Trit = fix net (bits v) in
-    let shaking : List Bool = map (is_shaking net values) (range_with_len 0 (length net.gates)) in
-    let here : get_or shaking n false ≡ true =
-    get_or-map-range_with_len (is_shaking net values) 0 (length net.gates) n n false inside (omega arith) ∙ ap is_unknown unknown in
-    let width : length shaking ≡ length net.gates = length-map-range_with_len (is_shaking net values) 0 (length net.gates) in
-    let any : list_any (λ shakes. shakes) shaking ≡ true = list_any_at (λ shakes. shakes) shaking n false (omega (arith, inside, width)) here in
-    ap (λ (t : Bool). if t then Some (plan_at net values) else None) any
+    grind (arith, get_or-map-range_with_len (is_shaking net values) 0 (length net.gates) n n false inside, length-map-range_with_len (is_shaking net values) 0 (length net.gates), list_any_at)

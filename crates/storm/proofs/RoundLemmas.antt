@@ -29,9 +29,7 @@ after_events-append net h (e ∷ es) fs = after_events-append net (next_moment n
 -- the moments before some events, by their ages behind these
 pub older_moment : (net : Parts) (h : History) (es : List Event) (j : ℕ) → moment_at (after_events net h es) (length es + j) ≡ moment_at h j
 older_moment net h [] j = ap (moment_at h) (let e : 0 + j ≡ j = omega arith in e)
-older_moment net h (e ∷ es) j =
-    ap (moment_at (after_events net h (e ∷ es))) (let same : suc (length es) + j ≡ length es + suc j = omega arith in same)
-    ∙ older_moment net (next_moment net h e ∷ h) es (suc j)
+older_moment net h (e ∷ es) j = grind (arith, older_moment net (next_moment net h e ∷ h) es (suc j))
 
 length-mapped : {A B C : Type 0} (f : A × B → C) (xs : List A) (ys : List B) → length ys ≡ length xs → length (map f (zip xs ys)) ≡ length xs
 length-mapped f [] ys e = refl
@@ -50,17 +48,13 @@ range-add a (suc m) n =
 
 -- a range around one of its numbers
 pub range_around : (k n : ℕ) → k < n → range_with_len 0 n ≡ range_with_len 0 k ++ (k ∷ range_with_len (k + 1) (n - k - 1))
-range_around k n inside =
-    ap (range_with_len 0) (let e : n ≡ k + suc (n - k - 1) = omega (arith, inside) in e)
-    ∙ range-add 0 k (suc (n - k - 1))
-    ∙ ap (λ j. range_with_len 0 k ++ (j ∷ range_with_len (j + 1) (n - k - 1))) (let e : 0 + k ≡ k = omega arith in e)
+range_around k n inside = grind (arith, range-add 0 k (suc (n - k - 1)))
 
 range_below : (a n k : ℕ) → a + n ≤ k → All (λ j. j < k) (range_with_len a n)
 range_below a n k l = λ i d inside. omega (arith, get_or-range_with_len a n i d (omega (arith, length-range_with_len a n)), length-range_with_len a n)
 
 range_not : (a n k : ℕ) → (a + n ≤ k) ⊎ (k < a) → All (λ j. j ≢ k) (range_with_len a n)
-range_not a n k (inl l) = λ i d inside e. omega (arith, get_or-range_with_len a n i d (omega (arith, length-range_with_len a n)), length-range_with_len a n)
-range_not a n k (inr l) = λ i d inside e. omega (arith, get_or-range_with_len a n i d (omega (arith, length-range_with_len a n)), length-range_with_len a n)
+range_not a n k h = grind (arith, get_or-range_with_len, length-range_with_len)
 
 map_all : {A B : Type 0} (P : A → Type 0) (Q : B → Type 0) (f : A → B) (xs : List A) → ((x : A) → P x → Q (f x)) → All P xs → All Q (map f xs)
 map_all P Q f xs h all = All-map Q f xs (All-weaker P (λ x. Q (f x)) h xs all)
@@ -80,9 +74,7 @@ module _ (net : Parts) (v : List Bool) (valid : IsNetlist net) (wide : length v 
   events back i ts = map (λ planned. planned.event) (turn_events net the_plan back i ts)
 
   pub events-append : (back i : ℕ) (ts us : List Turn) → events back i (ts ++ us) ≡ events back i ts ++ events back (i + length ts) us
-  events-append back i ts us =
-      ap (map (λ planned. planned.event)) (turn_events-append net the_plan back i ts us)
-      ∙ map-append (λ (planned : PlannedEvent). planned.event) (turn_events net the_plan back i ts) (turn_events net the_plan back (i + length ts) us)
+  events-append back i ts us = grind (arith, turn_events-append net the_plan back i ts us, map-append)
 
   pub length-events : (back i : ℕ) (ts : List Turn) → length (events back i ts) ≡ length ts
   length-events back i ts = length-map (turn_events net the_plan back i ts) (λ (planned : PlannedEvent). planned.event) ∙ length-turn_events net the_plan back i ts
@@ -191,9 +183,7 @@ module _ (net : Parts) (v : List Bool) (valid : IsNetlist net) (wide : length v 
     module _ (shaking : is_shaking net all_fixed k ≡ true) where
       highs_around : highs 0 G ≡ highs 0 k ++ (high_turn the_plan k ∷ highs (k + 1) left)
       highs_around =
-          ap (λ l. map (high_turn the_plan) (filter (shakes the_plan) l)) (range_around k G inside)
-          ∙ rw (filter-append (shakes the_plan) (range_with_len 0 k) (k ∷ range_with_len (k + 1) left), shakes_is net v valid wide k inside, shaking)
-          (map-append (high_turn the_plan) (filter (shakes the_plan) (range_with_len 0 k)) (k ∷ filter (shakes the_plan) (range_with_len (k + 1) left)))
+          grind (arith, range_around k G inside, filter-append (shakes the_plan) (range_with_len 0 k) (k ∷ range_with_len (k + 1) left), shakes_is net v valid wide k inside, map-append (high_turn the_plan) (filter (shakes the_plan) (range_with_len 0 k)) (k ∷ filter (shakes the_plan) (range_with_len (k + 1) left)))
 
       turns_around : lows 0 G ++ highs 0 G ≡ lows 0 k ++ (low_turn the_plan k ∷ ((lows (k + 1) left ++ highs 0 k) ++ (high_turn the_plan k ∷ highs (k + 1) left)))
       turns_around = rw (lows_around, highs_around) (simp append_assoc)
@@ -255,16 +245,10 @@ module _ (net : Parts) (v : List Bool) (valid : IsNetlist net) (wide : length v 
           ∙ turn_gives back (i + length ahead) h1 turn d1 is.gate wanted is there
 
       pub lows_give : (back : ℕ) (h : History) → During back 0 h → bit_at (newest (after_events net h (events back 0 (lows 0 G)))) (gate_sig net k) ≡ false
-      lows_give back h during =
-          ap (λ ts. bit_at (newest (after_events net h (events back 0 ts))) (gate_sig net k)) lows_around
-          ∙ half_gives back 0 h false (lows 0 k) (lows (k + 1) left) (low_turn the_plan k) during (lows_inside 0 k (omega (arith, inside))) (lows_inside (k + 1) left (omega (arith, inside)))
-          (lows_not (k + 1) left k (inr (omega arith))) refl (low_is k inside)
+      lows_give back h during = grind (arith, lows_around, half_gives back 0 h false (lows 0 k) (lows (k + 1) left) (low_turn the_plan k) during, lows_inside 0 k, lows_inside (k + 1) left, lows_not (k + 1) left k, low_is k inside)
 
       pub highs_give : (back i : ℕ) (h : History) → During back i h → bit_at (newest (after_events net h (events back i (highs 0 G)))) (gate_sig net k) ≡ true
-      highs_give back i h during =
-          ap (λ ts. bit_at (newest (after_events net h (events back i ts))) (gate_sig net k)) highs_around
-          ∙ half_gives back i h true (highs 0 k) (highs (k + 1) left) (high_turn the_plan k) during (highs_inside 0 k (omega (arith, inside))) (highs_inside (k + 1) left (omega (arith, inside)))
-          (highs_not (k + 1) left k (inr (omega arith))) refl (high_is k inside)
+      highs_give back i h during = grind (arith, highs_around, half_gives back i h true (highs 0 k) (highs (k + 1) left) (high_turn the_plan k) during, highs_inside 0 k, highs_inside (k + 1) left, highs_not (k + 1) left k, high_is k inside)
 
   -- behind a round the shaking gates stand at 1, and behind its first half they stood at 0
   pub round_leads : (back : ℕ) (h : History) → During back 0 h → During (length (highs 0 G)) 0 (after_events net h (events back 0 (lows 0 G ++ highs 0 G)))
@@ -276,26 +260,13 @@ module _ (net : Parts) (v : List Bool) (valid : IsNetlist net) (wide : length v 
       let d1 : During back i h1 = turns_keep back 0 h (lows 0 G) during (lows_inside 0 G all_inside) in
       let d2 : During back (i + length (highs 0 G)) h2 = turns_keep back i h1 (highs 0 G) d1 (highs_inside 0 G all_inside) in
       let low_end : Stands net v valid wide false (newest h1) = record { above = newest_above back i h1 d1; at = λ n inside shaking. lows_give n inside shaking back h during } in
-      let there : moment_at h2 (0 + length (highs 0 G)) ≡ newest h1 =
-      ap (moment_at h2) (let e : 0 + length (highs 0 G) ≡ length (highs 0 G) + 0 = omega arith in e)
-      ∙ ap (λ n. moment_at h2 (n + 0)) (sym (length-events back i (highs 0 G)))
-      ∙ older_moment net h1 (events back i (highs 0 G)) 0 in
-      let whole : after_events net h (events back 0 (lows 0 G ++ highs 0 G)) ≡ h2 =
-      ap (after_events net h) (events-append back 0 (lows 0 G) (highs 0 G)) ∙ after_events-append net h (events back 0 (lows 0 G)) (events back i (highs 0 G)) in
-      subst (λ past. During (length (highs 0 G)) 0 past) (sym whole)
-      (record {
-        all = d2.all;
-        some = d2.some;
-        ones = record { above = newest_above back (i + length (highs 0 G)) h2 d2; at = λ n inside shaking. highs_give n inside shaking back i h1 d1 };
-        zeros = subst (λ m. Stands net v valid wide false m) (sym there) low_end;
-      })
+      grind (arith, length-events back i (highs 0 G), older_moment net h1 (events back i (highs 0 G)) 0, events-append back 0 (lows 0 G) (highs 0 G), after_events-append net h (events back 0 (lows 0 G)) (events back i (highs 0 G)), newest_above back (i + length (highs 0 G)) h2 d2, highs_give)
 
   -- ---- a round is fair
 
   ages_width : (back i : ℕ) (turn : Turn) (wanted shaking : Bool) → is_shaking net all_fixed turn.gate ≡ shaking → IsTurnTo wanted turn → length (ages net the_plan back i turn) ≡ length (gate_at net turn.gate).pins
   ages_width back i turn wanted true is to =
-      rw (shakes_is net v valid wide turn.gate to.gate, is)
-      (length-mapped (pin_age net the_plan back i) (gate_at net turn.gate).pins turn.values (turn_width net v valid wide turn to.gate wanted is (to.values is)))
+      grind (arith, shakes_is net v valid wide turn.gate to.gate, length-mapped (pin_age net the_plan back i) (gate_at net turn.gate).pins turn.values (turn_width net v valid wide turn to.gate wanted is (to.values is)), turn_width net v valid wide turn to.gate wanted is (to.values is))
   ages_width back i turn wanted false is to = rw (shakes_is net v valid wide turn.gate to.gate, is) (length-map (gate_at net turn.gate).pins (λ (pin : Sig). i))
 
   turns_valid : (back i : ℕ) (ts : List Turn) → All IsTurn ts → All (IsEventOf net) (events back i ts)
@@ -308,8 +279,7 @@ module _ (net : Parts) (v : List Bool) (valid : IsNetlist net) (wide : length v 
 
   -- no age is over that of the zeros
   age_by : (back i : ℕ) (t : Bool) → (if t then i + back else i) ≤ i + back
-  age_by back i true = omega arith
-  age_by back i false = omega arith
+  age_by back i t = grind arith
 
   ages_by : (back i : ℕ) (pins : List Sig) (values : List Bool) (t : Bool) → All (λ age. age ≤ i + back) (if t then map (pin_age net the_plan back i) (zip pins values) else map (λ (pin : Sig). i) pins)
   ages_by back i pins values true =
@@ -319,11 +289,7 @@ module _ (net : Parts) (v : List Bool) (valid : IsNetlist net) (wide : length v 
 
   turns_read : (back i first size : ℕ) (ts : List Turn) → first + (i + back) ≤ size → ReadsFrom first size (events back i ts)
   turns_read back i first size [] l = tt
-  turns_read back i first size (turn ∷ ts) l = (
-    All-weaker (λ age. age ≤ i + back) (λ age. first + age ≤ size) (λ age few. omega (arith, few, l)) (ages net the_plan back i turn)
-        (ages_by back i (gate_at net turn.gate).pins turn.values (shakes the_plan turn.gate)),
-    turns_read back (suc i) first (suc size) ts (omega (arith, l)),
-  )
+  turns_read back i first size (turn ∷ ts) l = grind (arith, All-weaker, ages_by back i (gate_at net turn.gate).pins turn.values (shakes the_plan turn.gate), turns_read back (suc i) first (suc size) ts)
 
   pub round_is_fair : (back first size : ℕ) → first + back ≤ size → IsFairRound net first size (events back 0 (lows 0 G ++ highs 0 G))
   round_is_fair back first size l = record {

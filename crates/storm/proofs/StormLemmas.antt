@@ -34,11 +34,7 @@ use Rattle.storm.proofs.RoundLemmas.{lows, highs, During, round_leads, round_is_
 
 mapped_count : {A : Type 0} (p : A → Bool) (xs : List A) → length (filter (λ b. b) (map p xs)) ≡ length (filter p xs)
 mapped_count p [] = refl
-mapped_count p (x ∷ xs) = by (p x) (mapped_count p xs)
-  where
-    by : (t : Bool) → length (filter (λ b. b) (map p xs)) ≡ length (filter p xs) → length (cond t (t ∷ filter (λ b. b) (map p xs)) (filter (λ b. b) (map p xs))) ≡ length (cond t (x ∷ filter p xs) (filter p xs))
-    by true rest = ap suc rest
-    by false rest = rest
+mapped_count p (x ∷ xs) = grind (arith, mapped_count p xs)
 
 filter_same : {A : Type 0} (p q : A → Bool) (xs : List A) → All (λ x. p x ≡ q x) xs → filter p xs ≡ filter q xs
 filter_same p q [] same = refl
@@ -56,12 +52,10 @@ zip_mapped f p q [] = refl
 zip_mapped f p q (x ∷ xs) = ap (λ l. f (p x, q x) ∷ l) (zip_mapped f p q xs)
 
 chosen_above : (b : Bool) (x : Trit) → Below x (bit (if is_unknown x then b else or_zero x))
-chosen_above b X = tt
-chosen_above b x = refl
+chosen_above b x = grind arith
 
 chosen_where : (b : Bool) (x : Trit) → is_unknown x ≡ true → (if is_unknown x then b else or_zero x) ≡ b
-chosen_where b X e = refl
-chosen_where b x e = cc
+chosen_where b x e = grind arith
 
 back_later : (plan : StormPlan) (n : ℕ) → zeros_back plan (n + 1) ≡ shaking_count plan
 back_later plan n = ap (λ (t : Bool). if t then 1 else shaking_count plan) (ne_eqb (n + 1) 0 (omega arith))
@@ -122,27 +116,17 @@ module _ (net : Parts) (v : List Bool) (valid : IsNetlist net) (wide : length v 
   Begins a h = During net v valid wide (zeros_back P a) 0 h
 
   next_begins : (a : ℕ) (h : History) → Begins a h → Begins (a + 1) (after_events net h (round_at a))
-  next_begins a h begins =
-      subst (λ back. During net v valid wide back 0 (after_events net h (round_at a))) (count_shaking ∙ sym (back_later P a))
-      (round_leads net v valid wide (zeros_back P a) h begins)
+  next_begins a h begins = grind (arith, count_shaking, back_later P a, round_leads net v valid wide (zeros_back P a) h begins)
 
   rounds_are_fair : (a n : ℕ) (starts : List ℕ) (size : ℕ) → get_or starts 0 1 + zeros_back P a ≤ size → AreFairAfter net 1 starts size (rounds_from a n)
   rounds_are_fair a zero starts size l = tt
-  rounds_are_fair a (suc n) starts size l = (
-    round_is_fair net v valid wide (zeros_back P a) (get_or starts 0 1) size l,
-    rounds_are_fair (a + 1) n (size ∷ starts) (size + length (round_at a))
-        (let back : zeros_back P (a + 1) ≡ shaking_count P = back_later P a in
-        let count = count_shaking in
-        let width = length-round net v valid wide (zeros_back P a) in
-        omega (arith, back, count, width)),
-  )
+  rounds_are_fair a (suc n) starts size l =
+      grind (arith, round_is_fair net v valid wide (zeros_back P a) (get_or starts 0 1) size l, rounds_are_fair (a + 1) n (size ∷ starts) (size + length (round_at a)), back_later P a, count_shaking, length-round net v valid wide (zeros_back P a))
 
   rounds_shake : (a n k : ℕ) (h : History) → Begins a h → k < Gs → is_shaking net F k ≡ true → EachRound net (FallsAndRises net k) h (rounds_from a n)
   rounds_shake a zero k h begins inside shaking = tt
-  rounds_shake a (suc n) k h begins inside shaking = (
-    falls_and_rises net v valid wide k inside shaking (zeros_back P a) h begins (begins.ones.at k inside shaking),
-    rounds_shake (a + 1) n k (after_events net h (round_at a)) (next_begins a h begins) inside shaking,
-  )
+  rounds_shake a (suc n) k h begins inside shaking =
+      grind (arith, falls_and_rises net v valid wide k inside shaking (zeros_back P a) h begins (begins.ones.at k inside shaking), rounds_shake (a + 1) n k (after_events net h (round_at a)) (next_begins a h begins) inside shaking, next_begins a h begins)
 
   rounds_rest : (a n : ℕ) (h : History) → Begins a h → All (Completes F) (after_rounds net h (rounds_from a n))
   rounds_rest a zero h begins = begins.all
@@ -168,12 +152,7 @@ module _ (net : Parts) (v : List Bool) (valid : IsNetlist net) (wide : length v 
     opened_is = ap (λ vector. wires vector (gates_with P true) ∷ (wires v (gates_with P false) ∷ [])) (take-append-drop (length net.inputs) v)
 
     tick_is_storm : IsStorm net v the_tick
-    tick_is_storm = record {
-      fair = subst (λ h. IsFair net 1 h (rounds_from 0 rounds)) (sym opened_is) (rounds_are_fair 0 rounds [] 2 (omega arith));
-      shakes = λ n inside unknown. subst (λ h. EachRound net (FallsAndRises net n) h (rounds_from 0 rounds)) (sym opened_is)
-          (rounds_shake 0 rounds n opening begins_here inside (ap is_unknown unknown));
-      rests = subst (λ h. All (Completes F) (after_rounds net h (rounds_from 0 rounds))) (sym opened_is) (rounds_rest 0 rounds opening begins_here);
-    }
+    tick_is_storm = grind (arith, opened_is, rounds_are_fair 0 rounds [] 2, rounds_shake 0 rounds, begins_here, rounds_rest 0 rounds opening begins_here)
 
     width : (b : Bool) → length (wires v (gates_with P b)) ≡ count net
     width b = let a = length-append v (gates_with P b) in let s = length-start b in omega (arith, a, s, wide)
@@ -188,17 +167,11 @@ module _ (net : Parts) (v : List Bool) (valid : IsNetlist net) (wide : length v 
     RoundInside round = All (λ (planned : PlannedEvent). planned.event.gate < Gs) round.events
 
     rounds_inside : (ns : List ℕ) → All RoundInside (map (nth_round net P) ns)
-    rounds_inside ns =
-        All-map RoundInside (nth_round net P) ns (λ k d l. events_inside (zeros_back P (get_or ns k d)) 0 (lows net v valid wide 0 Gs ++ highs net v valid wide 0 Gs) (turns_inside net v valid wide))
+    rounds_inside ns = grind (arith, All-map RoundInside (nth_round net P) ns, events_inside, turns_inside net v valid wide)
 
     fits : FitsOneTick net (storm_of net v rounds)
-    fits = record {
-      past = All-cons (λ (moment : List Bool). length moment ≡ count net) (wires v (gates_with P false)) [] (width false) (All-nil (λ (moment : List Bool). length moment ≡ count net));
-      latches = let d = length-drop (length net.inputs) v in omega (arith, d, wide);
-      gates = length-start true;
-      ticks = refl;
-      events = All-cons (All RoundInside) (storm_rounds net P rounds) [] (rounds_inside (range_with_len 0 rounds)) (All-nil (All RoundInside));
-    }
+    fits =
+        grind (arith, All-cons, width false, All-nil, length-drop (length net.inputs) v, length-start true, All-cons (All RoundInside) (storm_rounds net P rounds) [] (rounds_inside (range_with_len 0 rounds)) (All-nil (All RoundInside)), rounds_inside (range_with_len 0 rounds), All-nil (All RoundInside))
 
     plays : FaultsAreUnfairness → PlaysAsStorm net v (storm_of net v rounds)
     plays faults = record {
