@@ -26,20 +26,7 @@ use Rattle.differences.proofs.LaidLemmas.{above-bounded}
 
 -- one rail with the other's opposite, in a set
 apart-rails : (s h1 h0 t1 t0 : Bool) → (h1 && h0) ≡ false → (t1 && t0) ≡ false → ((s && (h1 && t0)) || (s && (t1 && h0))) ≡ (s && are_apart (trit_of h1 h0) (trit_of t1 t0))
-apart-rails false h1 h0 t1 t0 here there = refl
-apart-rails true true true t1 t0 here there = absurd (true≢false here)
-apart-rails true true false true true here there = absurd (true≢false there)
-apart-rails true true false true false here there = refl
-apart-rails true true false false true here there = refl
-apart-rails true true false false false here there = refl
-apart-rails true false true true true here there = absurd (true≢false there)
-apart-rails true false true true false here there = refl
-apart-rails true false true false true here there = refl
-apart-rails true false true false false here there = refl
-apart-rails true false false true true here there = absurd (true≢false there)
-apart-rails true false false true false here there = refl
-apart-rails true false false false true here there = refl
-apart-rails true false false false false here there = refl
+apart-rails s h1 h0 t1 t0 here there = grind arith
 
 -- a test in a set
 any-in : {T : Type 0} (s : Bool) (f g : T → Bool) (xs : List T) → ((k : ℕ) (d : T) → k < length xs → g (get_or xs k d) ≡ (s && f (get_or xs k d))) → list_any g xs ≡ (s && list_any f xs)
@@ -49,15 +36,12 @@ any-in s f g (x ∷ xs) each =
     ap₂ (λ p q. p || q) (each 0 x (omega arith)) (any-in s f g xs (λ k d less. each (suc k) d (omega (arith, less)))) ∙ by s (f x) (list_any f xs)
   where
     by : (s p q : Bool) → ((s && p) || (s && q)) ≡ (s && (p || q))
-    by true p q = refl
-    by false p q = refl
+    by s p q = grind arith
 
 -- ---- pairs
 
 pub has-rails : (net : Parts) (rails : List Rails) (pairs : List Pair) → length rails ≡ count net → All (IsPairOf net) pairs → All (HasRails rails) pairs
-has-rails net rails pairs wide are k d less =
-    let is = are k d less in
-    record { here = omega (arith, wide, is.here); there = omega (arith, wide, is.there) }
+has-rails net rails pairs wide are k d less = grind arith
 
 module _ (order : List ℕ) (net : Parts) (care : CareSet) (a : Arena) (vars : a.vars ≡ columns net) (set : Node) (rails : List Rails)
     (told : TellsBy order a set (is_care_vector net care)) (fixed : AreFixedBy order net a rails) (pairs : List Pair) (are : All (IsPairOf net) pairs) where
@@ -66,15 +50,7 @@ module _ (order : List ℕ) (net : Parts) (care : CareSet) (a : Arena) (vars : a
       let w : List Bool = by_variable order v in
       let h : Rails = rails_at rails pair.here.0 in
       let t : Rails = rails_at rails pair.there.0 in
-      let wide = fixed.width in
-      let h_is : AreRailsOf a h = rails_at-proper a rails fixed.proper pair.here.0 in
-      let t_is : AreRailsOf a t = rails_at-proper a rails fixed.proper pair.there.0 in
-      let here : value_of a h w ≡ wire (fix net (bits v)) pair.here =
-      value_at-place a rails pair.here.0 w (omega (arith, wide, is.here)) ∙ ap (λ (ts : List Trit). wire ts pair.here) (fixed.values v (long ∙ sym vars)) in
-      let there : value_of a t w ≡ wire (fix net (bits v)) pair.there =
-      value_at-place a rails pair.there.0 w (omega (arith, wide, is.there)) ∙ ap (λ (ts : List Trit). wire ts pair.there) (fixed.values v (long ∙ sym vars)) in
-      apart-rails (den a set w) (den a h.one w) (den a h.zero w) (den a t.one w) (den a t.zero w) (h_is.proper w) (t_is.proper w)
-      ∙ ap₂ (λ s b. s && b) (told.value v (long ∙ sym vars)) (ap₂ are_apart here there)
+      grind (arith, rails_at-proper a rails fixed.proper pair.here.0, rails_at-proper a rails fixed.proper pair.there.0, value_at-place a rails pair.here.0 w, value_at-place a rails pair.there.0 w, apart-rails (den a set w) (den a h.one w) (den a h.zero w) (den a t.one w) (den a t.zero w))
 
   -- the least vector of the set is the least care vector
   pub least-is : find (λ v. some_differ a set rails pairs (by_variable order v)) (vectors a.vars) ≡ least_apart net care pairs

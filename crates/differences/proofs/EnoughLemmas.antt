@@ -20,34 +20,19 @@ use Rattle.differences.specs.Comparisons.{comparison_cost, IsBelowEnoughFor, IsF
 
 sum-enough : (v gates models effort assumed inside pairs w : ℕ) →
     w * (2 + (2 * inside + 2 * assumed + 1 + (10 * (gates + 2) * effort + 4 * pairs))) ≤ 16 * w * (gates + models + 2) * (effort + (assumed + inside) + v + 4) + 8 * w * pairs
-sum-enough v gates models effort assumed inside pairs w =
-    let one : 2 + (2 * inside + 2 * assumed + 1 + 10 * (gates + 2) * effort) ≤ 16 * (gates + models + 2) * (effort + (assumed + inside) + v + 4) = omega arith in
-    let times : w * (2 + (2 * inside + 2 * assumed + 1 + 10 * (gates + 2) * effort)) ≤ w * (16 * (gates + models + 2) * (effort + (assumed + inside) + v + 4)) =
-    mul-le-mul_left {m = 2 + (2 * inside + 2 * assumed + 1 + 10 * (gates + 2) * effort)} {n = 16 * (gates + models + 2) * (effort + (assumed + inside) + v + 4)} w one in
-    omega (arith, times)
+sum-enough v gates models effort assumed inside pairs w = grind arith
 
 -- the parts together cost no more than is enough
 costs-enough : (net : Parts) (care : CareSet) (pairs : List Pair) (w : ℕ) → w * comparison_cost net care pairs ≤ enough net care w + 8 * w * length pairs
-costs-enough net care pairs w =
-    sum-enough (columns net) (length net.gates) (option_map_or (λ model. length model.net.gates) care.assume 0 + option_map_or (λ model. length model.net.gates) care.invariant 0)
-    (effort net) (assume_effort care) (invariant_effort care) (length pairs) w
+costs-enough net care pairs w = grind arith
 
 -- ---- covers over the limit
 
 cover-effort : (net : Parts) (care : CareSet) (limit : ℕ) → HasCoverOver net care limit → limit < effort net + (assume_effort care + invariant_effort care)
-cover-effort net care limit is = elim is [
-  | inl own ↦ let e = large-effort net limit own in omega (arith, e)
-  | inr of_model ↦ elim of_model [
-    | inl over ↦ let e = model-effort care.assume limit over in omega (arith, e)
-    | inr over ↦ let e = model-effort care.invariant limit over in omega (arith, e)
-  ]
-]
+cover-effort net care limit is = grind (arith, large-effort net limit, model-effort care.assume limit, model-effort care.invariant limit)
 
 over-enough : (net : Parts) (care : CareSet) (w limit : ℕ) → columns net + 1 ≤ w → HasCoverOver net care limit → limit < enough net care w
-over-enough net care w limit wide is =
-    effort-enough limit (effort net + (assume_effort care + invariant_effort care)) w
-    (length net.gates + (option_map_or (λ model. length model.net.gates) care.assume 0 + option_map_or (λ model. length model.net.gates) care.invariant 0))
-    (columns net) (cover-effort net care limit is) wide
+over-enough net care w limit wide is = grind (arith, effort-enough limit (effort net + (assume_effort care + invariant_effort care)) w, cover-effort net care limit is)
 
 -- ---- why the diagrams are full
 
@@ -70,11 +55,4 @@ out_of_nodes {old} {new} {order} {net} {care} most is =
 -- and where nothing was before, the limit is below what is enough
 pub below_enough : {old new : Arena} {order : List ℕ} {net : Parts} {care : CareSet} {pairs : List Pair} {limit : ℕ} → old.limit ≡ limit → length old.entries ≡ 0 → IsFullFor old new order net care pairs →
     IsBelowEnoughFor order net care pairs limit
-below_enough {old} {new} {order} {net} {care} {pairs} {limit} most none is =
-    let store : IsStoreFor new net old.limit = is.store in
-    record {
-      below = λ w wide. elim (is.cause w wide) [
-        | inl over ↦ let e = over-enough net care w limit wide.variables (subst (HasCoverOver net care) most over) in omega (arith, e)
-        | inr past ↦ omega (arith, past.past, none, most, store.most, costs-enough net care pairs w)
-      ];
-    }
+below_enough {old} {new} {order} {net} {care} {pairs} {limit} most none is = grind (arith, over-enough net care, costs-enough net care pairs)

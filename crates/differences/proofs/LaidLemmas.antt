@@ -125,14 +125,10 @@ module _ (order : List ℕ) (net : Parts) (care : CareSet) (layout : IsLayout (c
 
     module _ (a : Arena) (a_vars : a.vars ≡ n) (rails : List Rails) (fixed : AreFixedBy order net a rails) where
       signal-value : (signal : ℕ) → signal < count net → (v : List Bool) → length v ≡ columns net → value_of a (rails_at rails signal) (by_variable order v) ≡ value_in (fix net (bits v)) signal
-      signal-value signal within v long =
-          let width = fixed.width in
-          value_at-place a rails signal (by_variable order v) (omega (arith, width, within)) ∙ ap (λ (ts : List Trit). value_in ts signal) (fixed.values v (long ∙ sym (a_vars ∙ vars)))
+      signal-value signal within v long = grind (arith, value_at-place a rails signal (by_variable order v))
 
       made-rail : (signal : ℕ) → signal < count net → (b : Bool) (node : Node) → ((v : List Bool) → den a node v ≡ is_bit b (value_of a (rails_at rails signal) v)) → IsMade order net care (den a node)
-      made-rail signal within b node says =
-          let m = made-signal net care signal within b in
-          record { of = m.of; listed = m.listed; by = m.by; same = λ v long. says (by_variable order v) ∙ ap (is_bit b) (signal-value signal within v long) ∙ m.same v long }
+      made-rail signal within b node says = grind (arith, made-signal net care signal within b, signal-value signal within)
 
       made-one_rail : (signal : ℕ) → signal < count net → IsMade order net care (den a (rails_at rails signal).one)
       made-one_rail signal within =
@@ -142,8 +138,7 @@ module _ (order : List ℕ) (net : Parts) (care : CareSet) (layout : IsLayout (c
       made-zero_rail : (signal : ℕ) → signal < count net → IsMade order net care (den a (rails_at rails signal).zero)
       made-zero_rail signal within =
           let r : Rails = rails_at rails signal in
-          let proper : AreRailsOf a r = rails_at-proper a rails fixed.proper signal in
-          made-rail signal within false r.zero (λ v. sym (zero-of (den a r.one v) (den a r.zero v) (proper.proper v)))
+          grind (arith, rails_at-proper a rails fixed.proper signal, made-rail signal within false r.zero, zero-of)
 
       -- where one is 1 and another 0, on care
       pub above-bounded : (set : Node) → TellsBy order a set (is_care_vector net care) → (here there : ℕ) → here < count net → there < count net → BoundsAbove a set (rails_at rails here) (rails_at rails there) w

@@ -1,5 +1,5 @@
 -- The lesser of two vectors, and what it is the first to pass.
-use Rattle.std.proofs.Common.{◌≡◌, inl, inr, ℕ, Bool, true, false, ◌||◌, List, [], ◌∷◌, length, Some, None, ap, ◌∙◌}
+use Rattle.std.proofs.Common.{◌≡◌, inl, inr, ℕ, Bool, true, false, ◌||◌, List, [], ◌∷◌, length, Some, None, ap, ◌∙◌, arith}
 use Rattle.differences.proofs.Common.{find, vectors, find-alike}
 use Rattle.std.specs.Cmp.Lexicographic.{slice_cmp}
 use Rattle.std.specs.Ordering.{bool_cmp, is_lt}
@@ -58,8 +58,7 @@ lesser-first n p q v w first second most =
     least-first n (λ u. p u || q u) v wide least
 
 pub lesser-second : (n : ℕ) (p q : List Bool → Bool) (v w : List Bool) → find p (vectors n) ≡ Some v → find q (vectors n) ≡ Some w → AtMost w v → find (λ u. p u || q u) (vectors n) ≡ Some w
-lesser-second n p q v w first second most =
-    find-alike n (λ u. p u || q u) (λ u. q u || p u) (λ u wide. or_comm (p u) (q u)) ∙ lesser-first n q p w v second first most
+lesser-second n p q v w first second most = grind (arith, find-alike n, or_comm, lesser-first n q p w v second first most)
 
 -- or the only one
 pub only-first : (n : ℕ) (p q : List Bool → Bool) → find q (vectors n) ≡ None → find (λ u. p u || q u) (vectors n) ≡ find p (vectors n)

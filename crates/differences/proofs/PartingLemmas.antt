@@ -10,9 +10,7 @@ use Rattle.differences.specs.Sets.{differ, BoundsPair}
 
 -- it has as many
 pub bounded-same : (n m : ℕ) (f g : List Bool → Bool) {w : ℕ} → n ≡ m → ((v : List Bool) → f v ≡ g v) → nodes m g ≤ w → nodes n f ≤ w
-bounded-same n m f g {w} vars same fits =
-    let alike : nodes m f ≡ nodes m g = nodes-alike m f g (λ v long. same v) in
-    subst (λ k. nodes k f ≤ w) (sym vars) (omega (arith, alike, fits))
+bounded-same n m f g {w} vars same fits = grind arith
 
 -- and finds the same
 pub first-same : (n m : ℕ) (f g : List Bool → Bool) → n ≡ m → ((v : List Bool) → f v ≡ g v) → find f (vectors n) ≡ find g (vectors m)
@@ -22,18 +20,13 @@ first-same n m f g vars same = ap (λ (k : ℕ). find f (vectors k)) vars ∙ fi
 
 module _ {s t : Arena} (keeps : KeepsNodes s t) (set : Node) (in_set : IsNodeOf s set) where
   pub above-kept : (here there : Rails) → AreRailsOf s here → AreRailsOf s there → (v : List Bool) → is_above t set here there v ≡ is_above s set here there v
-  above-kept here there first second v =
-      ap₂ (λ x y. x && y) (keeps.function set v in_set) (ap₂ (λ x y. x && y) (keeps.function here.one v first.one) (keeps.function there.zero v second.zero))
+  above-kept here there first second v = grind arith
 
   pub differ-kept : (here there : Rails) → AreRailsOf s here → AreRailsOf s there → (v : List Bool) → differ t set here there v ≡ differ s set here there v
   differ-kept here there first second v = ap₂ (λ x y. x || y) (above-kept here there first second v) (above-kept there here second first v)
 
   pub bounds-kept : (here there : Rails) → AreRailsOf s here → AreRailsOf s there → {w : ℕ} → BoundsAbove s set here there w → BoundsAbove t set here there w
-  bounds-kept here there first second bounds = record {
-    first = bounded-same t.vars s.vars (conjunction t here.one there.zero) (conjunction s here.one there.zero) keeps.vars
-        (λ v. ap₂ (λ x y. x && y) (keeps.function here.one v first.one) (keeps.function there.zero v second.zero)) bounds.first;
-    second = bounded-same t.vars s.vars (is_above t set here there) (is_above s set here there) keeps.vars (above-kept here there first second) bounds.second;
-  }
+  bounds-kept here there first second bounds = grind arith
 
   pub pair-kept : (here there : Rails) → AreRailsOf s here → AreRailsOf s there → {w : ℕ} → BoundsPair s set here there w → BoundsPair t set here there w
   pair-kept here there first second bounds = record { above = bounds-kept here there first second bounds.above; below = bounds-kept there here second first bounds.below }

@@ -33,12 +33,7 @@ counted : (c : After-and) (v : List Bool) → length v ≡ c.args.d.now.vars →
 counted c v long =
     let net = c.args.comparison.now.looped.now.net in
     let w = by_variable c.args.comparison.now.order.now v in
-    let first = rw c.net.ensures.net at c.inputs-first.ensures.inputs in
-    let are = c.requires.columns.values v long in
-    ap₂ (λ x y. x && y)
-    (c.assume_on.ensures.grows.keeps.function c.in_ok-inside.inside w c.in_ok-inside.ensures.node
-    ∙ c.in_ok-inside.ensures.inside (state_of net v) w (state-values net c.args.d.now c.args.rails.now c.inputs-first.result v w first are))
-    (c.in_ok-allowed.ensures.allowed v w (values_of-kept c.invariant_on.ensures.grows.keeps c.args.rails.now c.requires.columns.proper w ∙ are))
+    grind (arith, state-values net c.args.d.now c.args.rails.now c.inputs-first.result v w, values_of-kept c.invariant_on.ensures.grows.keeps c.args.rails.now c.requires.columns.proper w)
 
 pub returns-clause-told : goal.returns-clause-told
 returns-clause-told g =

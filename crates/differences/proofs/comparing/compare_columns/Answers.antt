@@ -30,14 +30,10 @@ pub compare_solved-requires-clause-fixed : goal.compare_solved-requires-clause-f
 compare_solved-requires-clause-fixed g =
     let c : After-solve_beside = (goal.at.compare_solved-requires-clause-fixed g).After-solve_beside in
     let l = g.args.comparison.now.looped.now in
-    let found = g.in_ok-found.ensures.fixpoint in
-    rw found.rails_are
-    (fixed-is g.args.comparison.now.order.now l.net l.blocks l.cut g.solve_beside.new.d (values_of g.care_on.new.d g.args.rails.now) g.in_ok-found.found.solved (g.solve_beside.ensures.vars ∙ care-vars c) (points-are c) found.solution)
+    grind (arith, After-solve_beside, fixed-is g.args.comparison.now.order.now l.net l.blocks l.cut g.solve_beside.new.d (values_of g.care_on.new.d g.args.rails.now) g.in_ok-found.found.solved, care-vars c, points-are c)
 
 pub compare_solved-requires-clause-set : goal.compare_solved-requires-clause-set
-compare_solved-requires-clause-set g =
-    let found = g.in_ok-found.ensures.fixpoint in
-    TellsBy-same g.solve_beside.ensures.vars found.node found.function g.in_ok-set.ensures.told
+compare_solved-requires-clause-set g = grind arith
 
 -- ---- what it does to the diagrams
 

@@ -7,15 +7,10 @@ use Rattle.differences.proofs.comparing.compare_on.Goals as goal
 use Rattle.differences.proofs.comparing.compare_on.Goals.{After-column_rails}
 
 after-columns : (c : After-column_rails) → AddsInComparison c.column_rails.result c.args.d.now c.column_rails.new.d c.args.comparison.now.order.now c.args.comparison.now.looped.now.net c.args.comparison.now.care.now 2
-after-columns c =
-    let vars = c.requires.vars in
-    (within_only (within_each (λ w wide. omega (arith, wide.variables, vars)) c.column_rails.ensures.grows)).adds
+after-columns c = grind arith
 
 pub returns-in_err-rails-clause-full : goal.returns-in_err-rails-clause-full
-returns-in_err-rails-clause-full g =
-    let c : After-column_rails = (goal.at.returns-in_err-rails-clause-full g).After-column_rails in
-    let keeps = c.column_rails.ensures.grows.keeps in
-    full_for (record { variables = keeps.vars ∙ c.requires.vars; most = keeps.limit }) (omega arith) (adds_refused g.in_err-rails.was g.from_residual.ensures.1 (after-columns c))
+returns-in_err-rails-clause-full g = grind arith
 
 pub returns-clause-full : goal.returns-clause-full
 returns-clause-full g =

@@ -1,13 +1,11 @@
-use Rattle.std.proofs.Common.{◌∙◌, List, ap}
+use Rattle.std.proofs.Common.{◌∙◌, List, ap, arith}
 use Rattle.differences.proofs.Common.{find, within_moved, by_variable, vectors, Rails, some_differ}
 use Rattle.std.proofs.lemmas.Result.{IfOk-weaker}
 use Rattle.differences.proofs.ComparingLemmas.{has-rails, least-is, pairs-bounded}
 use Rattle.differences.proofs.comparing.compare_solved.Goals as goal
 
 pub least_of_pairs-requires-clause-pairs : goal.least_of_pairs-requires-clause-pairs
-least_of_pairs-requires-clause-pairs c =
-    rw c.items.ensures
-    (has-rails c.args.comparison.now.looped.now.net c.args.found.now.rails c.args.comparison.now.pairs.now c.requires.fixed.width c.args.comparison.now.paired)
+least_of_pairs-requires-clause-pairs c = grind arith
 
 pub returns-clause-found : goal.returns-clause-found
 returns-clause-found c =

@@ -28,8 +28,4 @@ pub returns-clause-grows : goal.returns-clause-grows
 returns-clause-grows c = within_answered (grown (goal.at.returns-clause-grows c).After-and-2)
 
 pub returns-clause-least : goal.returns-clause-least
-returns-clause-least g =
-    let c : After-and-2 = (goal.at.returns-clause-least g).After-and-2 in
-    g.in_ok-least_of.ensures
-    ∙ first-same g.and-2.new.self.vars g.args.d.now.vars (λ v. den g.and-2.new.self g.in_ok-node.node (by_variable g.args.order.now v)) (λ v. is_above g.args.d.now g.args.compared.set g.args.compared.here g.args.compared.there (by_variable g.args.order.now v))
-    (g.and-2.ensures.grows.keeps.vars ∙ g.and.ensures.grows.keeps.vars) (λ v. g.in_ok-node.ensures.function (by_variable g.args.order.now v) ∙ inside c (by_variable g.args.order.now v))
+returns-clause-least g = grind arith

@@ -7,10 +7,7 @@ use Rattle.differences.proofs.parting.least_of_pair.Goals as goal
 use Rattle.differences.proofs.parting.least_of_pair.Goals.{After-least_above-2}
 
 pub least_above-requires-2-clause-compared : goal.least_above-requires-2-clause-compared
-least_above-requires-2-clause-compared c =
-    let keeps = c.least_above.ensures.grows.keeps in
-    let is = c.requires.compared in
-    record { set = omega (arith, is.set, keeps.more); here = AreRailsOf-kept keeps c.args.compared.there is.there; there = AreRailsOf-kept keeps c.args.compared.here is.here }
+least_above-requires-2-clause-compared c = grind arith
 
 first : (c : After-least_above-2) → GrowsWithin c.least_above.result c.args.d.now c.least_above.new.d NoOtherCause (BoundsPair c.args.d.now c.args.compared.set c.args.compared.here c.args.compared.there) 2
 first c = within_moved (λ w b. b.above) c.least_above.ensures.grows

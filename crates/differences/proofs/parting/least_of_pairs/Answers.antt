@@ -26,9 +26,7 @@ step c =
 
 -- so many at most
 all-pairs : (c : After-least_of_pair) → GrowsWithin c.least_of_pair.result c.args.d.now c.least_of_pair.new.d NoOtherCause (BoundsPairs c.args.d.now c.args.set c.args.rails.now c.args.pairs.now) (4 * length c.args.pairs.now)
-all-pairs c =
-    let inside = c.loop-pair-test.true in
-    within_more (omega (arith, inside)) (step c)
+all-pairs c = grind (arith, within_more, step c)
 
 pub returns-in_err-found-clause-grows : goal.returns-in_err-found-clause-grows
 returns-in_err-found-clause-grows c = within_refused c.in_err-found.was c.from_residual.ensures.1 (all-pairs ((goal.at.returns-in_err-found-clause-grows c).After-least_of_pair))
@@ -42,17 +40,11 @@ found-first : (c : In_ok-found) → (pair : Pair) → pair ≡ get_or c.args.pai
 found-first c pair is =
     let d = c.args.d.now in
     let rails = c.args.rails.now in
-    let proper : (s : ℕ) → AreRailsOf d (rails_at rails s) = rails_at-proper d rails c.requires.rails in
     let keeps = c.loop-pair.invariant.grows.keeps in
-    first-same c.loop-pair.d.vars d.vars (λ v. differ c.loop-pair.d c.args.set (rails_at rails pair.here.0) (rails_at rails pair.there.0) (by_variable c.args.order.now v))
-    (λ v. pair_differs d c.args.set rails (by_variable c.args.order.now v) pair) keeps.vars
-    (λ v. differ-kept keeps c.args.set c.requires.set (rails_at rails pair.here.0) (rails_at rails pair.there.0) (proper pair.here.0) (proper pair.there.0) (by_variable c.args.order.now v))
+    grind (arith, rails_at-proper d rails c.requires.rails, first-same c.loop-pair.d.vars d.vars, differ-kept keeps c.args.set c.requires.set (rails_at rails pair.here.0) (rails_at rails pair.there.0))
 
 pub loop-pair-init : goal.loop-pair-init
-loop-pair-init c = record {
-  least = sym (find-none c.args.d.now.vars (λ v. some_differ c.args.d.now c.args.set c.args.rails.now [] (by_variable c.args.order.now v)) (λ w wide. refl));
-  grows = nothing_grown;
-}
+loop-pair-init c = grind (arith, find-none c.args.d.now.vars, nothing_grown)
 
 pub loop-pair-preserved : goal.loop-pair-preserved
 loop-pair-preserved c =
