@@ -9,23 +9,10 @@ use Rattle.probes.proofs.SliceLemmas.{zip_same, zip_as}
 
 module _ {P : Type 0} (kind : P → Kind) (heard : P → List Change) (text : P → List Change → Parts → List ℕ) (wanted : Kind) where
   pub hears_none : (p : P) → Hears kind heard text wanted [] p p
-  hears_none p = record {
-    hears = λ _. sym (append-nil (heard p));
-    others = λ _. refl;
-    same = record { same_kind = refl; same_text = λ _ _. refl };
-  }
+  hears_none p = grind (arith, append-nil (heard p))
 
   hears_both : (xs ys : List Change) (a b c : P) → Hears kind heard text wanted xs a b → Hears kind heard text wanted ys b c → Hears kind heard text wanted (xs ++ ys) a c
-  hears_both xs ys a b c first second = record {
-    hears = λ is. second.hears (first.same.same_kind ∙ is)
-        ∙ ap (λ (hs : List Change). hs ++ ys) (first.hears is)
-        ∙ append_assoc (heard a) xs ys;
-    others = λ other. second.others (λ is. other (sym first.same.same_kind ∙ is)) ∙ first.others other;
-    same = record {
-      same_kind = second.same.same_kind ∙ first.same.same_kind;
-      same_text = λ cs net. second.same.same_text cs net ∙ first.same.same_text cs net;
-    };
-  }
+  hears_both xs ys a b c first second = grind (arith, append_assoc (heard a) xs ys)
 
   -- changes so far, and the next one
   pub hears_more : (changes : List Change) (i : ℕ) (d : Change) (a b c : P) → i < length changes → Hears kind heard text wanted (take i changes) a b → Hears kind heard text wanted (get_or changes i d ∷ []) b c → Hears kind heard text wanted (take (i + 1) changes) a c

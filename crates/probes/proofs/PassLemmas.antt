@@ -16,11 +16,7 @@ opened_change play s value = record { at = place play play.opening; tick = play.
 
 module _ (p : Change → Bool) where
   pub some_pass : (test : Bool) (c : Change) (rest : List Change) → p c ≡ true → list_all p rest ≡ true → list_all p (cons_option (if test then Some c else None) rest) ≡ true
-  some_pass test c rest here all =
-      elim (cases_Bool test) [
-        | inl is ↦ rw is (and_from (p c) (list_all p rest) here all)
-        | inr isnt ↦ rw isnt all
-      ]
+  some_pass test c rest here all = grind arith
 
   pub both_pass : (first second : List Change) → list_all p first ≡ true → list_all p second ≡ true → list_all p (first ++ second) ≡ true
   both_pass first second here there = list_all-append p first second ∙ and_from (list_all p first) (list_all p second) here there
@@ -31,10 +27,7 @@ module _ (p : Change → Bool) where
   picked_pass play a (suc n) each =
       let value : Bool = bit_at (moment_of_number play.history play.opening) (signal a) in
       let before : Bool = bit_at (moment_of_number play.history (play.opening - 1)) (signal a) in
-      some_pass (play.tick == 1 || (is_given play.net (signal a) && differ before value)) (opened_change play a value)
-      (filter_map (λ m. opening_change play (signal m)) (range_with_len (a + 1) n))
-      (each a value (omega arith))
-      (picked_pass play (a + 1) n (λ s v l. each s v (omega (arith, l))))
+      grind (arith, some_pass (play.tick == 1 || (is_given play.net (signal a) && differ before value)) (opened_change play a value), picked_pass play (a + 1) n)
 
   pub opening_pass : (play : PlayState) → ((s : ℕ) (value : Bool) → s < count play.net → p (opened_change play s value) ≡ true) → list_all p (openings play) ≡ true
   opening_pass play each = picked_pass play 0 (count play.net) (λ s v l. each s v (omega (arith, l)))

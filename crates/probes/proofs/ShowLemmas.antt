@@ -11,37 +11,15 @@ use Rattle.probes.specs.Hearing.{Hears, EachHears}
 use Rattle.probes.specs.Showing.{same_kind, text_of_kind, shown_texts, texts_of}
 
 kinds_are_one : (a b : Kind) → same_kind a b ≡ true → a ≡ b
-kinds_are_one Trace Trace e = refl
-kinds_are_one Trace Glitches e = cc
-kinds_are_one Trace Last e = cc
-kinds_are_one Trace Vcd e = cc
-kinds_are_one Glitches Trace e = cc
-kinds_are_one Glitches Glitches e = refl
-kinds_are_one Glitches Last e = cc
-kinds_are_one Glitches Vcd e = cc
-kinds_are_one Last Trace e = cc
-kinds_are_one Last Glitches e = cc
-kinds_are_one Last Last e = refl
-kinds_are_one Last Vcd e = cc
-kinds_are_one Vcd Trace e = cc
-kinds_are_one Vcd Glitches e = cc
-kinds_are_one Vcd Last e = cc
-kinds_are_one Vcd Vcd e = refl
+kinds_are_one a b e = grind arith
 
 module _ {P : Type 0} (kind : P → Kind) (heard : P → List Change) (text : P → List Change → Parts → List ℕ) (wanted : Kind) (changes : List Change) where
   heard_these : (old new : P) → heard old ≡ [] → Hears kind heard text wanted changes old new → same_kind (kind new) wanted ≡ true → heard new ≡ changes
-  heard_these old new none hears is =
-      hears.hears (sym hears.same.same_kind ∙ kinds_are_one (kind new) wanted is) ∙ ap (λ (cs : List Change). cs ++ changes) none
+  heard_these old new none hears is = grind arith
 
   shows : (net : Parts) (old new : P) → heard old ≡ [] → Hears kind heard text wanted changes old new →
       text_of_kind kind text wanted net (heard new) new ≡ text_of_kind kind text wanted net changes old
-  shows net old new none hears =
-      elim (cases_Bool (same_kind (kind new) wanted)) [
-        | inl is ↦
-            rw (is, ap (λ (k : Kind). same_kind k wanted) (sym hears.same.same_kind) ∙ is)
-            (ap (λ (cs : List Change). text new cs net) (heard_these old new none hears is) ∙ hears.same.same_text changes net)
-        | inr isnt ↦ rw (isnt, ap (λ (k : Kind). same_kind k wanted) (sym hears.same.same_kind) ∙ isnt) refl
-      ]
+  shows net old new none hears = grind arith
 
   pub all_show : (net : Parts) (olds news : List P) → All (λ (p : P). heard p ≡ []) olds → EachHears kind heard text wanted changes olds news →
       shown_texts kind heard text wanted net news ≡ texts_of kind text wanted net changes olds

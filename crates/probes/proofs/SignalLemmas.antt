@@ -30,14 +30,9 @@ module _ (net : Parts) where
   events_known play [] same none = refl
   events_known play (planned ∷ later) same none =
       let e = planned.event in
-      let parts = both_none (planned_fault play planned) (events_fault (after_event play e) later) none in
-      let allowed = planned_allowed play planned parts.0 in
       let value : Bool = event_value play.net play.history e in
       let driven = gate_sig play.net e.gate in
-      some_pass is_known (differ (bit_at (newest play.history) driven) value)
-      (record { at = place play (suc (length play.history)); tick = play.tick; round = length play.starts; sig = driven; value = value })
-      (event_changes (after_event play e) later)
-      (lt-ltb driven.0 (count net) (omega (arith, allowed.of.gate, ap count same))) (events_known (after_event play e) later same parts.1)
+      grind (arith, both_none (planned_fault play planned) (events_fault (after_event play e) later) none, planned_allowed play planned, some_pass is_known (differ (bit_at (newest play.history) driven) value), lt-ltb driven.0 (count net), events_known (after_event play e) later same)
 
   rounds_known : (play : PlayState) (rounds : List RoundPlan) → play.net ≡ net → rounds_fault play rounds ≡ None → all_known (round_changes play rounds) ≡ true
   rounds_known play [] same none = refl
@@ -68,6 +63,4 @@ module _ (net : Parts) where
 
   pub changes_known : (schedule : Schedule) (vectors : List (List Bool)) → schedule_fault net schedule vectors ≡ None →
       All (λ (change : Change). change.sig.0 < count net) (changes net schedule vectors)
-  changes_known schedule vectors none =
-      let all = AllPass-from_list_all is_known (changes net schedule vectors) (run_known schedule (zip vectors schedule.ticks) none) in
-      λ k d short. ltb-true (get_or (changes net schedule vectors) k d).sig.0 (count net) (all k d short)
+  changes_known schedule vectors none = grind (arith, AllPass-from_list_all is_known (changes net schedule vectors) (run_known schedule (zip vectors schedule.ticks) none), run_known schedule (zip vectors schedule.ticks) none, ltb-true)

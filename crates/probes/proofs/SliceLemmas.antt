@@ -40,9 +40,7 @@ module _ {P : Type 0} (old now : List P) (i : ℕ) (default new : P) (left : dro
   left_more = drop-set-lt (i + 1) now i new (omega arith) ∙ tail
 
   pub changed_more : (R : P → P → Type 0) → AllZip R (take i old) (take i now) → R (get_or now i default) new → AllZip R (take (i + 1) old) (take (i + 1) (set now i new))
-  changed_more R before here =
-      rw (take_more old i default short, read, take_more_set now i new as_short)
-      (AllZip-push R (take i old) (take i now) (get_or now i default) new before here)
+  changed_more R before here = grind (arith, take_more old i default short, read, take_more_set now i new as_short, as_short, AllZip-push R (take i old) (take i now) (get_or now i default) new before here)
 
   -- so the whole list is, as far as each item that stays is
   pub changed_whole : (R : P → P → Type 0) → ((x : P) → R x x) → AllZip R (take i old) (take i now) → R (get_or now i default) new → AllZip R old (set now i new)
@@ -54,9 +52,7 @@ module _ {P : Type 0} (old now : List P) (i : ℕ) (default new : P) (left : dro
       rw (take-append-drop (i + 1) old, take-append-drop (i + 1) (set now i new)) at joined
 
 pub on_err : {T E P : Type 0} (r : Result T E) → P → OnErr r P
-on_err (Ok x) p = tt
-on_err (Err e) p = p
+on_err r p = grind arith
 
 pub each_err : {T E : Type 0} (r : Result T E) (P : E → Type 0) → ((e : E) → P e) → IfErr r P
-each_err (Ok x) P each = tt
-each_err (Err e) P each = each e
+each_err r P each = grind arith

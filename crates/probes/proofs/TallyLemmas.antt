@@ -14,45 +14,22 @@ use Rattle.probes.specs.Texts.{last_tick, is_turn, glitches_in}
 use Rattle.probes.specs.Tables.{has_turn, turns_in, glitches_upto, IsTally}
 
 pub cond_or : (b x : Bool) → cond b true x ≡ (b || x)
-cond_or true x = refl
-cond_or false x = refl
+cond_or b x = grind arith
 
 -- ---- sums of which one term grows
 
 pub sum_same : (f g : ℕ → ℕ) (a n : ℕ) → ((i : ℕ) → g i ≡ f i) → sum_by g (range_with_len a n) ≡ sum_by f (range_with_len a n)
 sum_same f g a zero same = refl
-sum_same f g a (suc n) same =
-    sum_by-cons g a (range_with_len (a + 1) n)
-    ∙ omega (arith, same a, sum_same f g (a + 1) n same)
-    ∙ sym (sum_by-cons f a (range_with_len (a + 1) n))
+sum_same f g a (suc n) same = grind arith
 
 sum_before : (f g : ℕ → ℕ) (a n k : ℕ) → ((i : ℕ) → i ≢ k → g i ≡ f i) → k < a → sum_by g (range_with_len a n) ≡ sum_by f (range_with_len a n)
 sum_before f g a zero k same before = refl
-sum_before f g a (suc n) k same before =
-    sum_by-cons g a (range_with_len (a + 1) n)
-    ∙ omega (arith, same a (λ e. omega (arith, e, before)), sum_before f g (a + 1) n k same (omega (arith, before)))
-    ∙ sym (sum_by-cons f a (range_with_len (a + 1) n))
+sum_before f g a (suc n) k same before = grind (arith, sum_by-cons g a (range_with_len (a + 1) n), sum_before f g (a + 1) n k same, sum_by-cons f a (range_with_len (a + 1) n))
 
 pub sum_one : (f g : ℕ → ℕ) (a n j k d : ℕ) → a + j ≡ k → j < n → ((i : ℕ) → i ≢ k → g i ≡ f i) → g k ≡ f k + d → sum_by g (range_with_len a n) ≡ sum_by f (range_with_len a n) + d
 sum_one f g a zero j k d e short same more = omega (arith, short)
-sum_one f g a (suc n) zero k d e short same more =
-    let same_place : a ≡ k = omega (arith, e) in
-    let here : g a ≡ f a + d = rw same_place more in
-    omega (
-      arith,
-      here,
-      sum_by-cons g a (range_with_len (a + 1) n),
-      sum_by-cons f a (range_with_len (a + 1) n),
-      sum_before f g (a + 1) n k same (omega (arith, e)),
-    )
-sum_one f g a (suc n) (suc j) k d e short same more =
-    omega (
-      arith,
-      same a (λ is. omega (arith, e, is)),
-      sum_by-cons g a (range_with_len (a + 1) n),
-      sum_by-cons f a (range_with_len (a + 1) n),
-      sum_one f g (a + 1) n j k d (omega (arith, e)) (omega (arith, short)) same more,
-    )
+sum_one f g a (suc n) zero k d e short same more = grind (arith, sum_by-cons g a (range_with_len (a + 1) n), sum_by-cons f a (range_with_len (a + 1) n), sum_before f g (a + 1) n k same)
+sum_one f g a (suc n) (suc j) k d e short same more = grind (arith, sum_by-cons g a (range_with_len (a + 1) n), sum_by-cons f a (range_with_len (a + 1) n), sum_one f g (a + 1) n j k d)
 
 -- ---- one more change
 
@@ -70,20 +47,14 @@ turns_more changes c s t =
 
 -- a change that is no turn of this signal in this tick, or its first one there, is no glitch
 same_glitches : (changes : List Change) (c : Change) (s : Sig) (t : ℕ) → (is_turn s t c ≡ true → turns_in changes s t ≡ 0) → glitches_in (changes ++ c ∷ []) s t ≡ glitches_in changes s t
-same_glitches changes c s t first =
-    elim (cases_Bool (is_turn s t c)) [
-      | inl is ↦ omega (arith, ap one_of is, turns_more changes c s t, first is)
-      | inr isnt ↦ omega (arith, ap one_of isnt, turns_more changes c s t)
-    ]
+same_glitches changes c s t first = grind (arith, cases_Bool (is_turn s t c), turns_more changes c s t)
 
 -- each later one is
 one_glitch : (changes : List Change) (c : Change) (s : Sig) (t : ℕ) → is_turn s t c ≡ true → 0 < turns_in changes s t → glitches_in (changes ++ c ∷ []) s t ≡ glitches_in changes s t + 1
 one_glitch changes c s t is some = omega (arith, ap one_of is, turns_more changes c s t, some)
 
 seen_more : (x y h : Bool) (n : ℕ) → h ≡ nat_lt 0 n → (x && y || h) ≡ nat_lt 0 (n + cond (x && (y && true)) 1 0)
-seen_more false y h n e = e ∙ ap (nat_lt 0) (omega arith)
-seen_more true false h n e = e ∙ ap (nat_lt 0) (omega arith)
-seen_more true true h n e = sym (lt-ltb 0 (n + 1) (omega arith))
+seen_more x y h n e = grind arith
 
 module _ (net : Parts) (changes : List Change) (c : Change) (ticks : ℕ) (turns : List (ℕ × ℕ)) (counts : List ℕ) (total : ℕ) (before : IsTally net changes ticks turns counts total) where
   abbrev after : List Change
@@ -94,45 +65,22 @@ module _ (net : Parts) (changes : List Change) (c : Change) (ticks : ℕ) (turns
 
   -- no gate has a glitch more
   tally_same : (newer : List (ℕ × ℕ)) → ((s : Sig) (t : ℕ) → has_turn newer s t ≡ nat_lt 0 (turns_in after s t)) → ((gate t : ℕ) → glitches_in after (gate_sig net gate) t ≡ glitches_in changes (gate_sig net gate) t) → IsTally net after ticks newer counts total
-  tally_same newer seen same =
-      let each : (gate : ℕ) → glitches_upto ticks after (gate_sig net gate) ≡ glitches_upto ticks changes (gate_sig net gate) =
-      λ gate. sum_same (glitches_in changes (gate_sig net gate)) (glitches_in after (gate_sig net gate)) 0 ticks (same gate) in
-      record {
-        seen = seen;
-        size = before.size;
-        each = λ gate short. before.each gate short ∙ sym (each gate);
-        few = λ gate. omega (arith, before.few gate, longer);
-        all = before.all
-            ∙ sym (sum_same (λ gate. glitches_upto ticks changes (gate_sig net gate)) (λ gate. glitches_upto ticks after (gate_sig net gate)) 0 (length net.gates) each);
-        few_all = omega (arith, before.few_all, longer);
-      }
+  tally_same newer seen same = grind (arith, sum_same, longer)
 
   -- a change at a tick's opening
   pub tally_opening : c.round ≡ 0 → IsTally net after ticks turns counts total
-  tally_opening opening =
-      let none : (s : Sig) (t : ℕ) → is_turn s t c ≡ false =
-      λ s t. and_right (c.sig.0 == s.0) (c.tick == t && nat_lt 0 c.round) (and_right (c.tick == t) (nat_lt 0 c.round) (le-ltb 0 c.round (omega (arith, opening)))) in
-      tally_same turns
-      (λ s t. before.seen s t ∙ ap (nat_lt 0) (omega (arith, turns_more changes c s t, ap one_of (none s t))))
-      (λ gate t. same_glitches changes c (gate_sig net gate) t (λ is. absurd (both_ways (is_turn (gate_sig net gate) t c) (none (gate_sig net gate) t) is)))
+  tally_opening opening = grind (arith, and_right, le-ltb 0 c.round, tally_same turns, turns_more changes c, same_glitches changes c, both_ways)
 
   module _ (round : 0 < c.round) (newer : List (ℕ × ℕ)) (entered : (s : Sig) (t : ℕ) → has_turn newer s t ≡ (c.sig.0 == s.0 && c.tick == t || has_turn turns s t)) where
     in_round : nat_lt 0 c.round ≡ true
     in_round = lt-ltb 0 c.round round
 
     seen_after : (s : Sig) (t : ℕ) → has_turn newer s t ≡ nat_lt 0 (turns_in after s t)
-    seen_after s t =
-        entered s t
-        ∙ seen_more (c.sig.0 == s.0) (c.tick == t) (has_turn turns s t) (turns_in changes s t) (before.seen s t)
-        ∙ ap (λ b. nat_lt 0 (turns_in changes s t + cond (c.sig.0 == s.0 && (c.tick == t && b)) 1 0)) (sym in_round)
-        ∙ ap (nat_lt 0) (sym (turns_more changes c s t))
+    seen_after s t = grind (arith, seen_more (c.sig.0 == s.0) (c.tick == t) (has_turn turns s t) (turns_in changes s t) (before.seen s t), in_round, turns_more changes c s t)
 
     -- a turn of the change's signal in its tick is meant
     turn_parts : (s : Sig) (t : ℕ) → is_turn s t c ≡ true → (c.sig ≡ s) × (c.tick ≡ t)
-    turn_parts s t is =
-        let parts = and_parts (c.sig.0 == s.0) (c.tick == t && nat_lt 0 c.round) is in
-        let more = and_parts (c.tick == t) (nat_lt 0 c.round) parts.1 in
-        (ap (λ (n : ℕ). signal n) (eqb-true c.sig.0 s.0 parts.0), eqb-true c.tick t more.0)
+    turn_parts s t is = grind arith
 
     -- the first change of its signal in a round of its tick
     pub tally_first : has_turn turns c.sig c.tick ≡ false → IsTally net after ticks newer counts total

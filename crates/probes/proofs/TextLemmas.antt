@@ -7,24 +7,15 @@ use Rattle.std.proofs.lemmas.Grind.{flat_map-append}
 
 range_suc : (a n : ℕ) → range_with_len a (suc n) ≡ range_with_len a n ++ (a + n) ∷ []
 range_suc a zero = ap (λ x. x ∷ []) (omega arith)
-range_suc a (suc n) =
-    ap (λ (xs : List ℕ). a ∷ xs) (range_suc (a + 1) n ∙ ap (λ x. range_with_len (a + 1) n ++ x ∷ []) (omega arith))
+range_suc a (suc n) = grind (arith, range_suc (a + 1) n)
 
 pub range_more : (a n j : ℕ) → a + n ≡ j → range_with_len a (n + 1) ≡ range_with_len a n ++ j ∷ []
 range_more a n j e = rw (add-one n, sym e) (range_suc a n)
 
 -- the lines of numbers from a on, and that of the next one
 pub lines_more : (line : ℕ → List ℕ) (a n j : ℕ) → a + n ≡ j → flat_map line (range_with_len a (n + 1)) ≡ flat_map line (range_with_len a n) ++ line j
-lines_more line a n j e =
-    ap (flat_map line) (range_more a n j e)
-    ∙ flat_map-append line (range_with_len a n) (j ∷ [])
-    ∙ ap (λ (xs : List ℕ). flat_map line (range_with_len a n) ++ xs) (append-nil (line j))
+lines_more line a n j e = grind (arith, range_more a n j e, flat_map-append line (range_with_len a n) (j ∷ []), append-nil (line j))
 
 -- the texts of the items so far, and that of the next one
 pub texts_more : {X : Type 0} (text : X → List ℕ) (items : List X) (i : ℕ) (d : X) (before after : List ℕ) → i < length items → before ≡ flat_map text (take i items) → after ≡ before ++ text (get_or items i d) → after ≡ flat_map text (take (i + 1) items)
-texts_more text items i d before after short was now =
-    now
-    ∙ ap (λ (xs : List ℕ). xs ++ text (get_or items i d)) was
-    ∙ sym (ap (flat_map text) (take_more items i d short)
-    ∙ flat_map-append text (take i items) (get_or items i d ∷ [])
-    ∙ ap (λ (xs : List ℕ). flat_map text (take i items) ++ xs) (append-nil (text (get_or items i d))))
+texts_more text items i d before after short was now = grind (arith, take_more items i d short, flat_map-append text (take i items) (get_or items i d ∷ []), append-nil (text (get_or items i d)))

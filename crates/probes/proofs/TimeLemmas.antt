@@ -19,23 +19,15 @@ pub record Grows (before after : PlayState) : Type 0 where
 
 pub events_grow : (play : PlayState) (events : List PlannedEvent) → Grows play (after_planned play events)
 events_grow play [] = record { past = refl; longer = omega arith }
-events_grow play (e ∷ later) =
-    let rest = events_grow (after_event play e.event) later in
-    record { past = rest.past; longer = omega (arith, rest.longer) }
+events_grow play (e ∷ later) = grind (arith, events_grow (after_event play e.event) later)
 
 pub rounds_grow : (play : PlayState) (rounds : List RoundPlan) → Grows play (after_plans play rounds)
 rounds_grow play [] = record { past = refl; longer = omega arith }
-rounds_grow play (round ∷ later) =
-    let here = events_grow play round.events in
-    let rest = rounds_grow (after_plan play round) later in
-    record { past = rest.past ∙ here.past; longer = omega (arith, here.longer, rest.longer) }
+rounds_grow play (round ∷ later) = grind (arith, events_grow play round.events, rounds_grow (after_plan play round) later)
 
 pub ticks_grow : (play : PlayState) (ticks : List PlannedTick) → Grows play (after_ticks play ticks)
 ticks_grow play [] = record { past = refl; longer = omega arith }
-ticks_grow play (tick ∷ later) =
-    let here = rounds_grow (next_tick play tick.0) tick.1 in
-    let rest = ticks_grow (after_plans (next_tick play tick.0) tick.1) later in
-    record { past = rest.past ∙ here.past; longer = omega (arith, here.longer, rest.longer) }
+ticks_grow play (tick ∷ later) = grind (arith, rounds_grow (next_tick play tick.0) tick.1, ticks_grow (after_plans (next_tick play tick.0) tick.1) later)
 
 -- a test that each change passes from moment `low` on and before moment `high`
 module _ (p : Change → Bool) (low high : ℕ) (passes : (c : Change) → low ≤ c.at → c.at < high → p c ≡ true) where
@@ -49,21 +41,13 @@ module _ (p : Change → Bool) (low high : ℕ) (passes : (c : Change) → low �
       let e = planned.event in
       let value : Bool = event_value play.net play.history e in
       let driven = gate_sig play.net e.gate in
-      let change : Change = record { at = place play (suc (length play.history)); tick = play.tick; round = length play.starts; sig = driven; value = value } in
-      let grows = events_grow (after_event play e) later in
-      some_pass p (differ (bit_at (newest play.history) driven) value) change (event_changes (after_event play e) later)
-      (passes change (omega (arith, begun)) (omega (arith, begun, ends, grows.longer)))
-      (events_pass (after_event play e) later (omega (arith, begun)) ends)
+      grind (arith, events_grow (after_event play e) later, some_pass p (differ (bit_at (newest play.history) driven) value), events_pass (after_event play e) later)
 
   pub rounds_pass : (play : PlayState) (rounds : List RoundPlan) → play.past + low ≤ length play.history → length (after_plans play rounds).history ≤ play.past + high →
       list_all p (round_changes play rounds) ≡ true
   rounds_pass play [] begun ends = refl
   rounds_pass play (round ∷ later) begun ends =
-      let here = events_grow play round.events in
-      let rest = rounds_grow (after_plan play round) later in
-      both_pass p (event_changes play round.events) (round_changes (after_plan play round) later)
-      (events_pass play round.events begun (omega (arith, ends, rest.longer)))
-      (rounds_pass (after_plan play round) later (omega (arith, begun, here.longer, here.past)) (omega (arith, ends, here.past)))
+      grind (arith, events_grow play round.events, rounds_grow (after_plan play round) later, both_pass p (event_changes play round.events) (round_changes (after_plan play round) later), events_pass play round.events begun, rounds_pass (after_plan play round) later)
 
   pub ticks_pass : (play : PlayState) (ticks : List PlannedTick) → play.past + low ≤ length play.history → length (after_ticks play ticks).history ≤ play.past + high →
       list_all p (later_changes play ticks) ≡ true
@@ -74,8 +58,4 @@ module _ (p : Change → Bool) (low high : ℕ) (passes : (c : Change) → low �
       let rest = ticks_grow (after_plans opened tick.1) later in
       let first : list_all p (openings opened) ≡ true = openings_pass opened (omega (arith, begun)) (omega (arith, begun, ends, here.longer, rest.longer)) in
       let second : list_all p (round_changes opened tick.1) ≡ true = rounds_pass opened tick.1 (omega (arith, begun)) (omega (arith, ends, rest.longer)) in
-      let third : list_all p (later_changes (after_plans opened tick.1) later) ≡ true =
-      ticks_pass (after_plans opened tick.1) later (omega (arith, begun, here.longer, here.past)) (omega (arith, ends, here.past)) in
-      both_pass p (tick_changes opened tick.1) (later_changes (after_plans opened tick.1) later)
-      (both_pass p (openings opened) (round_changes opened tick.1) first second)
-      third
+      grind (arith, ticks_pass (after_plans opened tick.1) later, both_pass p (tick_changes opened tick.1) (later_changes (after_plans opened tick.1) later) (both_pass p (openings opened) (round_changes opened tick.1) first second), both_pass p (openings opened) (round_changes opened tick.1) first second)

@@ -24,11 +24,7 @@ use Rattle.delay_core.proofs.ChangeLemmas.{option_first}
 -- ---- one change
 
 told_early : (s : Sig) (at : ℕ) (seen : Option Bool) (c : Change) → at < c.at → value_after s at seen c ≡ seen
-told_early s at seen c early =
-    elim (cases_Bool (c.sig.0 == s.0)) [
-      | inl same ↦ rw (same, lt-ltb at c.at early) refl
-      | inr other ↦ rw other refl
-    ]
+told_early s at seen c early = grind arith
 
 told_other : (s : Sig) (at : ℕ) (seen : Option Bool) (c : Change) → c.sig.0 ≢ s.0 → value_after s at seen c ≡ seen
 told_other s at seen c other = rw (ne_eqb c.sig.0 s.0 other) refl
@@ -50,31 +46,19 @@ module _ (p : ℕ → Bool) (change : ℕ → Change) (f : Option Bool → Chang
 
   pub none_picked : (seen : Option Bool) (ns : List ℕ) → ((n : ℕ) → f seen (change n) ≡ seen) → fold f seen (filter_map pick ns) ≡ seen
   none_picked seen [] skip = refl
-  none_picked seen (n ∷ ns) skip =
-      picked seen n (filter_map pick ns)
-      ∙ ap (λ (x : Option Bool). fold f x (filter_map pick ns)) (skipped seen n (skip n))
-      ∙ none_picked seen ns skip
+  none_picked seen (n ∷ ns) skip = grind (arith, picked seen n (filter_map pick ns), skipped seen n (skip n), none_picked seen ns skip)
 
   none_below : (seen : Option Bool) (k a n : ℕ) → ((i : ℕ) → i ≢ k → f seen (change i) ≡ seen) → k < a → fold f seen (filter_map pick (range_with_len a n)) ≡ seen
   none_below seen k a zero skip below = refl
-  none_below seen k a (suc n) skip below =
-      picked seen a (filter_map pick (range_with_len (a + 1) n))
-      ∙ ap (λ (x : Option Bool). fold f x (filter_map pick (range_with_len (a + 1) n))) (skipped seen a (skip a (λ e. omega (arith, e, below))))
-      ∙ none_below seen k (a + 1) n skip (omega (arith, below))
+  none_below seen k a (suc n) skip below = grind (arith, picked seen a (filter_map pick (range_with_len (a + 1) n)), skipped seen a, none_below seen k (a + 1) n skip)
 
   pub one_picked : (value : Option Bool) (k : ℕ) (seen : Option Bool) (a n j : ℕ) → ((x : Option Bool) (i : ℕ) → i ≢ k → f x (change i) ≡ x) → f seen (change k) ≡ value → a + j ≡ k → j < n →
       fold f seen (filter_map pick (range_with_len a n)) ≡ (if p k then value else seen)
   one_picked value k seen a zero j skip here e short = absurd (omega (arith, short))
   one_picked value k seen a (suc n) zero skip here e short =
-      let at_k : a ≡ k = omega (arith, e) in
       let rest : List Change = filter_map pick (range_with_len (a + 1) n) in
-      picked seen a rest
-      ∙ none_below (if p a then f seen (change a) else seen) k (a + 1) n (skip (if p a then f seen (change a) else seen)) (omega (arith, e))
-      ∙ rw at_k (ap (λ (x : Option Bool). if p k then x else seen) here)
-  one_picked value k seen a (suc n) (suc j) skip here e short =
-      picked seen a (filter_map pick (range_with_len (a + 1) n))
-      ∙ ap (λ (x : Option Bool). fold f x (filter_map pick (range_with_len (a + 1) n))) (skipped seen a (skip seen a (λ is. omega (arith, e, is))))
-      ∙ one_picked value k seen (a + 1) n j skip here (omega (arith, e)) (omega (arith, short))
+      grind (arith, picked seen a rest, none_below (if p a then f seen (change a) else seen) k (a + 1) n (skip (if p a then f seen (change a) else seen)))
+  one_picked value k seen a (suc n) (suc j) skip here e short = grind (arith, picked seen a (filter_map pick (range_with_len (a + 1) n)), skipped seen a, one_picked value k seen (a + 1) n j skip here)
 
 -- ---- one more moment
 
@@ -85,9 +69,7 @@ pub record TellsOf (net : Parts) (past : ℕ) (history : History) (told : List C
 
 -- a longer history has the same moment of a number
 moment_stays : (history : History) (m : Moment) (n : ℕ) → n ≤ length history → moment_of_number (m ∷ history) n ≡ moment_of_number history n
-moment_stays history m n there =
-    let age : suc (length history) - n ≡ suc (length history - n) = omega (arith, there) in
-    ap (λ (k : ℕ). get_or (m ∷ history) k []) age
+moment_stays history m n there = grind arith
 
 moment_newest : (history : History) (n : ℕ) → length history ≤ n → moment_of_number history n ≡ newest history
 moment_newest history n far = ap (λ (k : ℕ). get_or history k []) (omega (arith, far))
@@ -116,15 +98,10 @@ module _ (net : Parts) (past : ℕ) (history : History) (told : List Change) (be
   }
 
 undiffer : (a b : Bool) → differ a b ≡ false → a ≡ b
-undiffer true true e = refl
-undiffer true false e = e
-undiffer false true e = sym e
-undiffer false false e = refl
+undiffer a b e = grind arith
 
 or_right_false : (x y : Bool) → (x || y) ≡ false → y ≡ false
-or_right_false true true e = e
-or_right_false true false e = refl
-or_right_false false y e = e
+or_right_false x y e = grind arith
 
 -- ---- an event
 
@@ -195,8 +172,7 @@ module _ (play : PlayState) (m : Moment) (at_opening : moment_of_number play.his
   }
 
   pub openings_early : (s : Sig) (at : ℕ) (seen : Option Bool) → at < place play play.opening → fold (value_after s at) seen (openings play) ≡ seen
-  openings_early s at seen early =
-      none_picked told_at opening_at (value_after s at) seen (range_with_len 0 (count play.net)) (λ n. told_early s at seen (opening_at n) early)
+  openings_early s at seen early = grind (arith, none_picked told_at opening_at (value_after s at) seen (range_with_len 0 (count play.net)), told_early s)
 
   pub openings_late : (s : Sig) (at : ℕ) (seen : Option Bool) → s.0 < count play.net → place play play.opening ≤ at →
       fold (value_after s at) seen (openings play) ≡ (if told_at s.0 then Some (bit_at m s) else seen)
@@ -229,9 +205,7 @@ module _ (play : PlayState) (told : List Change) (before : TellsOf play.net play
   at_first = moment_newest (first ∷ play.history) (suc (length play.history)) (omega arith)
 
   at_last : moment_of_number opened.history (opened.opening - 1) ≡ newest play.history
-  at_last =
-      let age : suc (length play.history) - (suc (length play.history) - 1) ≡ 1 = omega arith in
-      ap (λ (k : ℕ). get_or (first ∷ play.history) k []) age
+  at_last = grind arith
 
   gate_stays : (s : Sig) → columns_of ≤ s.0 → bit_at first s ≡ bit_at (newest play.history) s
   gate_stays s far =
@@ -244,24 +218,10 @@ module _ (play : PlayState) (told : List Change) (before : TellsOf play.net play
       let given : Bool = is_given play.net s in
       let was : Bool = bit_at (moment_of_number opened.history (opened.opening - 1)) s in
       let is : Bool = bit_at (moment_of_number opened.history opened.opening) s in
-      elim (and_cases given (differ was is) (or_right_false (opened.tick == 1) (given && differ was is) silent)) [
-        | inl gate ↦ sym (gate_stays s (ltb-false s.0 columns_of gate))
-        | inr same ↦
-            ap (λ (moment : Moment). bit_at moment s) (sym at_last)
-            ∙ undiffer was is same
-            ∙ ap (λ (moment : Moment). bit_at moment s) at_first
-      ]
+      grind (arith, and_cases given (differ was is) (or_right_false (opened.tick == 1) (given && differ was is) silent), or_right_false (opened.tick == 1) (given && differ was is) silent, gate_stays s, ltb-false s.0 columns_of, at_last, undiffer was is, at_first)
 
   pub opening_tells : TellsOf play.net play.past (first ∷ play.history) (told ++ openings opened)
-  opening_tells =
-      tells_more play.net play.past play.history told before first (openings opened) first_wide
-      (λ s at seen sooner. openings_early opened first at_first s at seen (omega (arith, sooner, before.begun)))
-      (λ s at short later.
-      openings_late opened first at_first s at (Some (bit_at (newest play.history) s)) short (omega (arith, later))
-      ∙ elim (cases_Bool (told_at opened first at_first s.0)) [
-        | inl is ↦ rw is refl
-        | inr silent ↦ rw silent (ap (λ (b : Bool). Some b) (stays s silent))
-      ])
+  opening_tells = grind (arith, tells_more play.net play.past play.history told before first (openings opened) first_wide, first_wide, openings_early opened first at_first, at_first, openings_late opened first at_first, cases_Bool, stays)
 
 pub start_tells : (net : Parts) (window : ℕ) (past : History) (v gates : List Bool) → length v ≡ length net.inputs + length net.latches → length gates ≡ length net.gates →
     TellsOf net (length past) (wires v gates ∷ past) (openings (starting net window past v gates))
@@ -302,11 +262,7 @@ events_tell net past play told (planned ∷ later) before =
 pub rounds_tell : (net : Parts) (past : ℕ) (play : PlayState) (told : List Change) (rounds : List RoundPlan) → PlayTells net past play told → PlayTells net past (after_plans play rounds) (told ++ round_changes play rounds)
 rounds_tell net past play told [] before = rw (append-nil told) before
 rounds_tell net past play told (round ∷ later) before =
-    let here = events_tell net past play told round.events before in
-    let next : PlayTells net past (after_plan play round) (told ++ event_changes play round.events) =
-    record { same_net = here.same_net; same_past = here.same_past; of_play = here.of_play } in
-    rw (append_assoc told (event_changes play round.events) (round_changes (after_plan play round) later))
-    at (rounds_tell net past (after_plan play round) (told ++ event_changes play round.events) later next)
+    grind (arith, events_tell net past play told round.events before, append_assoc told (event_changes play round.events) (round_changes (after_plan play round) later), rounds_tell net past (after_plan play round) (told ++ event_changes play round.events) later)
 
 pub ticks_tell : (net : Parts) (past : ℕ) (play : PlayState) (told : List Change) (vectors : List (List Bool)) (plans : List (List RoundPlan)) → All (λ (inputs : List Bool). length inputs ≡ length net.inputs) vectors → PlayTells net past play told →
     PlayTells net past (after_ticks play (zip vectors plans)) (told ++ later_changes play (zip vectors plans))
@@ -333,8 +289,7 @@ run_tells : (net : Parts) (schedule : Schedule) (inputs : List Bool) (vectors : 
     All (λ (inputs : List Bool). length inputs ≡ length net.inputs) vectors → length schedule.ticks ≡ length (inputs ∷ vectors) →
     (s : Sig) (at : ℕ) → s.0 < count net →
     last_value (changes net schedule (inputs ∷ vectors)) s at ≡ Some (bit_at (moment_of_run net schedule (inputs ∷ vectors) at) s)
-run_tells net schedule inputs vectors [] is latches gates here fit ticks s at short =
-    absurd (omega (arith, ticks, ap (λ (xs : List (List RoundPlan)). length xs) is))
+run_tells net schedule inputs vectors [] is latches gates here fit ticks s at short = grind arith
 run_tells net schedule inputs vectors (rounds ∷ plans) is latches gates here fit ticks s at short =
     let past : History = reverse schedule.past in
     let opened : PlayState = first_opened net schedule inputs in

@@ -8,10 +8,4 @@ loop-change-preserved c =
     let new = c.note_round.new.rounds in
     let old = c.loop-change.rounds.items in
     let len = c.loop-change.rounds.len in
-    let size : length new ≡ len =
-    c.note_round.ensures.size ∙ ap length c.deref_mut.ensures.value ∙ sym c.loop-change.rounds.ok.0 in
-    let whole : take len (new ++ drop (length new) old) ≡ new =
-    take-append-le len new (drop (length new) old) (omega (arith, size)) ∙ take_all len new (omega (arith, size)) in
-    rw whole
-    (rounds_more c.args.net.now c.args.changes.now c.loop-change.change-index _ c.args.ticks _ _ c.loop-change-test.true c.note_round.ensures
-    (rw c.deref_mut.ensures.value c.loop-change.invariant))
+    grind (arith, take-append-le len new (drop (length new) old), take_all len new, rounds_more c.args.net.now c.args.changes.now c.loop-change.change-index _ c.args.ticks _ _ c.loop-change-test.true c.note_round.ensures)

@@ -1,11 +1,8 @@
-use Rattle.std.proofs.Common.{◌≡◌, [], sym, ◌∙◌}
+use Rattle.std.proofs.Common.{◌≡◌, [], sym, ◌∙◌, arith}
 use Rattle.std.proofs.lemmas.Option.{get_or_from_slice_get}
 use Rattle.netlist.specs.Netlists.{signal_names}
 use Rattle.probes.specs.Texts.{signal_name}
 use Rattle.probes.proofs.pieces.put_name.Goals as goal
 
 pub returns : goal.returns
-returns c =
-    let is : signal_name c.args.net.now c.args.s ≡ c.name_of.result.now =
-    get_or_from_slice_get (signal_names c.args.net.now) c.args.s.0 c.name_of.result.now [] c.name_of.ensures.name in
-    rw (c.bytes.ensures ∙ sym is) at c.put.ensures
+returns c = grind (arith, get_or_from_slice_get (signal_names c.args.net.now) c.args.s.0 c.name_of.result.now [] c.name_of.ensures.name)
