@@ -1,7 +1,7 @@
 -- The states of vectors on rails.
-use Rattle.std.proofs.Common.{◌≡◌, ◌-◌, ℕ, Bool, List, length, drop, take, Result, Ok, Err, IfOk, ap, sym, ◌∙◌, arith}
+use Rattle.std.proofs.Common.{◌≡◌, ◌-◌, ℕ, Bool, List, length, drop, take, Result, IfOk, arith}
 use Rattle.std.proofs.lemmas.List.{drop-map, take_rest}
-use Rattle.differences.proofs.Common.{Arena, bits, Rails, value_of, values_of, Parts, state_of}
+use Rattle.differences.proofs.Common.{Arena, bits, Rails, values_of, Parts, state_of}
 use Rattle.cyc_base.specs.Values.{bit}
 
 -- the rails behind those of the inputs stand for the state, where those of all columns stand for the vector

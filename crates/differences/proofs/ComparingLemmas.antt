@@ -1,13 +1,12 @@
 -- What the least vector of pairs says, where rails stand for the fixpoint and a set for the care vectors.
-use Rattle.std.proofs.Common.{◌≡◌, ℕ, suc, ◌+◌, ◌<◌, Bool, true, false, ◌&&◌, ◌||◌, List, [], ◌∷◌, length, map, get_or, refl, sym, ap, ap₂, ◌∙◌, arith, true≢false}
-use Rattle.differences.proofs.Common.{find, Node, Arena, den, IsLayout, by_variable, bits, vectors, find-alike, Rails, AreRailsOf, value_of, IsWide, Parts, rails_at, rails_at-proper, CareSet, columns, is_care_vector, Pair, IsLaidBy, TellsBy, AreFixedBy, some_differ, BoundsPairs}
+use Rattle.std.proofs.Common.{◌≡◌, ℕ, suc, ◌+◌, ◌<◌, Bool, true, false, ◌&&◌, ◌||◌, List, [], ◌∷◌, length, map, get_or, refl, sym, ap, ap₂, ◌∙◌, arith}
+use Rattle.differences.proofs.Common.{find, Node, Arena, den, IsLayout, by_variable, bits, vectors, find-alike, Rails, IsWide, Parts, rails_at, rails_at-proper, CareSet, columns, is_care_vector, Pair, IsLaidBy, TellsBy, AreFixedBy, some_differ, BoundsPairs}
 use Rattle.std.specs.List.{All, list_any}
 use Rattle.std.proofs.lemmas.List.{length-append}
 use Rattle.bdd_store.specs.Arena.{IsNodeOf}
-use Rattle.cyc_base.specs.declared.trit.Trit.{Trit}
 use Rattle.dual_rail.specs.Rails.{trit_of}
 use Rattle.dual_rail.proofs.SurelyLemmas.{length-values}
-use Rattle.netlist.specs.Fixpoint.{wire, fix, fix_gates}
+use Rattle.netlist.specs.Fixpoint.{fix, fix_gates}
 use Rattle.netlist.specs.Netlists.{count}
 use Rattle.netlist.proofs.FixpointLemmas.{length-fix_gates}
 use Rattle.loops.specs.declared.structure.Blocks.{Blocks}

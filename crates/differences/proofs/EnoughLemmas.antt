@@ -1,7 +1,5 @@
 -- What a comparison costs, added up, and why it finds the diagrams full.
 use Rattle.std.proofs.Common.{◌≡◌, inl, inr, ℕ, ◌+◌, ◌*◌, ◌<◌, ◌≤◌, List, Err, Result, length, subst, ◌∙◌, arith}
-use Rattle.std.specs.Option.{option_map_or}
-use Rattle.std.proofs.Math.Nat.{mul-le-mul_left}
 use Rattle.isolation.proofs.WidthLemmas.{effort-enough}
 use Rattle.bdd_store.specs.declared.fault.StoreFault.{StoreFault}
 use Rattle.bdd_store.specs.declared.fault.StoreFault.TheVariants.{Full}
@@ -17,10 +15,6 @@ use Rattle.verdict.proofs.EnoughLemmas.{large-effort, model-effort}
 use Rattle.differences.specs.Comparisons.{comparison_cost, IsBelowEnoughFor, IsFullFor}
 
 -- ---- the sum
-
-sum-enough : (v gates models effort assumed inside pairs w : ℕ) →
-    w * (2 + (2 * inside + 2 * assumed + 1 + (10 * (gates + 2) * effort + 4 * pairs))) ≤ 16 * w * (gates + models + 2) * (effort + (assumed + inside) + v + 4) + 8 * w * pairs
-sum-enough v gates models effort assumed inside pairs w = grind arith
 
 -- the parts together cost no more than is enough
 costs-enough : (net : Parts) (care : CareSet) (pairs : List Pair) (w : ℕ) → w * comparison_cost net care pairs ≤ enough net care w + 8 * w * length pairs

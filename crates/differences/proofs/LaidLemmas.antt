@@ -1,10 +1,9 @@
 -- Functions that are made of those of a comparison, where the columns are laid on the variables in some order.
 use Rattle.std.proofs.Common.{◌≡◌, inl, inr, ℕ, ◌<◌, ◌≤◌, Bool, true, false, ◌&&◌, ◌⊎◌, List, length, refl, sym, ap, ap₂, subst, ◌∙◌, arith}
 use Rattle.std.specs.Prelude.{IfSome}
-use Rattle.differences.proofs.Common.{Node, Arena, den, nodes, IsLayout, by_variable, conjunction, bits, Rails, AreRailsOf, value_of, IsWide, Parts, rails_at, rails_at-proper, CareSet, columns, state_of, is_care_vector, IsLaidBy, TellsBy, AreFixedBy, BoundsAbove, is_above}
+use Rattle.differences.proofs.Common.{Node, Arena, den, nodes, IsLayout, by_variable, conjunction, bits, Rails, value_of, IsWide, Parts, rails_at, rails_at-proper, CareSet, columns, state_of, is_care_vector, IsLaidBy, TellsBy, AreFixedBy, BoundsAbove, is_above}
 use Rattle.bdd_store.proofs.SubfunctionLemmas.{nodes-alike}
 use Rattle.bdd_ops.specs.Operations.{bit_at}
-use Rattle.cyc_base.specs.declared.trit.Trit.{Trit}
 use Rattle.cyc_base.specs.Values.{bit}
 use Rattle.dual_rail.specs.WorkingLists.{BoundsEach, is_bit}
 use Rattle.dual_rail.proofs.WidthLemmas.{IsWide-fewer}

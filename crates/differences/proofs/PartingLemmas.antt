@@ -1,9 +1,8 @@
 -- Where rails differ, in diagrams that keep their nodes.
-use Rattle.std.proofs.Common.{◌≡◌, ℕ, ◌≤◌, Bool, ◌&&◌, ◌||◌, List, sym, ap, ap₂, subst, ◌∙◌, arith}
-use Rattle.differences.proofs.Common.{find, Node, Arena, nodes, conjunction, vectors, find-alike, Rails, AreRailsOf, is_above, BoundsAbove}
+use Rattle.std.proofs.Common.{◌≡◌, ℕ, ◌≤◌, Bool, ◌||◌, List, ap, ap₂, ◌∙◌, arith}
+use Rattle.differences.proofs.Common.{find, Node, Arena, nodes, vectors, find-alike, Rails, AreRailsOf, is_above, BoundsAbove}
 use Rattle.bdd_store.specs.Arena.{IsNodeOf}
 use Rattle.bdd_store.specs.Growth.{KeepsNodes}
-use Rattle.bdd_store.proofs.SubfunctionLemmas.{nodes-alike}
 use Rattle.differences.specs.Sets.{differ, BoundsPair}
 
 -- ---- a function by other nodes

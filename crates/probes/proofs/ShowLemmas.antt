@@ -1,17 +1,12 @@
 -- What probes that heard nothing before show of the changes that they were told.
-use Rattle.std.proofs.Common.{◌≡◌, ◌<◌, ℕ, suc, true, List, [], ◌∷◌, ◌++◌, length, get_or, All, inl, inr, refl, ap, ap₂, sym, ◌∙◌, arith}
-use Rattle.std.proofs.lemmas.Bool.{cases_Bool}
+use Rattle.std.proofs.Common.{◌≡◌, ◌<◌, ℕ, suc, true, List, [], ◌∷◌, ◌++◌, length, get_or, All, refl, ap₂, arith}
 use Rattle.std.proofs.lemmas.List.Elements.{AllZip-get_or, length_all_zip}
 use Rattle.netlist.specs.declared.parts.Parts.{Parts}
 use Rattle.netlist.specs.Netlists.{count}
 use Rattle.delay_core.specs.declared.change.Change.{Change}
 use Rattle.probes.specs.declared.kind.Kind.{Kind}
-use Rattle.probes.specs.declared.kind.Kind.TheVariants.{Trace, Glitches, Last, Vcd}
 use Rattle.probes.specs.Hearing.{Hears, EachHears}
 use Rattle.probes.specs.Showing.{same_kind, text_of_kind, shown_texts, texts_of}
-
-kinds_are_one : (a b : Kind) → same_kind a b ≡ true → a ≡ b
-kinds_are_one a b e = grind arith
 
 module _ {P : Type 0} (kind : P → Kind) (heard : P → List Change) (text : P → List Change → Parts → List ℕ) (wanted : Kind) (changes : List Change) where
   heard_these : (old new : P) → heard old ≡ [] → Hears kind heard text wanted changes old new → same_kind (kind new) wanted ≡ true → heard new ≡ changes

@@ -1,5 +1,5 @@
 -- The changes of a schedule without a fault are those of the netlist's signals.
-use Rattle.std.proofs.Common.{◌≡◌, ◌<◌, suc, Bool, true, nat_lt, List, [], ◌∷◌, length, get_or, All, None, refl, ap, ◌∙◌, arith}
+use Rattle.std.proofs.Common.{◌≡◌, ◌<◌, Bool, true, nat_lt, List, [], ◌∷◌, All, None, refl, ap, ◌∙◌, arith}
 use Rattle.std.specs.List.{zip, list_all}
 use Rattle.std.proofs.lemmas.Bool.{lt-ltb, ltb-true}
 use Rattle.std.proofs.lemmas.List.Sums.{AllPass-from_list_all}
@@ -10,7 +10,7 @@ use Rattle.delay_core.specs.declared.change.Change.{Change}
 use Rattle.delay_core.specs.declared.plan.PlannedEvent.{PlannedEvent}
 use Rattle.delay_core.specs.declared.plan.RoundPlan.{RoundPlan}
 use Rattle.delay_core.specs.declared.plan.Schedule.{Schedule}
-use Rattle.delay_core.specs.Plays.{PlayState, differ, place, after_event, next_tick}
+use Rattle.delay_core.specs.Plays.{PlayState, differ, after_event, next_tick}
 use Rattle.delay_core.specs.Plans.{PlannedTick, planned_fault, events_fault, unfair_fault, round_fault, rounds_fault, ticks_fault, first_opened, first_fault, schedule_fault, after_planned, after_plan, after_plans}
 use Rattle.delay_core.proofs.FairLemmas.{both_none, planned_allowed, events_keep, rounds_net}
 use Rattle.probes.proofs.PassLemmas.{some_pass, both_pass, opening_pass}

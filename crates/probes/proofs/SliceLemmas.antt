@@ -1,6 +1,6 @@
 -- Facts of the items of two lists, place by place.
 use Rattle.std.proofs.Common.{◌≡◌, ◌<◌, ◌+◌, ℕ, List, [], ◌∷◌, ◌++◌, length, take, drop, get_or, set, ap, sym, ◌∙◌, arith}
-use Rattle.std.specs.Prelude.{Ok, Err, OnErr, IfErr}
+use Rattle.std.specs.Prelude.{OnErr, IfErr}
 use Rattle.std.specs.declared.result.Result.{Result}
 use Rattle.std.specs.List.{AllZip}
 use Rattle.std.proofs.lemmas.List.{take_more, take_more_set, drop_more, drop-set-lt, length-drop, take-append-drop}

@@ -1,7 +1,7 @@
 -- How a tally of glitches grows by a change.
 use Rattle.std.proofs.Common.{◌≡◌, ◌≢◌, ◌<◌, ◌≤◌, ◌+◌, ◌==◌, ◌&&◌, ◌||◌, ℕ, zero, suc, Bool, true, false, cond, nat_lt, List, [], ◌∷◌, ◌++◌, length, filter, get_or, set, max, replicate, inl, inr, refl, ap, sym, ◌∙◌, arith}
 use Rattle.std.specs.List.{fold, sum_by, range_with_len}
-use Rattle.std.proofs.lemmas.Bool.{both_ways, ltb-true, ltb-false, lt-ltb, le-ltb, eqb-true, eq-eqb, cases_eq, cases_lt, cases_Bool, and_parts, and_from, and_right}
+use Rattle.std.proofs.lemmas.Bool.{both_ways, ltb-true, ltb-false, lt-ltb, le-ltb, eq-eqb, cases_eq, cases_lt, cases_Bool, and_from, and_right}
 use Rattle.std.proofs.lemmas.List.{length-append, length-set, length-replicate, get_or-replicate, get_or-set_same, get_or-set_other}
 use Rattle.std.proofs.Math.ListN.{get_or-eq_default}
 use Rattle.std.proofs.lemmas.List.Elements.{filter-append}

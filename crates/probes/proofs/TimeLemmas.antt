@@ -1,5 +1,5 @@
 -- When the changes of a run are: those of the first opening at moment 0, and all others later, before its end.
-use Rattle.std.proofs.Common.{◌≡◌, ◌<◌, ◌≤◌, ◌+◌, ℕ, suc, Bool, true, List, [], ◌∷◌, length, refl, ◌∙◌, arith}
+use Rattle.std.proofs.Common.{◌≡◌, ◌<◌, ◌≤◌, ◌+◌, ℕ, Bool, true, List, [], ◌∷◌, length, refl, arith}
 use Rattle.std.specs.List.{list_all}
 use Rattle.netlist.specs.Netlists.{gate_sig}
 use Rattle.schedules.specs.Moments.{bit_at, newest, event_value}

@@ -1,5 +1,5 @@
 -- The least completion with a value, found place by place.
-use Rattle.std.proofs.Common.{◌≡◌, ◌↔◌, ◌≢◌, ◌⊎◌, inl, inr, ◌<◌, ℕ, zero, suc, Bool, true, false, not, cond, ◌&&◌, List, [], ◌∷◌, length, map, get_or, set, refl, ap, ap₂, sym, ◌∙◌, subst, arith, true≢false, Some, None}
+use Rattle.std.proofs.Common.{◌≡◌, ◌↔◌, ◌≢◌, ◌⊎◌, inl, inr, ◌<◌, ℕ, zero, suc, Bool, true, false, not, List, [], ◌∷◌, length, map, get_or, set, refl, ap, ap₂, sym, ◌∙◌, subst, arith, true≢false, Some, None}
 use Rattle.std.specs.Prelude.{option_map, unwrap_or}
 use Rattle.std.specs.List.{find, list_all}
 use Rattle.std.specs.Option.{option_or}
@@ -117,9 +117,6 @@ IsFirst p ts bs = Completes ts bs × (p bs ≡ true) × ((other : List Bool) →
 
 mapped_some : {A B : Type 0} (g : A → B) (o : Option A) (y : B) → option_map g o ≡ Some y → (x : A) × (o ≡ Some x) × (g x ≡ y)
 mapped_some g o y e = grind arith
-
-test_some : {A : Type 0} (t : Bool) (x y : A) → cond t (Some x) None ≡ Some y → (x ≡ y) × (t ≡ true)
-test_some t x y e = grind arith
 
 -- the least with this value in front is the least of all, where none of the others that pass is less
 first_behind : (b : Bool) (p : List Bool → Bool) (t : Trit) (ts : List Trit) (bs : List Bool) → Below t (bit b)

@@ -1,5 +1,5 @@
 -- What the pins of a gate see in moments that stand at the fixpoint but for the shaking gates.
-use Rattle.std.proofs.Common.{◌≡◌, inl, inr, ◌<◌, ◌+◌, ◌-◌, ℕ, Bool, true, false, not, ◌&&◌, nat_le, List, [], ◌∷◌, length, map, get_or, zip, refl, ap, sym, ◌∙◌, subst, arith, All}
+use Rattle.std.proofs.Common.{◌≡◌, inl, inr, ◌<◌, ◌+◌, ◌-◌, ℕ, Bool, true, false, not, ◌&&◌, List, [], ◌∷◌, length, map, get_or, zip, refl, ap, sym, ◌∙◌, arith, All}
 use Rattle.std.specs.Prelude.{if◌then◌else◌}
 use Rattle.std.proofs.lemmas.Bool.{cases_lt}
 use Rattle.std.proofs.lemmas.Bool.Decides.{nat_tests}
@@ -10,7 +10,7 @@ use Rattle.cyc_base.specs.declared.sig.Sig.{Sig}
 use Rattle.cyc_base.specs.declared.trit.Trit.{Trit}
 use Rattle.cyc_base.specs.declared.trit.Trit.TheVariants.{X}
 use Rattle.cyc_base.specs.Values.{bit, bits, Below, Completes}
-use Rattle.cyc_base.proofs.OrderLemmas.{Completes-at, Completes-length, same_bit}
+use Rattle.cyc_base.proofs.OrderLemmas.{Completes-at, Completes-length}
 use Rattle.cover_logic.specs.Covers.{value}
 use Rattle.cover_logic.specs.Extensions.{ext}
 use Rattle.cover_logic.proofs.ExtensionLemmas.{ext_below_value}
@@ -21,7 +21,7 @@ use Rattle.netlist.specs.Fixpoint.{wire, fix, fix_gates}
 use Rattle.schedules.specs.Moments.{Moment, History, bit_at, moment_at, seen, event_value}
 use Rattle.schedules.proofs.RunLemmas.{signals_above}
 use Rattle.storm.specs.declared.planning.StormPlan.{StormPlan}
-use Rattle.storm.specs.Least.{IsLeastWhere, least_where}
+use Rattle.storm.specs.Least.{IsLeastWhere}
 use Rattle.storm.specs.Plans.{is_unknown, is_shaking, pin_values, plan_at}
 use Rattle.storm.specs.Storms.{Turn, shakes, is_of_shaking, pin_age, turn_event}
 use Rattle.storm.proofs.LeastLemmas.{least_is_least}

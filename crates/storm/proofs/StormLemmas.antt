@@ -1,5 +1,5 @@
 -- The theorem of storms.
-use Rattle.std.proofs.Common.{◌≡◌, ◌<◌, ◌≤◌, ◌+◌, ℕ, zero, suc, Bool, true, false, cond, List, [], ◌∷◌, ◌++◌, length, map, get_or, drop, zip, refl, ap, sym, ◌∙◌, subst, arith, All}
+use Rattle.std.proofs.Common.{◌≡◌, ◌<◌, ◌≤◌, ◌+◌, ℕ, zero, suc, Bool, true, false, cond, List, [], ◌∷◌, ◌++◌, length, map, get_or, drop, zip, refl, ap, sym, ◌∙◌, arith, All}
 use Rattle.std.specs.Prelude.{filter, if◌then◌else◌}
 use Rattle.std.specs.List.{range_with_len}
 use Rattle.std.proofs.lemmas.Bool.{ne_eqb}
@@ -8,7 +8,6 @@ use Rattle.std.proofs.lemmas.List.Elements.{All-cons, All-map, All-nil}
 use Rattle.std.proofs.lemmas.List.FromFn.{get_or-map-range_with_len, get_or-range_with_len, length-map-range_with_len, length-range_with_len}
 use Rattle.std.proofs.lemmas.List.Sums.{length-filter}
 use Rattle.cyc_base.specs.declared.trit.Trit.{Trit}
-use Rattle.cyc_base.specs.declared.trit.Trit.TheVariants.{X}
 use Rattle.cyc_base.specs.Values.{bit, bits, Below, Completes}
 use Rattle.cyc_base.proofs.OrderLemmas.{EachBelow-refl, EachBelow-append, Completes-from_at}
 use Rattle.netlist.specs.declared.parts.Parts.{Parts}
@@ -16,7 +15,7 @@ use Rattle.netlist.specs.Netlists.{IsNetlist, count, gate_sig}
 use Rattle.netlist.specs.Fixpoint.{wires, wire, fix, fix_gates}
 use Rattle.netlist.proofs.FixpointLemmas.{length-steps}
 use Rattle.schedules.specs.Moments.{History, Round, after_events, after_rounds}
-use Rattle.schedules.specs.Fairness.{AreFairAfter, IsFair}
+use Rattle.schedules.specs.Fairness.{AreFairAfter}
 use Rattle.schedules.specs.Runs.{Played, played}
 use Rattle.delay_core.specs.declared.plan.PlannedEvent.{PlannedEvent}
 use Rattle.delay_core.specs.declared.plan.RoundPlan.{RoundPlan}
@@ -28,7 +27,7 @@ use Rattle.storm.specs.Plans.{is_unknown, or_zero, is_shaking, rest_value, plan_
 use Rattle.storm.specs.Storms.{Turn, shakes, shaking_count, turn_event, turn_events, zeros_back, nth_round, storm_rounds, gates_with, storm_of}
 use Rattle.storm.proofs.PlanLemmas.{fix_at_gate}
 use Rattle.storm.proofs.MomentLemmas.{plan, Stands, shakes_is}
-use Rattle.storm.proofs.RoundLemmas.{lows, highs, During, round_leads, round_is_fair, length-round, falls_and_rises, turns_inside}
+use Rattle.storm.proofs.RoundLemmas.{highs, During, round_leads, round_is_fair, length-round, falls_and_rises, turns_inside}
 
 -- ---- how many gates shake
 

@@ -1,7 +1,7 @@
-use Rattle.std.proofs.Common.{◌≡◌, ◌∙◌, ◌+◌, ◌-◌, ◌*◌, ◌&&◌, Bool, List, length, take, drop, refl, sym, ap, ap₂, arith}
+use Rattle.std.proofs.Common.{◌≡◌, ◌∙◌, ◌+◌, ◌-◌, ◌*◌, Bool, List, length, take, drop, refl, sym, ap, arith}
 use Rattle.std.proofs.lemmas.List.{take_rest, length-drop}
 use Rattle.verdict.proofs.PartLemmas.{invariant-reads, assume-reads}
-use Rattle.differences.proofs.Common.{GrowsWithin, within_only, within_moved, within_then, within_more, within_refused, by_variable, conjunction, values_of, columns, state_of, is_care_vector, IsWide, IsLaidBy}
+use Rattle.differences.proofs.Common.{GrowsWithin, within_only, within_moved, within_then, within_more, within_refused, by_variable, conjunction, values_of, columns, is_care_vector, IsWide, IsLaidBy}
 use Rattle.bdd_store.proofs.GrowthLemmas.{KeepsNodes-chain, within_one}
 use Rattle.dual_rail.proofs.SurelyLemmas.{All-rails-kept, values_of-kept}
 use Rattle.verdict.specs.Causes.{HasModelOver}

@@ -7,7 +7,7 @@ use Rattle.fixpoint.specs.Working.{HasLargeCover}
 use Rattle.isolation.proofs.ColumnLemmas.{AreColumns-kept}
 use Rattle.isolation.proofs.SettlingLemmas.{loops-are}
 use Rattle.differences.specs.Comparisons.{AddsInComparison, care_cost, solving_cost}
-use Rattle.differences.proofs.ComparingLemmas.{fixed-is, TellsBy-same}
+use Rattle.differences.proofs.ComparingLemmas.{fixed-is}
 use Rattle.differences.proofs.LaidLemmas.{working-wide}
 use Rattle.differences.proofs.comparing.compare_columns.Goals as goal
 use Rattle.differences.proofs.comparing.compare_columns.Goals.{After-care_on, After-solve_beside}

@@ -1,6 +1,5 @@
 use Rattle.std.proofs.Common.{◌∙◌, ◌+◌, ◌≤◌, arith}
-use Rattle.differences.proofs.Common.{within_only}
-use Rattle.bdd_store.proofs.GrowthLemmas.{within_each, adds_then, adds_refused}
+use Rattle.bdd_store.proofs.GrowthLemmas.{adds_then}
 use Rattle.differences.specs.Comparisons.{AddsInComparison, comparison_cost, whole_cost}
 use Rattle.differences.proofs.EnoughLemmas.{full_for}
 use Rattle.differences.proofs.comparing.compare_on.Goals as goal

@@ -1,7 +1,7 @@
 use Rattle.std.proofs.Common.{◌∙◌, List, ap, arith}
 use Rattle.differences.proofs.Common.{find, within_moved, by_variable, vectors, Rails, some_differ}
 use Rattle.std.proofs.lemmas.Result.{IfOk-weaker}
-use Rattle.differences.proofs.ComparingLemmas.{has-rails, least-is, pairs-bounded}
+use Rattle.differences.proofs.ComparingLemmas.{least-is, pairs-bounded}
 use Rattle.differences.proofs.comparing.compare_solved.Goals as goal
 
 pub least_of_pairs-requires-clause-pairs : goal.least_of_pairs-requires-clause-pairs

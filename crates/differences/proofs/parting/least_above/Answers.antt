@@ -1,7 +1,7 @@
-use Rattle.std.proofs.Common.{◌≡◌, ◌∙◌, ◌&&◌, Bool, List, refl, ap₂, arith}
-use Rattle.differences.proofs.Common.{den, GrowsWithin, NoOtherCause, within_then, within_more, within_answered, within_refused, by_variable, conjunction, is_above, BoundsAbove}
+use Rattle.std.proofs.Common.{◌≡◌, ◌&&◌, Bool, List, refl, ap₂, arith}
+use Rattle.differences.proofs.Common.{GrowsWithin, NoOtherCause, within_then, within_more, within_answered, within_refused, conjunction, is_above, BoundsAbove}
 use Rattle.bdd_store.proofs.GrowthLemmas.{within_one, within_memory}
-use Rattle.differences.proofs.PartingLemmas.{bounded-same, first-same}
+use Rattle.differences.proofs.PartingLemmas.{bounded-same}
 use Rattle.differences.proofs.parting.least_above.Goals as goal
 use Rattle.differences.proofs.parting.least_above.Goals.{After-and-2}
 

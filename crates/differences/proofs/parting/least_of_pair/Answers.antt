@@ -1,6 +1,5 @@
 use Rattle.std.proofs.Common.{◌∙◌, arith}
 use Rattle.differences.proofs.Common.{GrowsWithin, NoOtherCause, within_moved, within_then, within_more, within_answered, within_refused, by_variable, is_above}
-use Rattle.dual_rail.proofs.SurelyLemmas.{AreRailsOf-kept}
 use Rattle.differences.specs.Sets.{BoundsPair}
 use Rattle.differences.proofs.PartingLemmas.{above-kept, bounds-kept, first-same}
 use Rattle.differences.proofs.parting.least_of_pair.Goals as goal

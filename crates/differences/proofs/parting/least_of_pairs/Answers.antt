@@ -1,4 +1,4 @@
-use Rattle.std.proofs.Common.{◌≡◌, ◌∙◌, ◌+◌, ◌*◌, ◌||◌, ℕ, [], length, take, get_or, refl, sym, arith}
+use Rattle.std.proofs.Common.{◌≡◌, ◌∙◌, ◌+◌, ◌*◌, ◌||◌, ℕ, length, take, get_or, refl, sym, arith}
 use Rattle.differences.proofs.Common.{find, GrowsWithin, NoOtherCause, within_moved, within_then, within_more, within_answered, within_refused, by_variable, vectors, find-alike, AreRailsOf, rails_at, rails_at-proper, Pair, some_differ, BoundsPairs}
 use Rattle.std.proofs.lemmas.List.Folds.{list_any_more}
 use Rattle.bdd_store.proofs.GrowthLemmas.{nothing_grown}

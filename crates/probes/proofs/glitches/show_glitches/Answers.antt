@@ -1,8 +1,6 @@
-use Rattle.std.proofs.Common.{◌≡◌, ◌<◌, ◌++◌, ℕ, List, length, codes, decimal, ap, sym, ◌∙◌, arith}
-use Rattle.std.specs.List.{flat_map, range_with_len}
+use Rattle.std.proofs.Common.{◌++◌, ℕ, codes, decimal, arith}
 use Rattle.std.proofs.lemmas.List.{get_or_read, append_assoc}
-use Rattle.netlist.specs.Netlists.{gate_sig}
-use Rattle.probes.specs.Texts.{signal_name, glitch_line, gate_line, glitches_of, total_glitches, all_gates}
+use Rattle.probes.specs.Texts.{gate_line}
 use Rattle.probes.proofs.TextLemmas.{lines_more}
 use Rattle.probes.proofs.glitches.show_glitches.Goals as goal
 

@@ -1,4 +1,4 @@
-use Rattle.std.proofs.Common.{◌≡◌, ◌++◌, length, take, drop, ap, sym, ◌∙◌, arith}
+use Rattle.std.proofs.Common.{length, drop, arith}
 use Rattle.std.proofs.lemmas.List.{take-append-le, take_all}
 use Rattle.probes.proofs.RoundLemmas.{rounds_more}
 use Rattle.probes.proofs.last.rounds_of.Goals as goal

@@ -1,7 +1,6 @@
-use Rattle.std.proofs.Common.{◌≡◌, [], sym, ◌∙◌, arith}
+use Rattle.std.proofs.Common.{[], arith}
 use Rattle.std.proofs.lemmas.Option.{get_or_from_slice_get}
 use Rattle.netlist.specs.Netlists.{signal_names}
-use Rattle.probes.specs.Texts.{signal_name}
 use Rattle.probes.proofs.pieces.put_name.Goals as goal
 
 pub returns : goal.returns

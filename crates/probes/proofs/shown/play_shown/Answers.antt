@@ -1,4 +1,4 @@
-use Rattle.std.proofs.Common.{◌∙◌, arith}
+use Rattle.std.proofs.Common.{arith}
 use Rattle.probes.proofs.HearingLemmas.{each_whole}
 use Rattle.probes.proofs.ShowLemmas.{all_show, all_can_show}
 use Rattle.probes.proofs.SliceLemmas.{on_err}

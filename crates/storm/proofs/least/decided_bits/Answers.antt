@@ -1,4 +1,4 @@
-use Rattle.std.proofs.Common.{sym, ◌∙◌, arith}
+use Rattle.std.proofs.Common.{arith}
 use Rattle.cover_logic.specs.Covers.{value}
 use Rattle.storm.proofs.LeastLemmas.{least_is_known}
 use Rattle.storm.proofs.least.decided_bits.Goals as goal

@@ -1,6 +1,5 @@
-use Rattle.std.proofs.Common.{ap, sym, ◌∙◌, arith}
-use Rattle.std.specs.List.{list_any}
-use Rattle.storm.proofs.PlanLemmas.{fix_is_fixed, some_plan, no_plan}
+use Rattle.std.proofs.Common.{arith}
+use Rattle.storm.proofs.PlanLemmas.{fix_is_fixed}
 use Rattle.storm.proofs.planning.plan.Goals as goal
 
 pub plan_of-requires : goal.plan_of-requires

@@ -1,4 +1,4 @@
-use Rattle.std.proofs.Common.{refl, ◌∙◌, arith}
+use Rattle.std.proofs.Common.{arith}
 use Rattle.storm.specs.Storms.{storm_events}
 use Rattle.storm.proofs.PlanLemmas.{length-shaking, fits_round, plan_is, not_over}
 use Rattle.storm.proofs.scheduling.schedule.Goals as goal

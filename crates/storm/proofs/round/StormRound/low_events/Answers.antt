@@ -1,4 +1,4 @@
-use Rattle.std.proofs.Common.{◌≡◌, ◌≤◌, ◌+◌, length, get_or, [], arith, ap, ◌∙◌}
+use Rattle.std.proofs.Common.{arith}
 use Rattle.storm.proofs.PlanLemmas.{low_count, low_more}
 use Rattle.storm.proofs.round.StormRound.low_events.Goals as goal
 

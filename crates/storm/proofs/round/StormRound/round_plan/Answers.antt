@@ -1,4 +1,4 @@
-use Rattle.std.proofs.Common.{length, ap, ◌∙◌, arith}
+use Rattle.std.proofs.Common.{length, arith}
 use Rattle.storm.proofs.PlanLemmas.{low_count, both_halves}
 use Rattle.storm.proofs.round.StormRound.round_plan.Goals as goal
 
