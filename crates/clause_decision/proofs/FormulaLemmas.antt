@@ -7,6 +7,7 @@ use Rattle.std.specs.List.{All}
 use Rattle.std.specs.Prelude.{Contains}
 use Rattle.cyc_base.proofs.ListLemmas.{Contains-here, Contains-there}
 use Rattle.cyc_base.proofs.TruthLemmas.{and_with_true}
+use Rattle.refusals.proofs.RefusalLemmas.{one_of_bit}
 use Rattle.ternary_clauses.specs.Formulas.{holds}
 use Rattle.clause_decision.specs.Formulas.{IsCareFormula}
 
@@ -28,14 +29,11 @@ reads-map m f g [] h = tt
 reads-map m f g (x ∷ xs) h = (h x (Contains-here x xs), reads-map m f g xs (λ y there. h y (Contains-there x xs y there)))
 
 -- the literals of the columns read the vector
-one-bit : (b : Bool) → is_one (bit b) ≡ b
-one-bit b = grind arith
-
 pub ones-read : (m : List Bool) (rs : List Rails) (v : List Bool) → ReadsAll m rs (bits v) → map (says m) (map (λ r. r.one) rs) ≡ v
 ones-read m [] [] h = refl
 ones-read m [] (b ∷ v) h = absurd h
 ones-read m (r ∷ rs) [] h = absurd h
-ones-read m (r ∷ rs) (b ∷ v) h = ap₂ (λ (x : Bool) (xs : List Bool). x ∷ xs) (h.0.one ∙ one-bit b) (ones-read m rs v h.1)
+ones-read m (r ∷ rs) (b ∷ v) h = ap₂ (λ (x : Bool) (xs : List Bool). x ∷ xs) (h.0.one ∙ one_of_bit b) (ones-read m rs v h.1)
 
 -- ---- formulas over columns
 

@@ -2,12 +2,13 @@
 use Rattle.std.proofs.Common.{◌≡◌, ◌⊎◌, inl, inr, ℕ, suc, ◌+◌, Bool, true, false, List, [], ◌∷◌, length, map, reverse, get_or, All, Any, None, Option, refl, ap, sym, ◌∙◌, arith, true≢false}
 use Rattle.delay_core.proofs.Common.{option_or, cases_eq, length-set, length-map, length-replicate, get_or-set_other, Parts, Event, newest, IsEventOf, play, PlayFault, PlannedEvent, RoundPlan, Schedule, PlayState, first_allowed, event_fault, no_events, after_event, next_tick, planned_fault, after_planned, events_fault, after_plan, round_fault, after_plans, PlannedTick, first_opened, tick_of, rest_of}
 use Rattle.std.proofs.lemmas.List.Elements.{All-nil, All-cons}
+use Rattle.cyc_base.proofs.ListLemmas.{option_map-nothing}
 use Rattle.schedules.specs.Moments.{Round, after_events, after_rounds}
 use Rattle.schedules.specs.Fairness.{ReadsFrom, IsFairRound}
 use Rattle.schedules.proofs.RoundLemmas.{length-after_events}
 use Rattle.delay_core.specs.Plays.{unfair_gate}
 use Rattle.delay_core.specs.Plans.{unfair_fault, round_of, end_at, end_of}
-use Rattle.delay_core.proofs.PlayLemmas.{IsAllowed, none_mapped, is_allowed, never_true, each_had}
+use Rattle.delay_core.proofs.PlayLemmas.{IsAllowed, is_allowed, never_true, each_had}
 
 abbrev pub events_of : List PlannedEvent → Round
 events_of = map (λ planned. planned.event)
@@ -56,7 +57,7 @@ pub both_none : (first second : Option PlayFault) → option_or first second ≡
 both_none first second e = grind arith
 
 pub planned_allowed : (start : PlayState) (planned : PlannedEvent) → planned_fault start planned ≡ None → IsAllowed start planned.event
-planned_allowed start planned none = is_allowed start planned.event (none_mapped _ (event_fault start planned.event) none)
+planned_allowed start planned none = is_allowed start planned.event (option_map-nothing _ (event_fault start planned.event) none)
 
 Any-first : (P : Event → Type 0) (x : Event) (xs : List Event) → P x → Any P (x ∷ xs)
 Any-first P x xs p = (0, x, omega arith, refl, p)
@@ -108,7 +109,7 @@ round_fair start round begun e =
     record {
       events = fair.valid;
       each_gate = λ n l.
-          elim (fair.had n (each_had after.done (none_mapped _ (unfair_gate after) parts.1) n (omega (arith, width)))) [
+          elim (fair.had n (each_had after.done (option_map-nothing _ (unfair_gate after) parts.1) n (omega (arith, width)))) [
             | inl before ↦ absurd (had_none start n begun before)
             | inr any ↦ any
           ];

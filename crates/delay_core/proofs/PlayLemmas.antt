@@ -4,12 +4,10 @@ use Rattle.delay_core.proofs.Common.{cases_eq, cases_lt, length-replicate, Parts
 use Rattle.std.proofs.lemmas.List.{get_or-replicate, get_or_past}
 use Rattle.std.specs.Prelude.{if◌then◌else◌}
 use Rattle.std.proofs.lemmas.Bool.{ltb-true, ltb-false, not-false}
+use Rattle.cyc_base.proofs.ListLemmas.{option_map-nothing}
 use Rattle.netlist.proofs.Decisions.{none_found}
 use Rattle.delay_core.specs.declared.fault.EventFault.TheVariants.{NoGate, AgeCount, TooOld}
 use Rattle.delay_core.specs.Plays.{is_too_old, IsPlay}
-
-pub none_mapped : {A B : Type 0} (f : A → B) (o : Option A) → option_map f o ≡ None → o ≡ None
-none_mapped f o e = grind arith
 
 -- an event that isn't refused is one of the netlist, and reads what it may
 pub record IsAllowed (play : PlayState) (event : Event) : Type 0 where
@@ -25,7 +23,7 @@ is_allowed play event e =
     record {
       of = record { gate = ltb-true _ _ parts.0; ages = eqb-true _ _ parts.1 };
       ages = λ k d l.
-          let fine : is_too_old play (get_or event.ages k d) ≡ false = none_found (is_too_old play) event.ages (none_mapped TooOld (position (is_too_old play) event.ages) parts.2) k d l in
+          let fine : is_too_old play (get_or event.ages k d) ≡ false = none_found (is_too_old play) event.ages (option_map-nothing TooOld (position (is_too_old play) event.ages) parts.2) k d l in
           ltb-false (length play.history) (first_allowed play + get_or event.ages k d) fine;
     }
 

@@ -4,13 +4,10 @@ use Rattle.std.proofs.Math.Numerals.{add-one}
 use Rattle.std.specs.List.{flat_map, range_with_len}
 use Rattle.std.proofs.lemmas.List.{append-nil, take_more}
 use Rattle.std.proofs.lemmas.Grind.{flat_map-append}
-
-range_suc : (a n : ℕ) → range_with_len a (suc n) ≡ range_with_len a n ++ (a + n) ∷ []
-range_suc a zero = ap (λ x. x ∷ []) (omega arith)
-range_suc a (suc n) = grind (arith, range_suc (a + 1) n)
+use Rattle.cyc_base.proofs.ListLemmas.{range-suc}
 
 pub range_more : (a n j : ℕ) → a + n ≡ j → range_with_len a (n + 1) ≡ range_with_len a n ++ j ∷ []
-range_more a n j e = rw (add-one n, sym e) (range_suc a n)
+range_more a n j e = rw (add-one n, sym e) (range-suc a n)
 
 -- the lines of numbers from a on, and that of the next one
 pub lines_more : (line : ℕ → List ℕ) (a n j : ℕ) → a + n ≡ j → flat_map line (range_with_len a (n + 1)) ≡ flat_map line (range_with_len a n) ++ line j

@@ -200,8 +200,3 @@ pub record IsGoingBack (steps : List (Option Step)) (node at : ℕ) (way : List 
 abbrev pub IsNearer : Option Step → ℕ → Type 0
 IsNearer None depth = Unit {0}
 IsNearer (Some step) depth = depth < step.depth
-
--- the best cycle so far has at most as many nodes
-abbrev pub IsNoLonger : Option (List ℕ) → List ℕ → Type 0
-IsNoLonger None other = ⊥
-IsNoLonger (Some nodes) other = length nodes ≤ length other

@@ -1,8 +1,9 @@
 -- The parts of a plan.
 use Rattle.std.proofs.Common.{◌≡◌, ◌≢◌, ◌≤◌, ◌+◌, ◌*◌, ℕ, suc, Bool, true, false, not, List, [], ◌∷◌, ◌++◌, length, map, get_or, refl, ap, sym, ◌∙◌, arith, Some, None, append_assoc, ◌==◌}
+use Rattle.std.proofs.Math.Numerals.{add-one}
 use Rattle.std.specs.Prelude.{filter, min, if◌then◌else◌}
 use Rattle.std.specs.List.{range_with_len, list_any}
-use Rattle.std.proofs.lemmas.List.{length-map, length-append, get_or-append-add, get_or-map, map-append, map-id}
+use Rattle.std.proofs.lemmas.List.{length-map, length-append, get_or-append-add, get_or-map, map-append}
 use Rattle.std.proofs.lemmas.List.Folds.{list_any_at}
 use Rattle.std.proofs.lemmas.List.Elements.{filter-append}
 use Rattle.std.proofs.lemmas.List.Filters.{length-filter_both}
@@ -10,6 +11,7 @@ use Rattle.std.proofs.lemmas.List.FromFn.{get_or-map-range_with_len, length-rang
 use Rattle.cyc_base.specs.declared.trit.Trit.{Trit}
 use Rattle.cyc_base.specs.declared.trit.Trit.TheVariants.{X}
 use Rattle.cyc_base.specs.Values.{bit, bits}
+use Rattle.cyc_base.proofs.ListLemmas.{range-suc}
 use Rattle.netlist.specs.declared.parts.Parts.{Parts}
 use Rattle.netlist.specs.Netlists.{gate_sig, no_gate}
 use Rattle.netlist.specs.Fixpoint.{wire, fix, fix_gates, gate_value}
@@ -46,9 +48,6 @@ unknown_is_no_bit x b e same = grind arith
 
 -- ---- lists that grow
 
-range_more : (n : ℕ) → range_with_len 0 (n + 1) ≡ range_with_len 0 n ++ n ∷ []
-range_more n = sym (map-id (range_with_len 0 (n + 1))) ∙ map-range_with_len_more (λ k. k) 0 n n (omega arith) ∙ ap (λ l. l ++ n ∷ []) (map-id (range_with_len 0 n))
-
 at_least : (rounds turns : ℕ) → 1 ≤ rounds → rounds * turns ≤ most_events → turns ≤ most_events
 at_least rounds turns some few = grind arith
 
@@ -80,7 +79,7 @@ module _ (net : Parts) (plan : StormPlan) (back : ℕ) where
   high_turns n = map (high_turn plan) (filter (shakes plan) (range_with_len 0 n))
 
   high_turns-more : (n : ℕ) → high_turns (n + 1) ≡ high_turns n ++ map (high_turn plan) (filter (shakes plan) (n ∷ []))
-  high_turns-more n = grind (arith, range_more n, filter-append (shakes plan) (range_with_len 0 n) (n ∷ []), map-append (high_turn plan) (filter (shakes plan) (range_with_len 0 n)) (filter (shakes plan) (n ∷ [])))
+  high_turns-more n = grind (arith, add-one n, range-suc 0 n, filter-append (shakes plan) (range_with_len 0 n) (n ∷ []), map-append (high_turn plan) (filter (shakes plan) (range_with_len 0 n)) (filter (shakes plan) (n ∷ [])))
 
   pub high_more : (n : ℕ) (first old new : List PlannedEvent) → new ≡ old ++ turn_events net plan back (length old) (map (high_turn plan) (filter (shakes plan) (n ∷ [])))
       → old ≡ first ++ turn_events net plan back (length first) (high_turns n) → new ≡ first ++ turn_events net plan back (length first) (high_turns (n + 1))
