@@ -76,6 +76,13 @@ impl Care {
         }
     }
 
+    /// What holds of every care set, for a caller that reads nothing of it.
+    pub fn laws(&self)
+        ensures valid { IsCare self.now }
+    {
+        let _ = &self.assume;
+    }
+
     /// Whether the assumption holds where the inputs and the latches have these values.
     pub fn allows(
         &self,

@@ -1,5 +1,5 @@
 -- The states of vectors on rails.
-use Rattle.std.proofs.Common.{◌≡◌, ◌-◌, ℕ, Bool, List, length, drop, take, Result, IfOk, arith}
+use Rattle.std.proofs.Common.{◌≡◌, ◌-◌, ℕ, Bool, List, length, drop, take, arith}
 use Rattle.std.proofs.lemmas.List.{drop-map, take_rest}
 use Rattle.differences.proofs.Common.{Arena, bits, Rails, values_of, Parts, state_of}
 use Rattle.cyc_base.specs.Values.{bit}
@@ -8,7 +8,3 @@ use Rattle.cyc_base.specs.Values.{bit}
 pub state-values : (net : Parts) (a : Arena) (rails : List Rails) (first : ℕ) (values v : List Bool) → first ≡ length net.inputs → values_of a rails v ≡ bits values →
     values_of a (take (length rails - first) (drop first rails)) v ≡ bits (state_of net values)
 state-values net a rails first values v is are = grind (arith, take_rest rails first, drop-map, drop-map bit (length net.inputs) values)
-
--- what two clauses say together of an answer
-pub IfOk-both : {T E : Type 0} (r : Result T E) {P Q R : T → Type 0} → ((x : T) → P x → Q x → R x) → IfOk r P → IfOk r Q → IfOk r R
-IfOk-both r both p q = grind arith

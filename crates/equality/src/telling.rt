@@ -86,7 +86,7 @@ pub fn tell_equality(
 {
     a.laws();
     b.laws();
-    let _ = care.assume();
+    care.laws();
     let answer = compare_by_name(alloc, d, a, b, care, limit)?;
     Ok(tell_answer(alloc, a, b, &answer)?)
 }

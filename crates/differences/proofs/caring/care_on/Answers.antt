@@ -1,13 +1,13 @@
 use Rattle.std.proofs.Common.{◌≡◌, ◌∙◌, ◌+◌, ◌-◌, ◌*◌, Bool, List, length, take, drop, refl, sym, ap, arith}
 use Rattle.std.proofs.lemmas.List.{take_rest, length-drop}
-use Rattle.verdict.proofs.PartLemmas.{invariant-reads, assume-reads}
+use Rattle.verdict.proofs.PartLemmas.{IfOk-both, invariant-reads, assume-reads}
 use Rattle.differences.proofs.Common.{GrowsWithin, within_only, within_moved, within_then, within_more, within_refused, by_variable, conjunction, values_of, columns, is_care_vector, IsWide, IsLaidBy}
 use Rattle.bdd_store.proofs.GrowthLemmas.{KeepsNodes-chain, within_one}
 use Rattle.dual_rail.proofs.SurelyLemmas.{All-rails-kept, values_of-kept}
 use Rattle.verdict.specs.Causes.{HasModelOver}
 use Rattle.verdict.specs.Costs.{assume_effort, invariant_effort}
 use Rattle.differences.specs.Comparisons.{SaysCare}
-use Rattle.differences.proofs.CaringLemmas.{IfOk-both, state-values}
+use Rattle.differences.proofs.CaringLemmas.{state-values}
 use Rattle.differences.proofs.LaidLemmas.{made-listed, made-one, assume-bounded, invariant-bounded}
 use Rattle.differences.proofs.caring.care_on.Goals as goal
 use Rattle.differences.proofs.caring.care_on.Goals.{After-invariant_on, After-assume_on, After-and}

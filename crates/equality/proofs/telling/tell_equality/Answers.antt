@@ -17,4 +17,4 @@ returns-clause-told c =
 pub returns-clause-shown : goal.returns-clause-shown
 returns-clause-shown c =
     found_shows_itself c.args.a.now c.args.b.now c.args.care.now c.laws.ensures.valid c.laws-2.ensures.valid c.requires.care
-    c.assume.ensures.valid
+    c.laws-3.ensures.valid
