@@ -18,9 +18,7 @@ use Rattle.sat.proofs.CnfLemmas.{refuted}
 
 -- the complements of a clause's literals are in the core
 complements : (clause : List Lit) → All (λ l. Contains (map negated clause) (negated l)) clause
-complements clause k d within =
-    let inside : k < length (map negated clause) = rw (length-map clause negated) within in
-    (k, inside, get_or_default (map negated clause) k (negated (get_or clause k d)) (negated d) inside ∙ get_or-map negated clause k d)
+complements clause k d within = grind (arith, length-map clause negated, get_or_default (map negated clause) k (negated (get_or clause k d)) (negated d), get_or-map negated clause k d)
 
 pub core_of : (formula : List (List Lit)) (assumptions clause : List Lit) → Refutes formula assumptions clause → IsCore formula assumptions (map negated clause)
 core_of formula assumptions clause refutes = record {
@@ -31,9 +29,7 @@ core_of formula assumptions clause refutes = record {
 -- what was found is that the assumptions are refuted
 pub refutes_of : (formula : List (List Lit)) (assumptions : List Lit) (engine : Engine) (found : Option Verdict) (verdict : Verdict) →
     IfSome found (IsVerdict formula assumptions engine) → found ≡ Some verdict → verdict ≡ Refuted → Refutes formula assumptions engine.working.lits.items
-refutes_of formula assumptions engine found verdict shown is refuted =
-    let here : IsVerdict formula assumptions engine verdict = subst (λ (o : Option Verdict). IfSome o (IsVerdict formula assumptions engine)) is shown in
-    subst (λ (v : Verdict). IsVerdict formula assumptions engine v) refuted here
+refutes_of formula assumptions engine found verdict shown is refuted = grind arith
 
 -- how many variables the search has open
 abbrev pub open_in : Engine → ℕ
@@ -41,10 +37,7 @@ open_in engine = open_count engine.search.trail.values.items
 
 module _ (formula : List (List Lit)) (assumptions : List Lit) (before mid after : Engine) (fewer : open_in mid ≤ open_in before) where
   shows_since : (step : Step) → Shows formula assumptions mid after step → Shows formula assumptions before after step
-  shows_since Decided shown = omega (arith, shown, fewer)
-  shows_since Conflict shown = shown
-  shows_since (Found verdict) shown = shown
+  shows_since step shown = grind arith
 
   pub shows_from : {E : Type 0} (result : Result Step E) → IfOk result (Shows formula assumptions mid after) → IfOk result (Shows formula assumptions before after)
-  shows_from {E} (Ok step) shown = shows_since step shown
-  shows_from {E} (Err e) shown = shown
+  shows_from {E} h shown = grind arith

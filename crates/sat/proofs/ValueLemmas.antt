@@ -16,39 +16,19 @@ opened t = cond (is_open t) 1 0
 
 -- a value is set that isn't open
 count_set : (values : List Truth) (i : ℕ) (t : Truth) → is_open t ≡ false → open_count (set values i t) ≤ open_count values
-count_set values i t closed =
-    elim (cases_lt i (length values)) [
-      | inl within ↦
-          let sums = sum_by-set opened values i t False within in
-          let none : opened t ≡ 0 = ap (λ (b : Bool). cond b 1 0) closed in
-          omega (arith, sums, none)
-      | inr past ↦ let same = ap open_count (set_past values i t past) in omega (arith, same)
-    ]
+count_set values i t closed = grind (arith, cases_lt i (length values), sum_by-set opened values i t False, set_past values i t)
 
 open_within : (values : List Truth) (i : ℕ) → get_or values i False ≡ Open → i < length values
-open_within values i e =
-    elim (cases_lt i (length values)) [
-      | inl within ↦ within
-      | inr past ↦ absurd (true≢false (sym (ap is_open (sym (get_or_past values i False past) ∙ e))))
-    ]
+open_within values i e = grind (arith, cases_lt i (length values), true≢false, get_or_past values i False)
 
 count_open_set : (values : List Truth) (i : ℕ) (t : Truth) → is_open t ≡ false → get_or values i False ≡ Open → open_count (set values i t) < open_count values
-count_open_set values i t closed e =
-    let within = open_within values i e in
-    let sums = sum_by-set opened values i t False within in
-    let none : opened t ≡ 0 = ap (λ (b : Bool). cond b 1 0) closed in
-    let one : opened (get_or values i False) ≡ 1 = ap opened e in
-    omega (arith, sums, none, one)
+count_open_set values i t closed e = grind (arith, open_within values i e, sum_by-set opened values i t False)
 
 opposite-open : (t : Truth) → opposite t ≡ Open → t ≡ Open
-opposite-open Open e = refl
-opposite-open True e = absurd (true≢false (sym (ap is_open e)))
-opposite-open False e = absurd (true≢false (sym (ap is_open e)))
+opposite-open t e = grind arith
 
 opposite-true : (t : Truth) → opposite t ≡ True → is_true t ≡ false
-opposite-true Open e = refl
-opposite-true True e = absurd (true≢false (sym (ap is_true e)))
-opposite-true False e = refl
+opposite-true t e = grind arith
 
 even-value : (values : List Truth) (l : Lit) → l.code % 2 ≡ 0 → value_of values l ≡ get_or values (l.code / 2) False
 even-value values l e = rw e refl
@@ -63,49 +43,19 @@ odd-assigned : (values : List Truth) (l : Lit) → l.code % 2 ≡ 1 → assigned
 odd-assigned values l e = rw e refl
 
 pub open_assigned : (values : List Truth) (l : Lit) → open_count (assigned values l) ≤ open_count values
-open_assigned values l =
-    elim (cases_eq (l.code % 2) 0) [
-      | inl e ↦ let same = ap open_count (even-assigned values l e) in let fewer = count_set values (l.code / 2) True refl in omega (arith, same, fewer)
-      | inr ne ↦
-          let odd : l.code % 2 ≡ 1 = omega arith in
-          let same = ap open_count (odd-assigned values l odd) in
-          let fewer = count_set values (l.code / 2) False refl in
-          omega (arith, same, fewer)
-    ]
+open_assigned values l = grind (arith, cases_eq (l.code % 2) 0, even-assigned values l, count_set values (l.code / 2) True, odd-assigned values l, count_set values (l.code / 2) False)
 
 pub open_decided : (values : List Truth) (l : Lit) → value_of values l ≡ Open → open_count (assigned values l) < open_count values
 open_decided values l is_open =
-    elim (cases_eq (l.code % 2) 0) [
-      | inl e ↦
-          let same = ap open_count (even-assigned values l e) in
-          let fewer = count_open_set values (l.code / 2) True refl (sym (even-value values l e) ∙ is_open) in
-          omega (arith, same, fewer)
-      | inr ne ↦
-          let odd : l.code % 2 ≡ 1 = omega arith in
-          let same = ap open_count (odd-assigned values l odd) in
-          let fewer = count_open_set values (l.code / 2) False refl (opposite-open (get_or values (l.code / 2) False) (sym (odd-value values l odd) ∙ is_open)) in
-          omega (arith, same, fewer)
-    ]
+    grind (arith, cases_eq (l.code % 2) 0, even-assigned values l, count_open_set values (l.code / 2) True, even-value values l, odd-assigned values l, count_open_set values (l.code / 2) False, opposite-open (get_or values (l.code / 2) False), odd-value values l)
 
 valuation-at : (values : List Truth) (v : ℕ) → valuation values v ≡ is_true (get_or values v False)
 valuation-at values v = get_or-map is_true values v False
 
 -- a true literal holds
 pub true_holds : (values : List Truth) (l : Lit) → value_of values l ≡ True → holds (valuation values) l ≡ true
-true_holds values l e =
-    elim (cases_eq (l.code % 2) 0) [
-      | inl even ↦ let is : holds (valuation values) l ≡ valuation values (l.code / 2) = rw even refl in is ∙ valuation-at values (l.code / 2) ∙ ap is_true (sym (even-value values l even) ∙ e)
-      | inr ne ↦
-          let odd : l.code % 2 ≡ 1 = omega arith in
-          let is : holds (valuation values) l ≡ not (valuation values (l.code / 2)) = rw odd refl in
-          is ∙ ap not (valuation-at values (l.code / 2) ∙ opposite-true (get_or values (l.code / 2) False) (sym (odd-value values l odd) ∙ e))
-    ]
+true_holds values l e = grind (arith, cases_eq (l.code % 2) 0, valuation-at values (l.code / 2), even-value values l, opposite-true (get_or values (l.code / 2) False), odd-value values l)
 
 -- an open variable is an open literal, whichever sign it gets
 pub open_variable : (values : List Truth) (v : ℕ) (l : Lit) → l.code / 2 ≡ v → get_or values v False ≡ Open → value_of values l ≡ Open
-open_variable values v l at e =
-    let here : get_or values (l.code / 2) False ≡ Open = ap (λ (n : ℕ). get_or values n False) at ∙ e in
-    elim (cases_eq (l.code % 2) 0) [
-      | inl even ↦ even-value values l even ∙ here
-      | inr ne ↦ let odd : l.code % 2 ≡ 1 = omega arith in odd-value values l odd ∙ ap opposite here
-    ]
+open_variable values v l at e = grind arith

@@ -13,5 +13,4 @@ loop-assumption-preserved c =
     (c.is_true.ensures c.if-not-is_true.false)
 
 pub returns : goal.returns
-returns c =
-    subst (λ (xs : List Lit). All (λ x. value_of c.args.trail.now.values.items x ≡ True) xs) (take_all c.loop-assumption.assumption-index c.args.assumptions.now (omega arith)) c.loop-assumption.invariant
+returns c = grind (arith, take_all c.loop-assumption.assumption-index c.args.assumptions.now)

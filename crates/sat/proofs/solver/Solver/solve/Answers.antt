@@ -1,4 +1,4 @@
-use Rattle.std.proofs.Common.{◌∙◌, List, ap, map, subst, sym}
+use Rattle.std.proofs.Common.{◌∙◌, List, ap, map, subst, sym, arith}
 use Rattle.sat.specs.declared.lit.Lit.{Lit}
 use Rattle.sat.specs.Cnf.{negated}
 use Rattle.sat.specs.Answers.{IsCore}
@@ -13,7 +13,4 @@ returns-in_ok-self-inside-in-Some-Refuted-clause-answer c =
 
 pub returns-in_ok-self-inside-in-Some-Refuted-clause-core : goal.returns-in_ok-self-inside-in-Some-Refuted-clause-core
 returns-in_ok-self-inside-in-Some-Refuted-clause-core c =
-    let refutes = refutes_of c.self.inside.formula c.args.assumptions.now c.look.new.self c.in_ok-found.found.verdict c.in-Some-Refuted.field-0 c.in_ok-found.ensures.found.verdict c.in-Some-Refuted.is (rw c.in-Some-Refuted.is at c.in-Some-Refuted.field-0-is) in
-    subst (λ (xs : List Lit). IsCore c.self.inside.formula c.args.assumptions.now xs)
-    (sym (c.in_ok-self-inside-in-Some-Refuted.ensures ∙ ap (λ (xs : List Lit). map negated xs) c.deref-in-Some-Refuted.ensures.value))
-    (core_of c.self.inside.formula c.args.assumptions.now c.look.new.self.working.lits.items refutes)
+    grind (arith, refutes_of c.self.inside.formula c.args.assumptions.now c.look.new.self c.in_ok-found.found.verdict c.in-Some-Refuted.field-0 c.in_ok-found.ensures.found.verdict c.in-Some-Refuted.is, core_of c.self.inside.formula c.args.assumptions.now c.look.new.self.working.lits.items)
