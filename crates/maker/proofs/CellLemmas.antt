@@ -17,22 +17,14 @@ pub item_more : (f : ℕ → ℕ) (base before after : List ℕ) (n : ℕ)
     → before ≡ base ++ map f (cells n)
     → after ≡ before ++ f n ∷ []
     → after ≡ base ++ map f (cells (n + 1))
-item_more f base before after n e more =
-    more
-    ∙ ap (λ (xs : List ℕ). xs ++ f n ∷ []) e
-    ∙ append_assoc base (map f (cells n)) (f n ∷ [])
-    ∙ ap (λ (xs : List ℕ). base ++ xs) (sym (one_more f n))
+item_more f base before after n e more = grind (arith, append_assoc base (map f (cells n)) (f n ∷ []), one_more f n)
 
 -- one part for each cell
 pub part_more : {X : Type 0} (told : X → List ℕ) (f : ℕ → X) (base before after : List ℕ) (n : ℕ)
     → before ≡ base ++ flat_map told (map f (cells n))
     → after ≡ before ++ told (f n)
     → after ≡ base ++ flat_map told (map f (cells (n + 1)))
-part_more told f base before after n e more =
-    more
-    ∙ ap (λ (xs : List ℕ). xs ++ told (f n)) e
-    ∙ flat_map_more told base (map f (cells n)) (f n)
-    ∙ ap (λ xs. base ++ flat_map told xs) (sym (one_more f n))
+part_more told f base before after n e more = grind (arith, flat_map_more told base (map f (cells n)) (f n), one_more f n)
 
 lines_more : (f : ℕ → List (List (List ℕ))) (n : ℕ) → flat_map f (cells (n + 1)) ≡ flat_map f (cells n) ++ f n
 lines_more f n = ap (flat_map f) (cell_more n) ∙ sym (flat_map_more f [] (cells n) n)
@@ -45,11 +37,7 @@ pub text_more : (f : ℕ → List (List (List ℕ))) (base before after : List �
     → before ≡ base ++ text_of (flat_map f (cells n))
     → after ≡ before ++ text_of (f n)
     → after ≡ base ++ text_of (flat_map f (cells (n + 1)))
-text_more f base before after n e more =
-    more
-    ∙ ap (λ (xs : List ℕ). xs ++ text_of (f n)) e
-    ∙ append_assoc base (text_of (flat_map f (cells n))) (text_of (f n))
-    ∙ ap (λ (xs : List ℕ). base ++ xs) (sym (text_of-append (flat_map f (cells n)) (f n)) ∙ ap text_of (sym (lines_more f n)))
+text_more f base before after n e more = grind (arith, append_assoc base (text_of (flat_map f (cells n))) (text_of (f n)), text_of-append (flat_map f (cells n)) (f n), lines_more f n)
 
 -- parts that are put behind a text one after another
 abbrev pub puts : List ℕ → List (List ℕ) → List ℕ
@@ -80,14 +68,7 @@ ring_put n =
     let latches = map (latch_line n) (cells n) in
     let gates = flat_map (gate_lines n) (cells n) in
     let rest = text_of (latches ++ (gates ++ end_lines)) in
-    puts_at_once [] (ring_parts n)
-    ∙ sym (ap (λ (t : List ℕ). codes ".model ring\n.inputs" ++ t) (
-    append_assoc requests (codes "\n") (codes ".outputs" ++ ((grants ++ codes "\n") ++ rest))
-    ∙ ap (λ (t : List ℕ). requests ++ (codes "\n.outputs" ++ t)) (
-    append_assoc grants (codes "\n") rest
-    ∙ ap (λ (t : List ℕ). grants ++ (codes "\n" ++ t)) (
-    text_of-append latches (gates ++ end_lines)
-    ∙ ap (λ (t : List ℕ). text_of latches ++ t) (text_of-append gates end_lines)))))
+    grind (arith, puts_at_once [] (ring_parts n), append_assoc requests (codes "\n") (codes ".outputs" ++ ((grants ++ codes "\n") ++ rest)), append_assoc grants (codes "\n") rest, text_of-append latches (gates ++ end_lines), text_of-append gates end_lines)
 
 abbrev pub care_parts : ℕ → List (List ℕ)
 care_parts n =

@@ -12,11 +12,7 @@ pub split_at_tilde : (d e r s : List ℕ) → NoTilde d → NoTilde e → d ++ (
 split_at_tilde [] [] r s hd he q = (refl, cc)
 split_at_tilde [] (y ∷ e) r s hd he q = let h : y ≡ 126 = cc in absurd (he.0 h)
 split_at_tilde (x ∷ d) [] r s hd he q = let h : x ≡ 126 = cc in absurd (hd.0 h)
-split_at_tilde (x ∷ d) (y ∷ e) r s hd he q =
-    let h : x ≡ y = cc in
-    let t : d ++ (126 ∷ r) ≡ e ++ (126 ∷ s) = cc in
-    let i = split_at_tilde d e r s hd.1 he.1 t in
-    (let j : d ≡ e = i.0 in cc, i.1)
+split_at_tilde (x ∷ d) (y ∷ e) r s hd he q = grind (arith, split_at_tilde d e r s hd.1 he.1)
 
 no_tilde : (d : List ℕ) → ((k : ℕ) → k < length d → get_or d k 0 ≤ 57) → NoTilde d
 no_tilde [] h = tt

@@ -16,11 +16,7 @@ leading_tildes zero b = omega arith
 leading_tildes (suc n) b = let h = leading_tildes n b in omega arith
 
 pub run_longest : (a b : List ℕ) (n : ℕ) → n ≤ longest_run (a ++ (tildes n ++ b))
-run_longest a b n =
-    let h = longest_behind a (tildes n ++ b) in
-    let i = leading_longest (tildes n ++ b) in
-    let j = leading_tildes n b in
-    omega arith
+run_longest a b n = grind (arith, longest_behind a (tildes n ++ b), leading_longest (tildes n ++ b), leading_tildes n b)
 
 pub without_tildes : (n : ℕ) (r s : List ℕ) → tildes n ++ r ≡ tildes n ++ s → r ≡ s
 without_tildes zero r s q = q

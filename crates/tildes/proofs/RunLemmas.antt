@@ -25,23 +25,14 @@ longest-append (x ∷ xs) ys = let h = longest-append xs ys in omega arith
 
 -- with one more text
 pub longest_more : (texts : List (List ℕ)) (i : ℕ) (text : List ℕ) → i < length texts → text ≡ get_or texts i text → longest_run_of (take (i + 1) texts) ≡ max (longest_run_of (take i texts)) (longest_run text)
-longest_more texts i text l e =
-    let taken : take (i + 1) texts ≡ take i texts ++ text ∷ [] = take_more texts i text l ∙ ap (λ y. take i texts ++ y ∷ []) (sym e) in
-    let h = ap longest_run_of taken ∙ longest-append (take i texts) (text ∷ []) in
-    omega arith
+longest_more texts i text l e = grind (arith, take_more texts i text l, longest-append (take i texts) (text ∷ []))
 
 -- one more byte of a text, where `run` counts the `~` that end just before it
 pub run_goes_on : (xs : List ℕ) (i longest run total : ℕ) → i < length xs → get_or xs i 0 ≡ 126 → max longest (max (run + leading_run (drop i xs)) (longest_run (drop i xs))) ≡ total → max (max longest (run + 1)) (max ((run + 1) + leading_run (drop (i + 1) xs)) (longest_run (drop (i + 1) xs))) ≡ total
-run_goes_on xs i longest run total l h e =
-    let d : drop i xs ≡ 126 ∷ drop (i + 1) xs = rw add-one (drop-cons xs i 0 l ∙ ap (λ y. y ∷ drop (suc i) xs) h) in
-    let f : max longest (max (run + leading_run (126 ∷ drop (i + 1) xs)) (longest_run (126 ∷ drop (i + 1) xs))) ≡ total = ap (λ ys. max longest (max (run + leading_run ys) (longest_run ys))) (sym d) ∙ e in
-    let g = leading_longest (drop (i + 1) xs) in
-    omega arith
+run_goes_on xs i longest run total l h e = grind (arith, add-one, drop-cons xs i 0 l, leading_longest (drop (i + 1) xs))
 
 other_byte : (b : ℕ) (rest : List ℕ) → nat_eq b 126 ≡ false → (leading_run (b ∷ rest) ≡ 0) × (longest_run (b ∷ rest) ≡ longest_run rest)
-other_byte b rest h =
-    let e : leading_run (b ∷ rest) ≡ 0 = ap (λ t. if t then suc (leading_run rest) else 0) h in
-    (e, let f : longest_run (b ∷ rest) ≡ max (leading_run (b ∷ rest)) (longest_run rest) = refl in omega arith)
+other_byte b rest h = grind arith
 
 pub run_ends : (xs : List ℕ) (i longest run total : ℕ) → i < length xs → (get_or xs i 0 ≡ 126 → ⊥) → run ≤ longest → max longest (max (run + leading_run (drop i xs)) (longest_run (drop i xs))) ≡ total → max (max longest 0) (max (0 + leading_run (drop (i + 1) xs)) (longest_run (drop (i + 1) xs))) ≡ total
 run_ends xs i longest run total l h m e =

@@ -19,7 +19,4 @@ loop-byte-preserved c =
     ]
 
 pub loop-byte-init : goal.loop-byte-init
-loop-byte-init c =
-    let h = leading_longest c.bytes-byte-items.result.now in
-    let e = ap (λ xs. longest_run xs) c.bytes-byte-items.ensures in
-    record { within = omega arith; longer = omega arith; rest = omega arith }
+loop-byte-init c = grind (arith, leading_longest c.bytes-byte-items.result.now)
