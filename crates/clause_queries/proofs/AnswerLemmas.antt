@@ -19,20 +19,15 @@ values a variables = map a (range_with_len 0 variables)
 
 -- a literal of one of the variables has its value by them
 holds-values : (a : ℕ → Bool) (variables : ℕ) (l : Lit) → l.code < 2 * variables → holds (assignment (values a variables)) l ≡ holds a l
-holds-values a variables l less =
-    ap (λ b. if (l.code % 2) == 0 then b else not b) (get_or-map-range_with_len a 0 variables (l.code / 2) (l.code / 2) false (omega (arith, less)) (omega arith))
+holds-values a variables l less = grind (arith, get_or-map-range_with_len a 0 variables (l.code / 2) (l.code / 2) false)
 
 -- a clause that is satisfied
 any-satisfied : (a : ℕ → Bool) (variables : ℕ) (clause : List Lit) → All (λ l. l.code < 2 * variables) clause → IsSatisfied a clause →
     list_any (holds (assignment (values a variables))) clause ≡ true
-any-satisfied a variables clause within is =
-    list_any-from_Any (holds (assignment (values a variables))) clause
-    (is.listed.0, is.lit, is.listed.1, is.listed.2, holds-values a variables is.lit (All-contains (λ l. l.code < 2 * variables) clause is.lit within is.listed) ∙ is.is_true)
+any-satisfied a variables clause within is = grind (arith, list_any-from_Any (holds (assignment (values a variables))) clause, holds-values a variables is.lit, All-contains)
 
 satisfied-any : (a : ℕ → Bool) (clause : List Lit) → list_any (holds a) clause ≡ true → IsSatisfied a clause
-satisfied-any a clause is =
-    let found = Any-from_list_any (holds a) clause is in
-    record { lit = found.1; listed = (found.0, found.2, found.3); is_true = found.4 }
+satisfied-any a clause is = grind (arith, Any-from_list_any (holds a) clause is)
 
 -- whether each of the solver's clauses has a literal that is true
 any-codes : (m : List Bool) (clause : List Lit) → list_any (says m) (map (λ l. l.code) clause) ≡ list_any (holds (assignment m)) clause
@@ -54,9 +49,7 @@ model-answer variables formula a assumptions within assumed meets = record {
 }
   where
     assumed_true : (k : ℕ) (d : ℕ) → k < length assumptions → holds a (lit (get_or assumptions k d)) ≡ true
-    assumed_true k d less =
-        subst (λ l. holds a l ≡ true) (get_or-map lit assumptions k d (lit d) less)
-        (meets.assumed k (lit d) (let wide : length (map lit assumptions) ≡ length assumptions = length-map assumptions lit in omega arith))
+    assumed_true k d less = grind (arith, get_or-map lit assumptions k d (lit d) less, length-map assumptions lit)
 
 -- where the solver has none, the formula has none
 pub no_model-answer : (variables : ℕ) (formula : List (List Lit)) (assumptions : List ℕ) →
@@ -75,13 +68,7 @@ pub model-reply : (p : Problem) (variables : ℕ) (formula held : List (List Lit
     loaded variables formula ≡ p → AreOf variables formula → IsWithin p.variables assumptions → held ≡ formula → lits ≡ map lit assumptions → m ≡ values (assignment model) variables →
     Meets (assignment model) held lits → IsModelUnder p assumptions m × (length m ≡ p.variables)
 model-reply p variables formula held model m assumptions lits p_is within assumed held_is lits_is m_is meets =
-    let same : Meets (assignment model) formula (map lit assumptions) =
-    subst (λ ls. Meets (assignment model) formula ls) lits_is (subst (λ f. Meets (assignment model) f lits) held_is meets) in
-    let under : IsModelUnder (loaded variables formula) assumptions (values (assignment model) variables) =
-    model-answer variables formula (assignment model) assumptions within (subst (λ (q : Problem). IsWithin q.variables assumptions) (sym p_is) assumed) same in (
-      subst (λ q. IsModelUnder q assumptions m) p_is (subst (λ v. IsModelUnder (loaded variables formula) assumptions v) (sym m_is) under),
-      ap length m_is ∙ length-map-range_with_len (assignment model) 0 variables ∙ ap (λ (q : Problem). q.variables) p_is,
-    )
+    grind (arith, model-answer variables formula (assignment model) assumptions within, length-map-range_with_len (assignment model) 0 variables)
 
 pub none-reply : (p : Problem) (variables : ℕ) (formula held : List (List Lit)) (assumptions : List ℕ) (lits : List Lit) →
     loaded variables formula ≡ p → held ≡ formula → lits ≡ map lit assumptions → ((a : ℕ → Bool) → ¬ Meets a held lits) → HasNoModelUnder p assumptions

@@ -9,9 +9,7 @@ use Rattle.clause_queries.proofs.DescentLemmas.{under-fewer, under-last, under-m
 rising-by : (p : Problem) (literals : List ℕ) (m : List Bool) (i n : ℕ) → AreRising p literals → is_model p m ≡ true → i + n < length literals →
     says m (get_or literals i 0) ≡ true → says m (get_or literals (i + n) 0) ≡ true
 rising-by p literals m i zero rising model less here = let e : i ≡ i + 0 = omega arith in subst (λ k. says m (get_or literals k 0) ≡ true) e here
-rising-by p literals m i (suc n) rising model less here =
-    let e : (i + n) + 1 ≡ i + suc n = omega arith in
-    subst (λ k. says m (get_or literals k 0) ≡ true) e (rising m (i + n) model (omega arith) (rising-by p literals m i n rising model (omega arith) here))
+rising-by p literals m i (suc n) rising model less here = grind (arith, rising-by p literals m i n rising model)
 
 -- where a literal can't be true, no earlier one can
 pub none-earlier : (p : Problem) (literals assumptions : List ℕ) (i : ℕ) → AreRising p literals → i < length literals →
@@ -33,9 +31,7 @@ open-first p literals assumptions high less possible = record { within = less; p
 
 pub open-lower : (p : Problem) (literals assumptions : List ℕ) (low high middle next : ℕ) (m : List Bool) → IsOpen p literals assumptions low high → middle < high → next ≤ middle →
     IsModelUnder p (assumptions ++ get_or literals middle 0 ∷ []) m → says m (get_or literals next 0) ≡ true → IsOpen p literals assumptions low next
-open-lower p literals assumptions low high middle next m is below to under here =
-    let within : high < length literals = is.within in
-    record { within = omega arith; possible = possible-earlier p literals assumptions middle next m under here; before = is.before }
+open-lower p literals assumptions low high middle next m is below to under here = grind (arith, possible-earlier p literals assumptions middle next m under here)
 
 pub open-higher : (p : Problem) (literals assumptions : List ℕ) (low high middle : ℕ) → AreRising p literals → IsOpen p literals assumptions low high → middle < high →
     HasNoModelUnder p (assumptions ++ get_or literals middle 0 ∷ []) → IsOpen p literals assumptions (middle + 1) high

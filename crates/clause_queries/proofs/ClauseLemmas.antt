@@ -17,8 +17,7 @@ clauses_from-take : (size : ℕ) (begun rest : List ℕ) → clauses_from size b
 clauses_from-take zero begun [] = ap (λ c. c ∷ []) (sym (append-nil begun))
 clauses_from-take (suc size) begun [] = ap (λ c. c ∷ []) (sym (append-nil begun))
 clauses_from-take zero begun (n ∷ rest) = ap (λ c. c ∷ clauses_from n [] rest) (sym (append-nil begun))
-clauses_from-take (suc size) begun (l ∷ rest) =
-    clauses_from-take size (begun ++ l ∷ []) rest ∙ ap (λ c. c ∷ clauses_of (drop size rest)) (append_assoc begun (l ∷ []) (take size rest))
+clauses_from-take (suc size) begun (l ∷ rest) = grind (arith, clauses_from-take size (begun ++ l ∷ []) rest, append_assoc begun (l ∷ []) (take size rest))
 
 pub clauses-first : (size : ℕ) (rest : List ℕ) → clauses_of (size ∷ rest) ≡ take size rest ∷ clauses_of (drop size rest)
 clauses-first size rest = clauses_from-take size [] rest
@@ -32,8 +31,7 @@ holds_from-clauses m (suc left) begun (l ∷ rest) =
     ∙ holds_from-clauses m left (begun ++ l ∷ []) rest
   where
     or-false : (b : Bool) → (b || false) ≡ b
-    or-false true = refl
-    or-false false = refl
+    or-false b = grind arith
 
 holds-clauses : (m : List Bool) (literals : List ℕ) → holds_all m literals ≡ list_all (list_any (says m)) (clauses_of literals)
 holds-clauses m [] = refl
@@ -54,10 +52,7 @@ codes-clauses (c ∷ cs) = ap₂ (λ a b. a ∷ b) (codes-lits c) (codes-clauses
 
 -- what is loaded is the problem of the formula
 pub loaded-problem : (f : Formula) (formula : List (List Lit)) → AreLoaded f.variables f.literals.items formula → loaded f.variables formula ≡ problem f
-loaded-problem f formula is =
-    let variables = f.variables in
-    ap (λ (cs : List (List Lit)). loaded variables cs) is.are
-    ∙ ap (λ (cs : List (List ℕ)). let p : Problem = record { variables = variables; clauses = cs } in p) (codes-clauses (clauses_of f.literals.items))
+loaded-problem f formula is = grind (arith, codes-clauses (clauses_of f.literals.items))
 
 pub loaded-within : (variables : ℕ) (literals : List ℕ) (formula : List (List Lit)) → AreLoaded variables literals formula → AreOf variables formula
 loaded-within variables literals formula is =
@@ -78,24 +73,13 @@ pub record AreLoading (variables : ℕ) (literals : List ℕ) (added : ℕ) (res
 
 pub loading-more : (variables : ℕ) (literals : List ℕ) (added size : ℕ) (rest : List ℕ) (formula : List (List Lit)) → AreLoading variables literals added (size ∷ rest) formula →
     added < 4294967295 → IsWithin variables (take size rest) → AreLoading variables literals (added + 1) (drop size rest) (formula ++ map lit (take size rest) ∷ [])
-loading-more variables literals added size rest formula before room within = record {
-  done = before.done ++ take size rest ∷ [];
-  all = before.all ∙ ap (λ cs. before.done ++ cs) (clauses-first size rest) ∙ sym (append_assoc before.done (take size rest ∷ []) (clauses_of (drop size rest)));
-  formula_is = ap (λ f. f ++ map lit (take size rest) ∷ []) before.formula_is ∙ sym (map-append (map lit) before.done (take size rest ∷ []));
-  added_is = ap (λ n. n + 1) before.added_is ∙ sym (length-append before.done (take size rest ∷ []));
-  few = omega arith;
-  within = All-push (IsWithin variables) before.done (take size rest) before.within within;
-}
+loading-more variables literals added size rest formula before room within =
+    grind (arith, clauses-first size rest, append_assoc before.done (take size rest ∷ []) (clauses_of (drop size rest)), map-append (map lit) before.done (take size rest ∷ []), length-append before.done (take size rest ∷ []), All-push (IsWithin variables) before.done (take size rest) before.within within)
 
 -- there is no room for one clause more
 pub loading-full : (variables : ℕ) (literals : List ℕ) (added size : ℕ) (rest : List ℕ) (formula : List (List Lit)) → AreLoading variables literals added (size ∷ rest) formula →
     added ≡ 4294967295 → ¬ AreTaken variables literals
-loading-full variables literals added size rest formula is full taken =
-    let count : length (clauses_of literals) ≡ length is.done + length (clauses_of (size ∷ rest)) = ap length is.all ∙ length-append is.done (clauses_of (size ∷ rest)) in
-    let more : length (clauses_of (size ∷ rest)) ≡ suc (length (clauses_of (drop size rest))) = ap length (clauses-first size rest) in
-    let few : length (clauses_of literals) ≤ 4294967295 = taken.few in
-    let added_is : added ≡ length is.done = is.added_is in
-    omega arith
+loading-full variables literals added size rest formula is full taken = grind (arith, length-append is.done (clauses_of (size ∷ rest)), clauses-first size rest)
 
 -- the next clause has a variable that is none of these
 pub loading-foreign : (variables : ℕ) (literals : List ℕ) (added size : ℕ) (rest : List ℕ) (formula : List (List Lit)) → AreLoading variables literals added (size ∷ rest) formula →

@@ -1,5 +1,5 @@
 -- Columns fixed one by one, and what the least vector is for tests.
-use Rattle.std.proofs.Common.{◌≡◌, ℕ, Bool, true, false, not, List, [], ◌∷◌, ◌++◌, length, Option, Some, None, refl, sym, ap, subst, ◌∙◌, true≢false}
+use Rattle.std.proofs.Common.{◌≡◌, ℕ, Bool, true, false, not, List, [], ◌∷◌, ◌++◌, length, Option, Some, None, refl, sym, ap, subst, ◌∙◌, true≢false, arith}
 use Rattle.std.specs.Prelude.{find, is_some}
 use Rattle.std.proofs.lemmas.List.{map-append, length-map}
 use Rattle.std.proofs.lemmas.List.Elements.{All-push}
@@ -71,22 +71,12 @@ fixed-more p assumptions columns fixed model next column literal is under reads 
 pub fixed-low : (p : Problem) (assumptions columns fixed : List ℕ) (model next : List Bool) (column : ℕ) → IsFixed p assumptions columns fixed model →
     IsModelUnder p (fixed ++ negation column ∷ []) next → IsFixed p assumptions (columns ++ column ∷ []) (fixed ++ negation column ∷ []) next
 fixed-low p assumptions columns fixed model next column is under =
-    fixed-more p assumptions columns fixed model next column (negation column) is under
-    (λ m low. zero_at m low ∙ sym next_low)
-    (λ m same. says-negation m column ∙ ap not (same ∙ next_low))
-    (λ m u high. absurd (true≢false (sym high ∙ next_low)))
-  where
-    zero_at : (m : List Bool) → says m (negation column) ≡ true → says m column ≡ false
-    zero_at m low = not-true (says m column) (sym (says-negation m column) ∙ low)
-
-    next_low : says next column ≡ false
-    next_low = zero_at next (under-last p fixed (negation column) next under)
+    grind (arith, fixed-more p assumptions columns fixed model next column (negation column) is under, says-negation, true≢false, not-true, under-last p fixed (negation column) next under)
 
 -- the model itself has
 pub fixed-stays : (p : Problem) (assumptions columns fixed : List ℕ) (model : List Bool) (column : ℕ) → IsFixed p assumptions columns fixed model →
     says model column ≡ false → IsFixed p assumptions (columns ++ column ∷ []) (fixed ++ negation column ∷ []) model
-fixed-stays p assumptions columns fixed model column is low =
-    fixed-low p assumptions columns fixed model model column is (under-more p fixed (negation column) model is.under (says-negation model column ∙ ap not low))
+fixed-stays p assumptions columns fixed model column is low = grind (arith, fixed-low p assumptions columns fixed model model column is, under-more p fixed (negation column) model is.under, says-negation model column)
 
 -- none has
 pub fixed-high : (p : Problem) (assumptions columns fixed : List ℕ) (model : List Bool) (column : ℕ) → IsFixed p assumptions columns fixed model →
@@ -108,12 +98,7 @@ fixed-all p assumptions columns fixed model is = record { some = record { model 
 
 pub least-first : (p : Problem) (columns assumptions : List ℕ) (passes : List Bool → Bool) (v : List Bool) → Asks p columns assumptions passes → IsLeastVector p columns assumptions v →
     find passes (vectors (length columns)) ≡ Some v
-least-first p columns assumptions passes v asks is =
-    find_least (length columns) passes v (ap length (sym is.some.reads) ∙ length-map columns (says is.some.model))
-    (ap passes (sym is.some.reads) ∙ asks.sound is.some.model is.some.under)
-    (λ w wide w_passes.
-    let has = asks.complete w wide w_passes in
-    subst (λ u. AtMost v u) has.reads (is.least has.model has.under))
+least-first p columns assumptions passes v asks is = grind (arith, find_least (length columns) passes v, length-map columns (says is.some.model))
 
 pub none-first : (p : Problem) (columns assumptions : List ℕ) (passes : List Bool → Bool) → Asks p columns assumptions passes → HasNoModelUnder p assumptions →
     find passes (vectors (length columns)) ≡ None
@@ -122,8 +107,7 @@ none-first p columns assumptions passes asks none =
 
 pub some-first : (p : Problem) (columns assumptions : List ℕ) (passes : List Bool → Bool) (m : List Bool) → Asks p columns assumptions passes → IsModelUnder p assumptions m →
     is_some (find passes (vectors (length columns))) ≡ true
-some-first p columns assumptions passes m asks under =
-    find_some (length columns) passes (vector_of columns m) (length-map columns (says m)) (asks.sound m under)
+some-first p columns assumptions passes m asks under = grind (arith, find_some (length columns) passes (vector_of columns m) (length-map columns (says m)) (asks.sound m under), length-map columns (says m))
 
 -- whether there is a model, as tests see it
 pub possible-vectors : (p : Problem) (assumptions : List ℕ) (possible : Option Bool) → IsPossible p assumptions possible →

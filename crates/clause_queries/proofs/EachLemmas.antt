@@ -31,12 +31,10 @@ pub told-never : (p : Problem) (literals assumptions : List ℕ) (place : ℕ) (
 told-never p literals assumptions place found told none = told-here p literals assumptions place found told (λ isnt. none)
 
 or-parts : (a b : Bool) → (a || b) ≡ true → (P : Type 0) → (a ≡ true → P) → (b ≡ true → P) → P
-or-parts true b h P left right = left refl
-or-parts false b h P left right = right h
+or-parts a b h e left right = grind arith
 
 or-none : (a b : Bool) → (a || b) ≡ false → a ≡ false
-or-none true b h = h
-or-none false b h = refl
+or-none a b h = grind arith
 
 -- since a model has it, which tells of others too
 pub told-model : (p : Problem) (literals assumptions : List ℕ) (place : ℕ) (m old new : List Bool) → place < length literals → AreToldBelow p literals assumptions place old →

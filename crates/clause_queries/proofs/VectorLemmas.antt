@@ -13,51 +13,25 @@ pub find_least : (n : ℕ) (p : List Bool → Bool) (v : List Bool) → length v
 find_least zero p [] wide passes least = ap (λ t. let nothing : Option (List Bool) = None in cond t (Some []) nothing) passes
 find_least zero p (b ∷ v) wide passes least = absurd (omega arith)
 find_least (suc n) p [] wide passes least = absurd (omega arith)
-find_least (suc n) p (false ∷ v) wide passes least =
-    find-halves n p
-    ∙ ap (λ low. option_or (option_map (λ (u : List Bool). false ∷ u) low) (option_map (λ (u : List Bool). true ∷ u) (find (λ u. p (true ∷ u)) (vectors n))))
-    (find_least n (λ u. p (false ∷ u)) v (omega arith) passes (λ w w_wide w_passes. least (false ∷ w) (ap suc w_wide) w_passes))
-find_least (suc n) p (true ∷ v) wide passes least =
-    find-halves n p
-    ∙ ap₂ (λ low high. option_or (option_map (λ (u : List Bool). false ∷ u) low) (option_map (λ (u : List Bool). true ∷ u) high))
-    (find-none n (λ u. p (false ∷ u)) (λ w w_wide. false_from_ne_true (p (false ∷ w)) (λ w_passes. least (false ∷ w) (ap suc w_wide) w_passes)))
-    (find_least n (λ u. p (true ∷ u)) v (omega arith) passes (λ w w_wide w_passes. least (true ∷ w) (ap suc w_wide) w_passes))
+find_least (suc n) p (false ∷ v) wide passes least = grind (arith, find-halves n p, find_least n)
+find_least (suc n) p (true ∷ v) wide passes least = grind (arith, find-halves n p, find-none n, false_from_ne_true, find_least n)
 
 pub find_some : (n : ℕ) (p : List Bool → Bool) (v : List Bool) → length v ≡ n → p v ≡ true → is_some (find p (vectors n)) ≡ true
 find_some zero p [] wide passes = ap (λ t. let nothing : Option (List Bool) = None in is_some (cond t (Some []) nothing)) passes
 find_some zero p (b ∷ v) wide passes = absurd (omega arith)
 find_some (suc n) p [] wide passes = absurd (omega arith)
-find_some (suc n) p (false ∷ v) wide passes =
-    ap is_some (find-halves n p) ∙ low (find (λ u. p (false ∷ u)) (vectors n)) (find (λ u. p (true ∷ u)) (vectors n)) (find_some n (λ u. p (false ∷ u)) v (omega arith) passes)
-  where
-    low : (a b : Option (List Bool)) → is_some a ≡ true → is_some (option_or (option_map (λ (u : List Bool). false ∷ u) a) (option_map (λ (u : List Bool). true ∷ u) b)) ≡ true
-    low (Some u) b is = refl
-    low None b is = absurd (true≢false (sym is))
-find_some (suc n) p (true ∷ v) wide passes =
-    ap is_some (find-halves n p) ∙ high (find (λ u. p (false ∷ u)) (vectors n)) (find (λ u. p (true ∷ u)) (vectors n)) (find_some n (λ u. p (true ∷ u)) v (omega arith) passes)
-  where
-    high : (a b : Option (List Bool)) → is_some b ≡ true → is_some (option_or (option_map (λ (u : List Bool). false ∷ u) a) (option_map (λ (u : List Bool). true ∷ u) b)) ≡ true
-    high (Some u) b is = refl
-    high None (Some u) is = refl
-    high None None is = absurd (true≢false (sym is))
+find_some (suc n) p (false ∷ v) wide passes = grind (arith, find-halves n p, find_some n, true≢false)
+find_some (suc n) p (true ∷ v) wide passes = grind (arith, find-halves n p, find_some n, true≢false)
 
 -- ---- one more column
 
 -- lists of one length that end alike
 pub snoc-same : {X : Type 0} (xs ys : List X) (x y : X) → length xs ≡ length ys → xs ++ x ∷ [] ≡ ys ++ y ∷ [] → (xs ≡ ys) × (x ≡ y)
-snoc-same xs ys x y wide is =
-    let last : x ≡ y = sym (get_or_push xs x x (length xs) refl) ∙ ap (λ l. get_or l (length xs) x) is ∙ get_or_push ys y x (length xs) (sym wide) in
-    (append_cancel_right xs ys (x ∷ []) (is ∙ ap (λ z. ys ++ z ∷ []) (sym last)), last)
+snoc-same xs ys x y wide is = grind (arith, get_or_push xs x x (length xs), get_or_push ys y x (length xs), append_cancel_right xs ys (x ∷ []))
 
 -- the order goes on where the two were the same
 pub AtMost-push : (vs ws : List Bool) (v w : Bool) → length vs ≡ length ws → AtMost vs ws → (vs ≡ ws → v ≡ true → w ≡ true) → AtMost (vs ++ v ∷ []) (ws ++ w ∷ [])
-AtMost-push [] [] v w wide below tied = by_values v w (tied refl)
-  where
-    by_values : (v w : Bool) → (v ≡ true → w ≡ true) → AtMost (v ∷ []) (w ∷ [])
-    by_values false false rises = tt
-    by_values false true rises = tt
-    by_values true true rises = tt
-    by_values true false rises = absurd (true≢false (sym (rises refl)))
+AtMost-push [] [] v w wide below tied = grind arith
 AtMost-push [] (c ∷ ws) v w wide below tied = absurd (omega arith)
 AtMost-push (b ∷ vs) [] v w wide below tied = absurd (omega arith)
 AtMost-push (false ∷ vs) (false ∷ ws) v w wide below tied = AtMost-push vs ws v w (omega arith) below (λ same. tied (ap (λ l. false ∷ l) same))

@@ -25,12 +25,4 @@ loop-size-preserved c =
     let formula = c.loop-size.solver.formula in
     let size = c.in-Some.size.now in
     let after = c.in-Some.after.now in
-    let before = subst (λ rest. AreLoading variables literals added rest formula) c.in-Some.ensures.cases.0 c.loop-size.invariant.0 in
-    let within = subst (IsWithin variables) c.split_clause.ensures.clause (c.is_within.ensures.0 c.if-not-is_within.false) in
-    let room : added < 4294967295 = omega (arith, c.loop-size.invariant.0.few, c.if-added.false) in
-    let more = loading-more variables literals added size after formula before room within in
-    let clause : c.add_clause.new.solver.formula ≡ formula ++ map lit (take size after) ∷ [] = c.in_ok-add_clause.ensures.formula ∙ ap (λ cl. formula ++ map lit cl ∷ []) c.split_clause.ensures.clause in (
-      subst (λ rest. AreLoading variables literals (added + 1) rest c.add_clause.new.solver.formula) (sym c.split_clause.ensures.rest)
-          (subst (AreLoading variables literals (added + 1) (drop size after)) (sym clause) more),
-      c.in_ok-add_clause.ensures.variables ∙ c.loop-size.invariant.1,
-    )
+    grind (arith, loading-more variables literals added size after formula)

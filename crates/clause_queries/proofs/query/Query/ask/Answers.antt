@@ -1,13 +1,11 @@
-use Rattle.std.proofs.Common.{◌∙◌, subst}
+use Rattle.std.proofs.Common.{◌∙◌, subst, arith}
 use Rattle.sat.specs.Answers.{IsAnswer}
 use Rattle.clause_queries.proofs.AnswerLemmas.{model-reply, none-reply}
 use Rattle.clause_queries.proofs.query.Query.ask.Goals as goal
 
 pub returns-in-Sat-clause-reply : goal.returns-in-Sat-clause-reply
 returns-in-Sat-clause-reply c =
-    model-reply c.args.self.now c.self.inside.variables c.self.inside.solver.formula c.solve.new.self.formula c.solve.new.self.model c.in_ok-values_of-in-Sat.field-0.items c.args.assumptions.now c.deref.result.now
-    c.self.view_is c.self.invariant c.requires c.in_ok-solve.ensures.formula (c.deref.ensures.value ∙ c.in_ok-assumed.ensures) c.in_ok-values_of-in-Sat.ensures
-    (subst (IsAnswer c.solve.new.self.formula c.solve.new.self.model c.deref.result.now) c.in-Sat.is c.in_ok-solve.ensures.answer)
+    grind (arith, model-reply c.args.self.now c.self.inside.variables c.self.inside.solver.formula c.solve.new.self.formula c.solve.new.self.model c.in_ok-values_of-in-Sat.field-0.items c.args.assumptions.now c.deref.result.now c.self.view_is c.self.invariant c.requires c.in_ok-solve.ensures.formula)
 
 pub returns-in-Unsat-clause-reply : goal.returns-in-Unsat-clause-reply
 returns-in-Unsat-clause-reply c =

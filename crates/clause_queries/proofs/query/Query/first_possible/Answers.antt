@@ -9,11 +9,7 @@ use Rattle.clause_queries.proofs.query.Query.first_possible.Goals as goal
 pub bisect-requires-clause-interval : goal.bisect-requires-clause-interval
 bisect-requires-clause-interval c =
     let last = length c.args.literals.now - 1 in
-    let reply = subst (IsReply c.args.self.now (c.args.assumptions.now ++ get_or c.args.literals.now last 0 ∷ [])) c.in-Model.is c.in_ok-model.ensures.reply in
-    subst (λ p. IsOpen p c.args.literals.now c.args.assumptions.now 0 c.first_true-high.result) (sym c.in_ok-model.ensures.unchanged)
-    (open-first c.args.self.now c.args.literals.now c.args.assumptions.now c.first_true-high.result (let bound = c.first_true-high.ensures.within in let some = c.if-is_empty.ensures in grind (arith, nat_tests))
-    (possible-earlier c.args.self.now c.args.literals.now c.args.assumptions.now last c.first_true-high.result c.in-Model.model.items reply.0
-    (subst (λ m. says m (get_or c.args.literals.now c.first_true-high.result 0) ≡ true) c.deref.ensures.value c.first_true-high.ensures.is_true)))
+    grind (arith, open-first c.args.self.now c.args.literals.now c.args.assumptions.now c.first_true-high.result, nat_tests, possible-earlier c.args.self.now c.args.literals.now c.args.assumptions.now last c.first_true-high.result c.in-Model.model.items)
 
 pub returns-in-NoModel-clause-first : goal.returns-in-NoModel-clause-first
 returns-in-NoModel-clause-first c = λ j less.

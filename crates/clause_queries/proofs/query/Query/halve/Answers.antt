@@ -9,14 +9,11 @@ returns-in-Model-clause-interval c =
     let low = c.args.interval.now.low in
     let high = c.args.interval.now.high in
     let middle = low + (high - low) / 2 in
-    let reply = subst (IsReply c.args.self.now (c.args.assumptions.now ++ get_or c.args.literals.now middle 0 ∷ [])) c.in-Model.is c.in_ok-model.ensures.reply in
-    open-lower c.args.self.now c.args.literals.now c.args.assumptions.now low high middle c.first_true-interval.result c.in-Model.model.items c.requires.interval (omega arith) c.first_true-interval.ensures.within reply.0
-    (subst (λ m. says m (get_or c.args.literals.now c.first_true-interval.result 0) ≡ true) c.deref.ensures.value c.first_true-interval.ensures.is_true)
+    grind (arith, open-lower c.args.self.now c.args.literals.now c.args.assumptions.now low high middle c.first_true-interval.result c.in-Model.model.items c.requires.interval)
 
 pub returns-in-NoModel-clause-interval : goal.returns-in-NoModel-clause-interval
 returns-in-NoModel-clause-interval c =
     let low = c.args.interval.now.low in
     let high = c.args.interval.now.high in
     let middle = low + (high - low) / 2 in
-    open-higher c.args.self.now c.args.literals.now c.args.assumptions.now low high middle c.requires.rising c.requires.interval (omega arith)
-    (subst (IsReply c.args.self.now (c.args.assumptions.now ++ get_or c.args.literals.now middle 0 ∷ [])) c.in-NoModel.is c.in_ok-model.ensures.reply)
+    grind (arith, open-higher c.args.self.now c.args.literals.now c.args.assumptions.now low high middle c.requires.rising c.requires.interval)

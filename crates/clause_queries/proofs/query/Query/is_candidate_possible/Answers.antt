@@ -1,4 +1,4 @@
-use Rattle.std.proofs.Common.{◌∙◌, ◌||◌, ◌++◌, ◌∷◌, [], false, get_or, ap, subst, true≢false}
+use Rattle.std.proofs.Common.{◌∙◌, ◌||◌, ◌++◌, ◌∷◌, [], false, get_or, ap, subst, true≢false, arith}
 use Rattle.ternary_clauses.specs.Formulas.{says}
 use Rattle.clause_queries.specs.Queries.{IsReply}
 use Rattle.clause_queries.proofs.DescentLemmas.{under-last}
@@ -6,10 +6,7 @@ use Rattle.clause_queries.proofs.EachLemmas.{told-found, told-model, told-never}
 use Rattle.clause_queries.proofs.query.Query.is_candidate_possible.Goals as goal
 
 pub returns-then-found-place-clause-told : goal.returns-then-found-place-clause-told
-returns-then-found-place-clause-told c = record {
-  impossible = λ isnt. absurd (true≢false isnt);
-  up_to = λ told. told-found c.args.self.now c.args.candidates.now.literals.now c.args.candidates.now.assumptions.now c.args.place c.args.found.now told c.if-found-place.true;
-}
+returns-then-found-place-clause-told c = grind (arith, true≢false, told-found c.args.self.now c.args.candidates.now.literals.now c.args.candidates.now.assumptions.now c.args.place c.args.found.now)
 
 pub returns-in-Model-clause-told : goal.returns-in-Model-clause-told
 returns-in-Model-clause-told c =
@@ -31,5 +28,4 @@ returns-in-NoModel-clause-told c =
     let p = c.args.self.now in
     let literals = c.args.candidates.now.literals.now in
     let assumptions = c.args.candidates.now.assumptions.now in
-    let none = subst (IsReply p (assumptions ++ get_or literals c.args.place 0 ∷ [])) c.in-NoModel.is c.in_ok-model.ensures.reply in
-    record { impossible = λ _. none; up_to = λ told. told-never p literals assumptions c.args.place c.args.found.now told none }
+    grind (arith, told-never p literals assumptions c.args.place c.args.found.now)
