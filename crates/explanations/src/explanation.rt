@@ -45,7 +45,7 @@ fn joined(alloc: Global, cycle: &[u32], way: &[u32]) -> Result<Vec<u32>, AllocEr
 
 /// Why a gate is unknown in the fixpoint at a vector: `None` exactly where it is determined.
 ///
-/// The cycle has the fewest gates of those that lead to the gate, and the way is the shortest between them. The
+/// The cycle has the fewest gates of those that lead to the gate, and no gate of the way is on it. The
 /// columns are left out in their order, each where the rest of the vector still holds these gates open.
 pub fn explain(
     alloc: Global,

@@ -32,7 +32,7 @@ pub fn put_limit<K: Sink>(limit: u32, sink: &mut K) -> Result<(), Failed>
     put_number_between(sink, b"node limit ", limit, b" reached\n")
 }
 
-/// Appends what is told of a rewritten netlist that is too large. It takes no memory.
+/// Appends what is told where what is to be made is too large. It takes no memory.
 pub fn put_too_large<K: Sink>(size: u64, sink: &mut K) -> Result<(), Failed>
     ensures { IsAppended (too_large_text size) (sink_call K.put K.faults sink.old sink.new) result }
 {

@@ -120,7 +120,7 @@ fn behind_first(alloc: Global, nodes: &[u32]) -> Result<Vec<u32>, AllocError>
     nodes[1..].to_vec(alloc)
 }
 
-/// A cycle with the fewest nodes of those that the goal reaches, and the shortest way between them: `None`
+/// A cycle with the fewest nodes of those that the goal reaches, and a way off it to the goal: `None`
 /// exactly where the goal reaches no cycle.
 ///
 /// Each node that the goal reaches is the root of a search that goes no deeper than the best cycle so far

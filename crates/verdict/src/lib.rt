@@ -2,9 +2,9 @@
 //! loop needs, or refused, with the least state or vector that shows it (Malik 1994; Shiple, Berry and Touati 1996).
 //! All gates are observed, or what is seen from outside.
 //!
-//! It stands on `fixpoint`, on the diagrams below it, and on the definitions of `refusals`. The layer above uses
-//! that `decide` answers as the definition of acceptance and refusals says (`verdict`), and which wires are told never
-//! apart on care.
+//! It stands on `clause_decision`, on `fixpoint`, `isolation` and the diagrams below them, and on the definitions of
+//! `refusals`. The layer above uses that `decide` answers as the definition of acceptance and refusals says
+//! (`verdict`), and which wires are told never apart on care.
 #![tactic(auto)]
 
 mod alone;
