@@ -17,9 +17,7 @@ use Rattle.netlist.specs.Netlists.{count, signal, sig_eq, signal_names, driven_n
 
 -- an item with its place, as loops name it
 pub numbered : {X : Type 0} (xs : List X) (i : ℕ) (x : X) → i < length xs → x ≡ get_or xs i x → ◌≡◌ {A = ℕ × X} (i, x) (get_or (enumerate_from 0 xs) i (i, x))
-numbered {X} xs i x l is =
-    let zeroth : i ≡ 0 + i = omega arith in
-    (λ j. (zeroth j, is j)) ∙ sym (get_or-enumerate_from 0 xs i (i, x) l)
+numbered {X} xs i x l is = grind (arith, get_or-enumerate_from 0 xs i (i, x) l)
 
 -- the name of an input
 pub input_name : (net : Parts) (i : ℕ) (name : List ℕ) → i < length net.inputs → slice_get (signal_names net) i ≡ Some name → name ≡ get_or net.inputs i name
@@ -27,9 +25,7 @@ input_name net i name l e = item_at (signal_names net) i name e ∙ get_or_appen
 
 -- the name of a latch
 pub latch_name : (net : Parts) (i : ℕ) (latch : Latch) → slice_get net.latches i ≡ Some latch → latch.name ≡ get_or (map (λ (x : Latch). x.name) net.latches) i latch.name
-latch_name net i latch e =
-    ap (λ (x : Latch). x.name) (item_at net.latches i latch e)
-    ∙ sym (get_or-map (λ (x : Latch). x.name) net.latches i latch latch.name (slice_get_within net.latches i latch e))
+latch_name net i latch e = grind (arith, item_at net.latches i latch e, get_or-map, slice_get_within net.latches i latch e)
 
 -- what equals an item is it
 pub as_item : {X : Type 0} (xs : List X) (i : ℕ) (x y : X) → y ≡ x → x ≡ get_or xs i x → y ≡ get_or xs i y
@@ -39,11 +35,7 @@ as_item {X} xs i x y e is = let P : X → Type 0 = λ z. z ≡ get_or xs i z in 
 
 signals_below : (net : Parts) (signals : List Sig) → All (IsSignal net) signals → (q : ℕ) → list_any (eqb q) (map (λ (s : Sig). s.0) signals) ≡ true → q < count net
 signals_below net [] all q h = absurd (false≢true h)
-signals_below net (s ∷ rest) all q h = by (eqb q s.0) refl (λ k. signals_below net rest (All-tail (IsSignal net) s rest all) q k)
-  where
-    by : (t : Bool) → eqb q s.0 ≡ t → (list_any (eqb q) (map (λ (x : Sig). x.0) rest) ≡ true → q < count net) → q < count net
-    by true e others = let low = All-head (IsSignal net) s rest all in omega (arith, eqb-true q s.0 e, low)
-    by false e others = others (sym (ap (λ t. t || list_any (eqb q) (map (λ (x : Sig). x.0) rest)) e) ∙ h)
+signals_below net (s ∷ rest) all q h = grind (arith, signals_below net rest (All-tail (IsSignal net) s rest all) q, All-tail (IsSignal net) s rest all, All-head (IsSignal net) s rest all, eqb-true q s.0)
 
 apart : (s : Sig) (rest : List Sig) → AllByRecursion (λ y. sig_eq s y ≡ false) rest → AllByRecursion (λ y. eqb s.0 y ≡ false) (map (λ (x : Sig). x.0) rest)
 apart s [] h = h
@@ -67,8 +59,7 @@ few_outputs net valid =
 
 pub head_is : (built : Built) (i l o a : ℕ) → i ≡ built.aig.inputs → l ≡ built.aig.latches → o ≡ length built.outputs → a ≡ length built.aig.ands
     → head_text built ≡ codes "aag " ++ numbers_line ((i + l + a) ∷ i ∷ l ∷ o ∷ a ∷ [])
-head_is built i l o a i_is l_is o_is a_is =
-    sym (λ j. codes "aag " ++ numbers_line ((i_is j + l_is j + a_is j) ∷ i_is j ∷ l_is j ∷ o_is j ∷ a_is j ∷ []))
+head_is built i l o a i_is l_is o_is a_is = grind arith
 
 pub and_is : (g : Graph) (k i l : ℕ) (x : And) → i ≡ g.inputs → l ≡ g.latches → and_line g k x ≡ numbers_line ((2 * ((1 + i + l) + k)) ∷ x.greater.0 ∷ x.smaller.0 ∷ [])
 and_is g k i l x i_is l_is = sym (λ j. numbers_line ((2 * ((1 + i_is j + l_is j) + k)) ∷ x.greater.0 ∷ x.smaller.0 ∷ []))
@@ -80,7 +71,4 @@ latch_is built k i n latch i_is n_is = sym (λ j. numbers_line ((2 * (1 + i_is j
 -- the name of an output
 pub output_name : (net : Parts) (k : ℕ) (outputs : List Sig) (name : List ℕ) → outputs ≡ net.outputs → k < length net.outputs
     → slice_get (signal_names net) (get_or outputs k (signal 0)).0 ≡ Some name → name ≡ get_or (map (name_of net) net.outputs) k name
-output_name net k outputs name is l at =
-    sym (get_or_from_slice_get (signal_names net) (get_or outputs k (signal 0)).0 name [] at)
-    ∙ ap (λ (xs : List Sig). name_of net (get_or xs k (signal 0))) is
-    ∙ sym (get_or-map (name_of net) net.outputs k (signal 0) name l)
+output_name net k outputs name is l at = grind (arith, get_or_from_slice_get (signal_names net) (get_or outputs k (signal 0)).0 name [], get_or-map (name_of net) net.outputs k (signal 0) name l)

@@ -4,9 +4,7 @@ use Rattle.aiger_write.proofs.TextLemmas.{few_outputs, head_is}
 use Rattle.aiger_write.proofs.graph.put_counts.Goals as goal
 
 pub overflow_cast-outputs : goal.overflow_cast-outputs
-overflow_cast-outputs g c =
-    let few = few_outputs c.args.net.now c.outputs.ensures.valid in
-    omega (arith, ap length c.outputs.ensures.outputs)
+overflow_cast-outputs g c = grind (arith, few_outputs c.args.net.now c.outputs.ensures.valid)
 
 pub returns-in_err-write_whole : goal.returns-in_err-write_whole
 returns-in_err-write_whole g c =

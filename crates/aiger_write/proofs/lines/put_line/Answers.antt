@@ -1,3 +1,4 @@
+use Rattle.std.proofs.Common.{arith}
 use Rattle.aiger_write.proofs.Common.{appended_then, appended_cut}
 use Rattle.aiger_write.proofs.lines.put_line.Goals as goal
 
@@ -11,5 +12,4 @@ returns-in_err-put_next_numbers g c =
 
 pub returns : goal.returns
 returns g c =
-    appended_then _ _ _ _ _ _ _ _ _ _ c.in_ok-put_number.ensures
-    (appended_then _ _ _ _ _ _ _ _ _ _ c.in_ok-put_next_numbers.ensures c.write_whole.ensures)
+    grind (arith, appended_then _ _ _ _ _ _ _ _ _ _ c.in_ok-put_number.ensures (appended_then _ _ _ _ _ _ _ _ _ _ c.in_ok-put_next_numbers.ensures c.write_whole.ensures), appended_then _ _ _ _ _ _ _ _ _ _ c.in_ok-put_next_numbers.ensures c.write_whole.ensures)

@@ -7,9 +7,7 @@ abbrev symbol : ℕ × List ℕ → List ℕ
 symbol item = symbol_line (codes "o") item.0 item.1
 
 pub overflow_cast-count : goal.overflow_cast-count
-overflow_cast-count g c =
-    let few = few_outputs c.args.net.now c.outputs-outputs.ensures.valid in
-    omega (arith, ap length c.outputs-outputs.ensures.outputs)
+overflow_cast-count g c = grind (arith, few_outputs c.args.net.now c.outputs-outputs.ensures.valid)
 
 pub loop-place-preserved : goal.loop-place-preserved
 loop-place-preserved g c =
