@@ -25,12 +25,10 @@ pub record Passes (ws : List (List (List ℕ))) : Type 0 where
   pub none : (n : ℕ) (earlier : List Line) → in_model earlier ≡ true → first_fault earlier (numbered n ws) ≡ None
 
 inside : (t : Bool) (f g : Option BlifFault) → t ≡ true → f ≡ None → (if t then f else g) ≡ None
-inside true f g e h = h
-inside false f g e h = cc
+inside t f g e h = grind arith
 
 or_none : (f g : Option BlifFault) → f ≡ None → g ≡ None → or_else f g ≡ None
-or_none None g e h = h
-or_none (Some x) g e h = cc
+or_none f g e h = grind arith
 
 -- a line without a fault, behind which the model is still in progress
 step : (words : List (List ℕ)) (ws : List (List (List ℕ)))
@@ -48,12 +46,7 @@ outputs_pass : (names : List (List ℕ)) (ws : List (List (List ℕ))) → Passe
 outputs_pass names ws = step (codes ".outputs" ∷ names) ws (λ n earlier m. inside _ _ _ m refl) (λ n earlier. refl)
 
 clock_passes : (net : Parts) (clock : Option ClockOf) (ws : List (List (List ℕ))) → Passes ws → Passes (clock_lines net clock ++ ws)
-clock_passes net None ws rest = rest
-clock_passes net (Some clock) ws rest = by (list_any (bytes_eq clock.name) net.inputs)
-  where
-    by : (t : Bool) → Passes ((if t then [] else (codes ".clock" ∷ clock.name ∷ []) ∷ []) ++ ws)
-    by true = rest
-    by false = step (codes ".clock" ∷ clock.name ∷ []) ws (λ n earlier m. inside _ _ _ m refl) (λ n earlier. refl) rest
+clock_passes net clock ws rest = grind arith
 
 end_passes : Passes ((codes ".end" ∷ []) ∷ [])
 end_passes = record { none = λ n earlier m. or_none _ _ (inside _ _ _ m refl) refl }
@@ -61,19 +54,14 @@ end_passes = record { none = λ n earlier m. or_none _ _ (inside _ _ _ m refl) r
 -- Latches.
 
 typed_fine : (n : ℕ) (edge : Edge) (init : Init) → typed_latch_fault n (edge_word edge) (is_init (init_word init)) ≡ None
-typed_fine n Rise starts.Zero = refl
-typed_fine n Fall starts.Zero = refl
-typed_fine n edge init = refl
+typed_fine n edge init = grind arith
 
 init_fine : (n : ℕ) (from name : List ℕ) (init : Init) → latch_fault n (from ∷ name ∷ init_word init ∷ []) ≡ None
-init_fine n from name starts.Zero = refl
-init_fine n from name init = refl
+init_fine n from name init = grind arith
 
 latch_fine : (n : ℕ) (from name : List ℕ) (clock : Option ClockOf) (clocked : Bool) (init : Init)
     → latch_fault n (from ∷ name ∷ (control_words clock clocked ++ init_word init ∷ [])) ≡ None
-latch_fine n from name None clocked init = init_fine n from name init
-latch_fine n from name (Some clock) false init = init_fine n from name init
-latch_fine n from name (Some clock) true init = typed_fine n clock.edge init
+latch_fine n from name clock clocked init = grind arith
 
 latches_pass : (net : Parts) (latches : List LatchOf) (ws : List (List (List ℕ))) → Passes ws → Passes (map (latch_line net) latches ++ ws)
 latches_pass net [] ws rest = rest
@@ -92,32 +80,27 @@ record InCover (earlier : List Line) (pins : ℕ) (plane : Bool) : Type 0 where
   first : differs (option_map is_on (first_row earlier)) plane ≡ false
 
 plane_row : (n : ℕ) (plane : Bool) → kind (line n (plane_word plane ∷ [])) ≡ Row
-plane_row n true = refl
-plane_row n false = refl
+plane_row n plane = grind arith
 
 lit_row : (lit : Lit) (bytes : List ℕ) → kind_of (lit_byte lit ∷ bytes) ≡ Row
-lit_row Zero bytes = refl
-lit_row lit bytes = refl
+lit_row lit bytes = grind arith
 
 pub row_kind : (n : ℕ) (plane : Bool) (lits : List Lit) → kind (line n (lits_words lits ++ plane_word plane ∷ [])) ≡ Row
 row_kind n plane [] = plane_row n plane
 row_kind n plane (lit ∷ lits) = lit_row lit (map lit_byte lits)
 
 plane_on : (plane : Bool) → bytes_eq (plane_word plane) (codes "1") ≡ plane
-plane_on true = refl
-plane_on false = refl
+plane_on plane = grind arith
 
 pub row_on : (n : ℕ) (plane : Bool) (lits : List Lit) → is_on (line n (lits_words lits ++ plane_word plane ∷ [])) ≡ plane
 row_on n plane [] = plane_on plane
 row_on n plane (lit ∷ lits) = plane_on plane
 
 is_plane_word : (plane : Bool) → is_plane (plane_word plane) ≡ true
-is_plane_word true = refl
-is_plane_word false = refl
+is_plane_word plane = grind arith
 
 lit_fine : (lit : Lit) → is_lit (lit_byte lit) ≡ true
-lit_fine Zero = refl
-lit_fine lit = refl
+lit_fine lit = grind arith
 
 lits_fine : (lits : List Lit) → list_all is_lit (map lit_byte lits) ≡ true
 lits_fine [] = refl
@@ -145,27 +128,15 @@ row_fault_none n earlier pins plane row e opened =
     (fits _ _ pins plane at opened.width (subst P e (row_fine plane row.lits)) (row_on n plane row.lits) opened.first)
 
 same_as_itself : (plane : Bool) → not (same_plane plane plane) ≡ false
-same_as_itself true = refl
-same_as_itself false = refl
+same_as_itself plane = grind arith
 
 still_same : (first : Option Line) (at : Line) (plane : Bool) → is_on at ≡ plane → differs (option_map is_on first) plane ≡ false
     → differs (option_map is_on (this_unless at first)) plane ≡ false
-still_same (Some other) at plane on same = same
-still_same None at plane on same = ap (λ p. not (same_plane p plane)) on ∙ same_as_itself plane
+still_same first at plane on same = grind arith
 
 next_row : (at : Line) (earlier : List Line) (pins : ℕ) (plane : Bool) → kind at ≡ Row → is_on at ≡ plane
     → InCover earlier pins plane → InCover (at ∷ earlier) pins plane
-next_row at earlier pins plane k on opened = record {
-  model = ap (λ k. if is_model k then true else (if is_end k then false else in_model earlier)) k ∙ opened.model;
-  width =
-      ap
-      (λ k. option_map (λ names. pin_count (arguments names)) (if is_row k then cover_line earlier else (if is_names k then Some at else None)))
-      k
-      ∙ opened.width;
-  first =
-      ap (λ k. differs (option_map is_on (if is_row k then this_unless at (first_row earlier) else None)) plane) k
-      ∙ still_same (first_row earlier) at plane on opened.first;
-}
+next_row at earlier pins plane k on opened = grind arith
 
 rows_pass : (pins : ℕ) (plane : Bool) (rows : List CoverRow) (ws : List (List (List ℕ))) → All (λ row. length row.lits ≡ pins) rows
     → Passes ws → (n : ℕ) (earlier : List Line) → InCover earlier pins plane
@@ -180,11 +151,7 @@ rows_pass pins plane (row ∷ rows) ws width rest n earlier opened =
 -- Gates.
 
 few : (n : ℕ) (word : List ℕ) (words : List (List ℕ)) → length words ≤ 1024 → names_fault n (word ∷ words) ≡ None
-few n word words l = by (nat_lt 1024 (length words)) (grind (arith, common_steps))
-  where
-    by : (t : Bool) → t ≡ false → (if t then Some (TooManyPins n) else None) ≡ None
-    by true e = cc
-    by false e = refl
+few n word words l = grind arith
 
 names_fine : (n : ℕ) (words : List (List ℕ)) (last : List ℕ) → length words ≤ 1024 → names_fault n (words ++ last ∷ []) ≡ None
 names_fine n [] last l = refl

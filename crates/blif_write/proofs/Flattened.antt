@@ -18,8 +18,7 @@ use Rattle.blif_write.proofs.Said.{latch_of_text, gate_of_text, model_of_text}
 use Rattle.std.proofs.lemmas.List.{length-append}
 
 pub model_found : (model : BlifModel) → find_model (model ∷ []) model.name ≡ Some 0
-model_found model =
-    ap (λ k. if nat_lt k 1 then Some k else None) (step_yes (has_name model.name) model [] (bytes_refl model.name))
+model_found model = grind (arith, step_yes (has_name model.name) model [] (bytes_refl model.name), bytes_refl model.name)
 
 -- The lines of its body are the latches and the gates.
 

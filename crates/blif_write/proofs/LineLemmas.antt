@@ -1,5 +1,5 @@
 -- Lines and the whole text, as they are appended.
-use Rattle.std.proofs.Common.{◌≡◌, ℕ, List, [], ◌∷◌, ◌++◌, true, false, map, refl, sym, ap, ◌∙◌, append_assoc, append-nil, Some, None}
+use Rattle.std.proofs.Common.{◌≡◌, ℕ, List, [], ◌∷◌, ◌++◌, true, false, map, refl, sym, ap, ◌∙◌, append_assoc, append-nil, Some, None, arith}
 use Rattle.std.specs.Prelude.{codes, Bool}
 use Rattle.blif_write.proofs.Common.{flat_map, Option, Sig, Clock, Gate, Latch, Parts, edge_word, line_text, name_of, control_words, init_word, latch_line, row_line, gate_lines, latch_lines, all_gate_lines, behind, gate_text}
 use Rattle.std.proofs.lemmas.List.Concat.{flat_map-append}
@@ -11,9 +11,7 @@ use Rattle.blif_write.specs.Putting.{names_behind, last_behind, last_word, names
 
 pub line_is : (word : List ℕ) (words : List (List ℕ)) → line_text (word ∷ words) ≡ word ++ names_rest word words
 line_is word [] = refl
-line_is word (next ∷ words) =
-    ap (λ rest. word ++ 32 ∷ rest) (line_is next words)
-    ∙ ap (λ rest. word ++ 32 ∷ rest) (sym (append_assoc next (flat_map behind words) (line_end (last_word next words))))
+line_is word (next ∷ words) = grind (arith, line_is next words, append_assoc next (flat_map behind words) (line_end (last_word next words)))
 
 -- The line of the outputs.
 
@@ -24,9 +22,7 @@ abbrev pub signals_rest : List ℕ → Parts → List Sig → List ℕ
 signals_rest first net sigs = names_behind net sigs ++ line_end (last_word first (map (name_of net) sigs))
 
 pub signals_is : (first : List ℕ) (net : Parts) (sigs : List Sig) → signals_line first net sigs ≡ first ++ signals_rest first net sigs
-signals_is first net sigs =
-    line_is first (map (name_of net) sigs)
-    ∙ ap (λ names. first ++ (names ++ line_end (last_word first (map (name_of net) sigs)))) (flat_map-map behind (name_of net) sigs)
+signals_is first net sigs = grind (arith, line_is first (map (name_of net) sigs), flat_map-map behind (name_of net) sigs)
 
 -- The line of a gate's names.
 
@@ -51,17 +47,7 @@ two_words : (v w rest : List ℕ) → (v ++ (behind w ++ [])) ++ rest ≡ v ++ (
 two_words v w rest = append_assoc v (behind w ++ []) rest ∙ ap (λ word. v ++ 32 ∷ (word ++ rest)) (append-nil w)
 
 pub latch_is : (net : Parts) (latch : Latch) → line_text (latch_line net latch) ≡ codes ".latch" ++ latch_rest net latch
-latch_is net latch = by_control net.clock latch.clocked
-  where
-    by_control : (clock : Option Clock) (clocked : Bool)
-        → line_text (codes ".latch" ∷ name_of net latch.from ∷ latch.name ∷ (control_words clock clocked ++ init_word latch.init ∷ []))
-        ≡ codes ".latch" ++ (behind (name_of net latch.from)
-        ++ (behind latch.name ++ (flat_map behind (control_words clock clocked) ++ last_behind (init_word latch.init))))
-    by_control None clocked = refl
-    by_control (Some clock) false = refl
-    by_control (Some clock) true =
-        ap (λ rest. codes ".latch" ++ (behind (name_of net latch.from) ++ (behind latch.name ++ 32 ∷ rest)))
-        (sym (two_words (edge_word clock.edge) clock.name (last_behind (init_word latch.init))))
+latch_is net latch = grind (arith, two_words)
 
 -- The whole text.
 
@@ -69,24 +55,13 @@ abbrev pub body : Parts → List ℕ
 body net = latches_text net ++ (gates_text net ++ codes ".end\n")
 
 gate_is : (net : Parts) (gate : Gate) → text_of (gate_lines net gate) ≡ gate_text net gate
-gate_is net gate =
-    ap (λ rows. names_line net gate.pins gate.name ++ rows)
-    (flat_map-map line_text (row_line gate.cover.plane) gate.cover.rows)
+gate_is net gate = grind (arith, flat_map-map line_text (row_line gate.cover.plane) gate.cover.rows)
 
 gates_are : (net : Parts) (gates : List Gate) → text_of (flat_map (gate_lines net) gates) ≡ flat_map (gate_text net) gates
 gates_are net [] = refl
-gates_are net (gate ∷ gates) =
-    flat_map-append line_text (gate_lines net gate) (flat_map (gate_lines net) gates)
-    ∙ ap (λ text. text ++ text_of (flat_map (gate_lines net) gates)) (gate_is net gate)
-    ∙ ap (λ text. gate_text net gate ++ text) (gates_are net gates)
+gates_are net (gate ∷ gates) = grind (arith, flat_map-append line_text (gate_lines net gate) (flat_map (gate_lines net) gates), gate_is net gate, gates_are net gates)
 
 pub written_is : (net : Parts) → written net ≡ text_of (head_lines net) ++ body net
 written_is net =
     let end : List (List (List ℕ)) = (codes ".end" ∷ []) ∷ [] in
-    rw (
-      flat_map-append line_text (head_lines net) (latch_lines net ++ (all_gate_lines net ++ end)),
-      flat_map-append line_text (latch_lines net) (all_gate_lines net ++ end),
-      flat_map-map line_text (latch_line net) net.latches,
-      flat_map-append line_text (all_gate_lines net) end,
-      gates_are net net.gates,
-    ) refl
+    grind (arith, flat_map-append line_text (head_lines net) (latch_lines net ++ (all_gate_lines net ++ end)), flat_map-append line_text (latch_lines net) (all_gate_lines net ++ end), flat_map-map line_text (latch_line net) net.latches, flat_map-append line_text (all_gate_lines net) end, gates_are net net.gates)

@@ -37,9 +37,7 @@ distinct_front xs ys d =
 
 each_apart : (name : List ℕ) (names : List (List ℕ)) → is_among names name ≡ false → AllByRecursion (λ y. bytes_eq name y ≡ false) names
 each_apart name [] e = tt
-each_apart name (other ∷ names) e =
-    let both = or_parts (bytes_eq name other) (is_among names name) e in
-    (both.0, each_apart name names both.1)
+each_apart name (other ∷ names) e = grind (arith, or_parts (bytes_eq name other) (is_among names name) e, each_apart name names)
 
 -- a name that is none of these may stand anywhere among them
 put_in : (name : List ℕ) (xs ys : List (List ℕ)) → IsDistinct bytes_eq (xs ++ ys) → is_among xs name ≡ false → is_among ys name ≡ false
@@ -60,8 +58,7 @@ put_in name (x ∷ xs) ys d no_x no_y =
 place_of : (names : List (List ℕ)) (i : ℕ) → IsDistinct bytes_eq names → i < length names → position_or_len (bytes_eq (get_or names i [])) names ≡ i
 place_of names i d l =
     let name = get_or names i [] in
-    position_or_len_is (bytes_eq name) names i [] (omega arith)
-    (λ k before. bytes_sym name (get_or names k []) ∙ apart_from_distinct bytes_eq names k i [] d before l) (λ within. bytes_refl name)
+    grind (arith, position_or_len_is (bytes_eq name) names i [], bytes_sym name, apart_from_distinct bytes_eq names, bytes_refl name)
 
 among_at : (names : List (List ℕ)) (i : ℕ) → i < length names → is_among names (get_or names i []) ≡ true
 among_at names i l = list_any_at (bytes_eq (get_or names i [])) names i [] l (bytes_refl (get_or names i []))
@@ -72,9 +69,7 @@ map_all : {X : Type 0} (P : X → Type 0) (f : X → X) → ((x : X) → P x →
 map_all P f same xs each = map_fixed f xs (All-weaker P (λ x. f x ≡ x) same xs each)
 
 driven_are : (net : Parts) → latch_outputs (lines_of_text net) ++ gate_outputs (lines_of_text net) ≡ driven_names net
-driven_are net =
-    ap (λ names. names ++ gate_outputs (lines_of_text net)) (map-map (λ (l : LatchLine). l.output) (latch_of_text net) net.latches)
-    ∙ ap (λ names. map (λ (latch : Latch). latch.name) net.latches ++ names) (map-map (λ (g : GateLine). g.output) (gate_of_text net) net.gates)
+driven_are net = grind (arith, map-map)
 
 signals_are : (net : Parts) → signal_list (model_of_text net) (lines_of_text net) ≡ signal_names net
 signals_are net = ap (λ names. net.inputs ++ names) (driven_are net)
@@ -83,9 +78,7 @@ sig_same : (net : Parts) → IsNetlist net → (s : Sig) → IsSignal net s → 
 sig_same net valid s is = ap signal (place_of (signal_names net) s.0 valid.names_differ (omega (arith, is, length-signal_names net)))
 
 sigs_same : (net : Parts) → IsNetlist net → (sigs : List Sig) → All (IsSignal net) sigs → map (sig_of (signal_names net)) (map (name_of net) sigs) ≡ sigs
-sigs_same net valid sigs each =
-    map-map (sig_of (signal_names net)) (name_of net) sigs
-    ∙ map_all (IsSignal net) (λ s. sig_of (signal_names net) (name_of net s)) (sig_same net valid) sigs each
+sigs_same net valid sigs each = grind (arith, map-map (sig_of (signal_names net)) (name_of net) sigs, map_all (IsSignal net), sig_same net valid)
 
 -- The clock.
 
@@ -93,31 +86,17 @@ abbrev ClockFits : Parts → Option Clock → Type 0
 ClockFits net clock = IfSome clock (λ clock. IsClockName net clock.name)
 
 no_clocks : (net : Parts) (clock : Option Clock) → own_clocks (record { name = net.name; inputs = net.inputs; outputs = []; clocks = clock_names net clock; body = [] }) ≡ clock_names net clock
-no_clocks net None = refl
-no_clocks net (Some clock) = by (is_among net.inputs clock.name) refl
-  where
-    by : (t : Bool) → is_among net.inputs clock.name ≡ t
-        → each_once (filter (λ name. not (is_among net.inputs name)) (if t then [] else clock.name ∷ [])) ≡ (if t then [] else clock.name ∷ [])
-    by true e = refl
-    by false e = ap (λ t. each_once (cond (not t) (clock.name ∷ []) [])) e
+no_clocks net clock = grind arith
 
 clocks_are : (net : Parts) → own_clocks (model_of_text net) ≡ clock_names net net.clock
 clocks_are net = no_clocks net net.clock
 
 drivers_are : (net : Parts) → drivers (model_of_text net) (lines_of_text net) ≡ net.inputs ++ (clock_names net net.clock ++ driven_names net)
-drivers_are net =
-    ap (λ names. net.inputs ++ (names ++ (latch_outputs (lines_of_text net) ++ gate_outputs (lines_of_text net)))) (clocks_are net)
-    ∙ ap (λ names. net.inputs ++ (clock_names net net.clock ++ names)) (driven_are net)
+drivers_are net = grind (arith, clocks_are net, driven_are net)
 
 -- with the clock among them the names still differ, and none but an input has its name
 with_clock : (net : Parts) (clock : Option Clock) → IsNetlist net → ClockFits net clock → IsDistinct bytes_eq (net.inputs ++ (clock_names net clock ++ driven_names net))
-with_clock net None valid fits = valid.names_differ
-with_clock net (Some clock) valid fits = by (is_among net.inputs clock.name) refl
-  where
-    by : (t : Bool) → is_among net.inputs clock.name ≡ t
-        → IsDistinct bytes_eq (net.inputs ++ ((if t then [] else clock.name ∷ []) ++ driven_names net))
-    by true e = valid.names_differ
-    by false e = put_in clock.name net.inputs (driven_names net) valid.names_differ e (driven_any net clock.name ∙ fits.undriven)
+with_clock net clock valid fits = grind (arith, put_in, driven_any)
 
 no_signal : (net : Parts) (clock : Option Clock) (name : List ℕ) → ClockFits net clock → is_among (signal_names net) name ≡ true
     → is_among (clock_names net clock) name ≡ false
@@ -170,8 +149,7 @@ all_read net valid =
 
 none_passes : {X : Type 0} (P : X → Type 0) (p : X → Bool) → ((x : X) → P x → p x ≡ false) → (xs : List X) → All P xs → find p xs ≡ None
 none_passes P p fails [] each = refl
-none_passes P p fails (x ∷ xs) each =
-    ap (λ t. cond t (Some x) (find p xs)) (fails x (All-head P x xs each)) ∙ none_passes P p fails xs (All-tail P x xs each)
+none_passes P p fails (x ∷ xs) each = grind (arith, All-head P x xs each, none_passes P p fails xs (All-tail P x xs each), All-tail P x xs each)
 
 among_more : (xs ys zs : List (List ℕ)) (name : List ℕ) → is_among (xs ++ zs) name ≡ true → is_among (xs ++ (ys ++ zs)) name ≡ true
 among_more xs ys zs name e =
@@ -180,9 +158,7 @@ among_more xs ys zs name e =
     ∙ by (is_among xs name) (is_among ys name) (is_among zs name) (sym (list_any-append (bytes_eq name) xs zs) ∙ e)
   where
     by : (a b c : Bool) → (a || c) ≡ true → (a || (b || c)) ≡ true
-    by true b c e = refl
-    by false true c e = refl
-    by false false c e = e
+    by a b c e = grind arith
 
 -- Outputs differ by name.
 
@@ -197,34 +173,27 @@ sigs_apart net valid a b is_a is_b differ =
 outputs_apart : (net : Parts) → IsNetlist net → (a : Sig) (sigs : List Sig) → IsSignal net a → All (IsSignal net) sigs
     → AllByRecursion (λ b. sig_eq a b ≡ false) sigs → AllByRecursion (λ name. bytes_eq (name_of net a) name ≡ false) (map (name_of net) sigs)
 outputs_apart net valid a [] is each apart = tt
-outputs_apart net valid a (b ∷ sigs) is each apart = (
-  sigs_apart net valid a b is (All-head (IsSignal net) b sigs each) apart.0,
-  outputs_apart net valid a sigs is (All-tail (IsSignal net) b sigs each) apart.1,
-)
+outputs_apart net valid a (b ∷ sigs) is each apart =
+    grind (arith, sigs_apart net valid a b is (All-head (IsSignal net) b sigs each) apart.0, All-head (IsSignal net) b sigs each, outputs_apart net valid a sigs is (All-tail (IsSignal net) b sigs each) apart.1, All-tail (IsSignal net) b sigs each)
 
 outputs_distinct : (net : Parts) → IsNetlist net → (sigs : List Sig) → All (IsSignal net) sigs → IsDistinct sig_eq sigs
     → IsDistinct bytes_eq (map (name_of net) sigs)
 unfolding IsDistinct
 outputs_distinct net valid [] each d = tt
-outputs_distinct net valid (a ∷ sigs) each d = (
-  outputs_apart net valid a sigs (All-head (IsSignal net) a sigs each) (All-tail (IsSignal net) a sigs each) d.0,
-  outputs_distinct net valid sigs (All-tail (IsSignal net) a sigs each) d.1,
-)
+outputs_distinct net valid (a ∷ sigs) each d =
+    grind (arith, outputs_apart net valid a sigs (All-head (IsSignal net) a sigs each) (All-tail (IsSignal net) a sigs each) d.0, All-head (IsSignal net) a sigs each, All-tail (IsSignal net) a sigs each, outputs_distinct net valid sigs (All-tail (IsSignal net) a sigs each) d.1)
 
 -- The controls are all the clock.
 
 unclocked : (clock : Option Clock) (clocked : Bool) → clocked ≡ false → control_if clock clocked ≡ None
-unclocked None clocked e = refl
-unclocked (Some clock) true e = cc
-unclocked (Some clock) false e = refl
+unclocked clock clocked e = grind arith
 
 controlled : (the : Option Clock) (clock : Clock) (clocked : Bool) → the ≡ Some clock → clocked ≡ true → control_if the clocked ≡ Some clock
 controlled the clock clocked e f = rw (e, f) refl
 
 module _ (line : LatchLine) (latches : List LatchLine) where
   first_here : (clock : Clock) → line.control ≡ Some clock → first_control (line ∷ latches) ≡ Some clock
-  first_here clock e =
-      ap (λ t. option_and_then (λ (l : LatchLine). l.control) (cond t (Some line) (find has_control latches))) (ap is_some e) ∙ e
+  first_here clock e = grind arith
 
   first_later : line.control ≡ None → first_control (line ∷ latches) ≡ first_control latches
   first_later e = ap (λ t. option_and_then (λ (l : LatchLine). l.control) (cond t (Some line) (find has_control latches))) (ap is_some e)
@@ -232,27 +201,14 @@ module _ (line : LatchLine) (latches : List LatchLine) where
 first_is : (net : Parts) (clock : Clock) (ls : List Latch) → net.clock ≡ Some clock → list_any (λ latch. latch.clocked) ls ≡ true
     → first_control (map (latch_of_text net) ls) ≡ Some clock
 first_is net clock [] e some = cc
-first_is net clock (latch ∷ ls) e some = by latch.clocked refl (first_is net clock ls e)
-  where
-    by : (t : Bool) → latch.clocked ≡ t → (list_any (λ latch. latch.clocked) ls ≡ true → first_control (map (latch_of_text net) ls) ≡ Some clock)
-        → first_control (map (latch_of_text net) (latch ∷ ls)) ≡ Some clock
-    by true is rest = first_here (latch_of_text net latch) (map (latch_of_text net) ls) clock (controlled net.clock clock latch.clocked e is)
-    by false is rest =
-        first_later (latch_of_text net latch) (map (latch_of_text net) ls) (unclocked net.clock latch.clocked is)
-        ∙ rest (sym (ap (λ t. t || list_any (λ (latch : Latch). latch.clocked) ls) is) ∙ some)
+first_is net clock (latch ∷ ls) e some = grind (arith, first_is net clock ls e, first_here, controlled net.clock clock, first_later, unclocked net.clock)
 
 none_first : (net : Parts) (ls : List Latch) → net.clock ≡ None → first_control (map (latch_of_text net) ls) ≡ None
 none_first net [] e = refl
-none_first net (latch ∷ ls) e =
-    first_later (latch_of_text net latch) (map (latch_of_text net) ls) (ap (λ clock. control_if clock latch.clocked) e)
-    ∙ none_first net ls e
+none_first net (latch ∷ ls) e = grind (arith, first_later (latch_of_text net latch) (map (latch_of_text net) ls), none_first net ls e)
 
 control_is : (net : Parts) → IsNetlist net → first_control (map (latch_of_text net) net.latches) ≡ net.clock
-control_is net valid = by net.clock refl
-  where
-    by : (clock : Option Clock) → net.clock ≡ clock → first_control (map (latch_of_text net) net.latches) ≡ clock
-    by None e = none_first net net.latches e
-    by (Some clock) e = first_is net clock net.latches e (valid.clocked ∙ ap is_some e)
+control_is net valid = grind (arith, none_first net net.latches, first_is net)
 
 fitting : (net : Parts) (clock : Clock) → net.clock ≡ Some clock → IsClockName net clock.name → is_fitting (model_of_text net) clock clock ≡ true
 fitting net clock e is =
@@ -266,32 +222,20 @@ fitting net clock e is =
     all_true a b c d e f g h = rw (e, f, g, h) refl
 
     either : (t : Bool) → (t || is_among (if t then [] else clock.name ∷ []) clock.name) ≡ true
-    either true = refl
-    either false = ap (λ b. b || false) (bytes_refl clock.name)
+    either t = grind (arith, bytes_refl)
 
     same_edge : (edge : Edge) → edge_eq edge edge ≡ true
-    same_edge Rise = refl
-    same_edge Fall = refl
+    same_edge edge = grind arith
 
 abbrev is_bad : BlifModel → Option Clock → Option Clock → Bool
 is_bad top first control = option_map_or (λ control. option_map_or (λ f. not (is_fitting top f control)) first false) control false
 
 good_control : (net : Parts) (latch : Latch) → ClockFits net net.clock → has_bad_control (model_of_text net) net.clock (latch_of_text net latch) ≡ false
-good_control net latch fits = by net.clock refl latch.clocked
-  where
-    by : (clock : Option Clock) → net.clock ≡ clock → (clocked : Bool) → is_bad (model_of_text net) net.clock (control_if net.clock clocked) ≡ false
-    by None e clocked = ap (λ the. is_bad (model_of_text net) net.clock (control_if the clocked)) e
-    by (Some clock) e false = ap (λ the. is_bad (model_of_text net) net.clock (control_if the false)) e
-    by (Some clock) e true =
-        let P : Option Clock → Type 0 = λ the. ClockFits net the in
-        ap (λ the. is_bad (model_of_text net) the (control_if the true)) e
-        ∙ ap not (fitting net clock e (subst P e fits))
+good_control net latch fits = grind (arith, fitting net)
 
 good_controls : (net : Parts) (ls : List Latch) → ClockFits net net.clock → find (has_bad_control (model_of_text net) net.clock) (map (latch_of_text net) ls) ≡ None
 good_controls net [] fits = refl
-good_controls net (latch ∷ ls) fits =
-    ap (λ t. cond t (Some (latch_of_text net latch)) (find (has_bad_control (model_of_text net) net.clock) (map (latch_of_text net) ls))) (good_control net latch fits)
-    ∙ good_controls net ls fits
+good_controls net (latch ∷ ls) fits = grind (arith, good_control net latch, good_controls net ls)
 
 -- There is no fault.
 
@@ -325,16 +269,10 @@ no_link_fault net valid =
 all_clocked : (some : Bool) (ls : List Latch) → (list_any (λ latch. latch.clocked) ls ≡ true → some ≡ true)
     → All (λ latch. latch.clocked ≡ true → some ≡ true) ls
 all_clocked some [] h = All-nil (λ (latch : Latch). latch.clocked ≡ true → some ≡ true)
-all_clocked some (latch ∷ ls) h =
-    All-cons (λ (latch : Latch). latch.clocked ≡ true → some ≡ true) latch ls
-    (λ e. h (ap (λ t. t || list_any (λ (latch : Latch). latch.clocked) ls) e))
-    (all_clocked some ls (λ e. h (or_right latch.clocked _ e)))
+all_clocked some (latch ∷ ls) h = grind (arith, All-cons, all_clocked some ls, or_right)
 
 still_clocked : (clock : Option Clock) (clocked : Bool) → (clocked ≡ true → is_some clock ≡ true) → is_some (control_if clock clocked) ≡ clocked
-still_clocked None true h = h refl
-still_clocked None false h = refl
-still_clocked (Some clock) true h = refl
-still_clocked (Some clock) false h = refl
+still_clocked clock clocked h = grind arith
 
 record IsLatchOf (net : Parts) (latch : Latch) : Type 0 where
   from : IsSignal net latch.from
@@ -362,9 +300,4 @@ linked_again net valid =
     rw (control_is net valid, latches, gates, sigs_same net valid net.outputs valid.outputs) refl
 
 pub lines_link : (net : Parts) → IsNetlist net → linked (model_of_text net) (lines_of_text net) ≡ Ok net
-lines_link net valid =
-    let top = model_of_text net in
-    let lines = lines_of_text net in
-    ap (λ (fault : Option FlatFault). elim fault [ Some f ↦ Err f | None ↦ Ok (netlist_by (sig_of (signal_list top lines)) top lines) ]) (no_link_fault net valid)
-    ∙ ap (λ names. Ok (netlist_by (sig_of names) top lines)) (signals_are net)
-    ∙ ap Ok (linked_again net valid)
+lines_link net valid = grind (arith, no_link_fault net valid, signals_are net, linked_again net valid)

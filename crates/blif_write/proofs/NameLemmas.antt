@@ -30,9 +30,7 @@ ends_at b (c ∷ bs) = ends_at c bs
 
 pub last_byte : (word : List ℕ) → 0 < length word → (get_or word (length word - 1) 0 == 92) ≡ ends_in_backslash word
 last_byte [] l = absurd (omega arith)
-last_byte (b ∷ bs) l =
-    let e : length (b ∷ bs) - 1 ≡ length bs = omega arith in
-    ap (λ n. get_or (b ∷ bs) n 0 == 92) e ∙ ends_at b bs
+last_byte (b ∷ bs) l = grind (arith, ends_at b bs)
 
 last_of : {X : Type 0} (f : X → List ℕ) (first : List ℕ) (x : X) (xs : List X) (d : X)
     → last_word first (map f (x ∷ xs)) ≡ f (get_or (x ∷ xs) (length xs) d)
@@ -42,16 +40,11 @@ last_of f first x (y ∷ xs) d = last_of f (f x) y xs d
 pub last_mapped : {X : Type 0} (f : X → List ℕ) (first : List ℕ) (xs : List X) (d : X) → 0 < length xs
     → last_word first (map f xs) ≡ f (get_or xs (length xs - 1) d)
 last_mapped f first [] d l = absurd (omega arith)
-last_mapped f first (x ∷ xs) d l =
-    let e : length (x ∷ xs) - 1 ≡ length xs = omega arith in
-    last_of f first x xs d ∙ ap (λ n. f (get_or (x ∷ xs) n d)) (sym e)
+last_mapped f first (x ∷ xs) d l = grind (arith, last_of f first x xs d)
 
 pub last_input_is : (net : Parts) (first : List ℕ) → 0 < length net.inputs
     → name_of net (signal (length net.inputs - 1)) ≡ last_word first net.inputs
-last_input_is net first l =
-    input_named net (length net.inputs - 1) (omega arith)
-    ∙ sym (last_mapped (λ (name : List ℕ). name) first net.inputs [] l)
-    ∙ ap (last_word first) (map-id net.inputs)
+last_input_is net first l = grind (arith, input_named net (length net.inputs - 1), last_mapped, map-id net.inputs)
 
 -- A clock that a signal is named like is an input.
 
@@ -68,9 +61,7 @@ driven_any net name =
     ∙ ap (λ b. list_any (λ (l : Latch). bytes_eq name l.name) net.latches || b) (list_any-map (bytes_eq name) (λ (g : Gate). g.name) net.gates)
 
 undriven : (net : Parts) (clock : Clock) → IsNetlist net → net.clock ≡ Some clock → is_driven net clock.name ≡ false
-undriven net clock valid e =
-    let P = λ (o : Option Clock). IfSome o (λ (clock : Clock). IsClockName net clock.name) in
-    (subst P e valid.clock).undriven
+undriven net clock valid e = grind arith
 
 any_signal : (net : Parts) (clock : Clock) → IsNetlist net → net.clock ≡ Some clock
     → list_any (bytes_eq clock.name) (signal_names net) ≡ list_any (bytes_eq clock.name) net.inputs
@@ -80,8 +71,7 @@ any_signal net clock valid e =
 
 pub clock_is_input : (net : Parts) (clock : Clock) (s : Sig) → IsNetlist net → net.clock ≡ Some clock
     → slice_get (signal_names net) s.0 ≡ Some clock.name → true ≡ list_any (bytes_eq clock.name) net.inputs
-clock_is_input net clock s valid e found =
-    sym (found_any (signal_names net) s.0 clock.name found) ∙ any_signal net clock valid e
+clock_is_input net clock s valid e found = grind (arith, found_any (signal_names net) s.0 clock.name found, any_signal net clock valid e)
 
 pub clock_is_no_input : (net : Parts) (clock : Clock) → IsNetlist net → net.clock ≡ Some clock
     → list_any (bytes_eq clock.name) (signal_names net) ≡ false → false ≡ list_any (bytes_eq clock.name) net.inputs

@@ -37,8 +37,7 @@ signal_named : (net : Parts) → IsNetlist net → (s : Sig) → IsSignal net s 
 signal_named net valid s is = All-get_or IsBlifName (signal_names net) s.0 [] (omega (arith, is, length-signal_names net)) valid.names
 
 signals_named : (net : Parts) → IsNetlist net → (sigs : List Sig) → All (IsSignal net) sigs → All IsBlifName (map (name_of net) sigs)
-signals_named net valid sigs each =
-    All-map IsBlifName (name_of net) sigs (All-weaker (IsSignal net) (λ s. IsBlifName (name_of net s)) (signal_named net valid) sigs each)
+signals_named net valid sigs each = grind (arith, All-map IsBlifName (name_of net) sigs, All-weaker (IsSignal net), signal_named net valid)
 
 driven_named : (net : Parts) → IsNetlist net → All IsBlifName (driven_names net)
 driven_named net valid = back_named net.inputs (driven_names net) valid.names
@@ -46,32 +45,19 @@ driven_named net valid = back_named net.inputs (driven_names net) valid.names
 -- The head.
 
 clock_named : (net : Parts) (clock : Option Clock) → IfSome clock (λ clock. IsClockName net clock.name) → All IsLine (clock_lines net clock)
-clock_named net None is = All-nil IsLine
-clock_named net (Some clock) is = by (list_any (bytes_eq clock.name) net.inputs)
-  where
-    by : (t : Bool) → All IsLine (if t then [] else (codes ".clock" ∷ clock.name ∷ []) ∷ [])
-    by true = All-nil IsLine
-    by false =
-        All-cons IsLine (codes ".clock" ∷ clock.name ∷ []) [] (line_of_names (codes ".clock") (clock.name ∷ []) (constant (codes ".clock") refl) (one clock.name is.blif)) (All-nil IsLine)
+clock_named net clock is = grind arith
 
 -- Latches.
 
 edge_named : (edge : Edge) → IsBlifName (edge_word edge)
-edge_named Rise = constant (codes "re") refl
-edge_named Fall = constant (codes "fe") refl
+edge_named edge = grind arith
 
 init_named : (init : Init) → IsBlifName (init_word init)
-init_named starts.Zero = constant (codes "0") refl
-init_named starts.One = constant (codes "1") refl
-init_named starts.Either = constant (codes "3") refl
+init_named init = grind arith
 
 control_named : (net : Parts) (clock : Option Clock) (clocked : Bool) (init : Init) → IfSome clock (λ clock. IsClockName net clock.name)
     → All IsBlifName (control_words clock clocked ++ init_word init ∷ [])
-control_named net None clocked init is = one (init_word init) (init_named init)
-control_named net (Some clock) false init is = one (init_word init) (init_named init)
-control_named net (Some clock) true init is =
-    All-cons IsBlifName (edge_word clock.edge) (clock.name ∷ init_word init ∷ []) (edge_named clock.edge)
-    (All-cons IsBlifName clock.name (init_word init ∷ []) is.blif (one (init_word init) (init_named init)))
+control_named net clock clocked init is = grind (arith, one, init_named, All-cons, edge_named)
 
 latch_named : (net : Parts) (latch : Latch) → IsNetlist net → IsSignal net latch.from → IsBlifName latch.name → IsLine (latch_line net latch)
 latch_named net latch valid from name =
@@ -93,15 +79,13 @@ latches_named net (latch ∷ ls) valid from names =
 -- Gates.
 
 lit_named : (lit : Lit) → IsBlifByte (lit_byte lit)
-lit_named Zero = (omega arith, omega arith, omega arith)
-lit_named lit = (omega arith, omega arith, omega arith)
+lit_named lit = grind arith
 
 lits_bytes : (lits : List Lit) → All IsBlifByte (map lit_byte lits)
 lits_bytes lits = All-map IsBlifByte lit_byte lits (λ k d l. lit_named (get_or lits k d))
 
 plane_named : (plane : Bool) → IsBlifName (plane_word plane)
-plane_named true = constant (codes "1") refl
-plane_named false = constant (codes "0") refl
+plane_named plane = grind arith
 
 row_named : (plane : Bool) (row : Row) → IsLine (row_line plane row)
 row_named plane row = by row.lits

@@ -1,5 +1,5 @@
 -- A text of lines of names reads back as these lines.
-use Rattle.std.proofs.Common.{◌≡◌, List, [], ◌∷◌, ◌++◌, ℕ, true, false, refl, sym, ap, ◌∙◌, append_assoc, append-nil}
+use Rattle.std.proofs.Common.{◌≡◌, List, [], ◌∷◌, ◌++◌, ℕ, true, false, refl, sym, ap, ◌∙◌, append_assoc, append-nil, arith}
 use Rattle.blif_write.proofs.Common.{All, All-tail, numbered, line_text}
 use Rattle.std.specs.Prelude.{codes, Bool, ◌&&◌, if◌then◌else◌, Ok}
 use Rattle.std.proofs.lemmas.Bool.{and_right}
@@ -20,11 +20,7 @@ abbrev closes : List (List ℕ) → Bool
 closes words = ends_in_backslash (last_of words)
 
 end_is : (last : List ℕ) → line_end last ≡ (if ends_in_backslash last then 32 ∷ [] else []) ++ 10 ∷ []
-end_is last = by (ends_in_backslash last)
-  where
-    by : (t : Bool) → (if t then codes " \n" else codes "\n") ≡ (if t then 32 ∷ [] else []) ++ 10 ∷ []
-    by true = refl
-    by false = refl
+end_is last = grind arith
 
 line_is : (words : List (List ℕ)) → line_text words ≡ line_of closes words ++ 10 ∷ []
 line_is [] = refl
@@ -44,8 +40,7 @@ ends_spaced (w ∷ []) each = refl
 ends_spaced (w ∷ v ∷ ws) each = ends_behind w 32 (spaced (v ∷ ws)) refl ∙ ends_spaced (v ∷ ws) (All-tail IsBlifName w (v ∷ ws) each)
 
 ends_closed : (t : Bool) (xs : List ℕ) → ends_in_backslash xs ≡ t → ends_in_backslash (xs ++ (if t then 32 ∷ [] else [])) ≡ false
-ends_closed true xs is = ends_behind xs 32 [] refl
-ends_closed false xs is = ap ends_in_backslash (append-nil xs) ∙ is
+ends_closed t xs is = grind (arith, ends_behind, append-nil)
 
 not_joined : (joins : Bool) (ws : List (List ℕ)) → All IsBlifName ws → (joins && ends_in_backslash (line_of closes ws)) ≡ false
 not_joined joins ws each = and_right joins (ends_in_backslash (line_of closes ws)) (ends_closed (closes ws) (spaced ws) (ends_spaced ws each))

@@ -1,5 +1,5 @@
 -- A written netlist reads back.
-use Rattle.std.proofs.Common.{◌≡◌, ◌+◌, ◌≤◌, ℕ, true, [], ◌∷◌, length, map, ap, ◌∙◌, refl, None, Some, Ok}
+use Rattle.std.proofs.Common.{◌≡◌, ◌+◌, ◌≤◌, ℕ, true, [], ◌∷◌, length, map, ap, ◌∙◌, refl, None, Some, Ok, arith}
 use Rattle.blif_write.proofs.Common.{All, IfSome, Option, Clock, Parts, IsNetlist, IsClockName, numbered, lines_of}
 use Rattle.std.specs.Prelude.{codes}
 use Rattle.cyc_base.proofs.NameLemmas.{bytes_eq-true}
@@ -21,16 +21,11 @@ whole_gates : (net : Parts) → IsNetlist net → HasCovers net → All IsWhole 
 whole_gates net valid covers = λ k d l. record { cover = covers k d l; width = valid.pin_counts k d l }
 
 clock_is_named : (net : Parts) (clock : Option Clock) → IfSome clock (λ clock. IsClockName net clock.name) → IsNamed clock
-clock_is_named net None is = tt
-clock_is_named net (Some clock) is = false_from_ne_true _ (λ same. is.named (bytes_eq-true clock.name (codes "NIL") same))
+clock_is_named net clock is = grind (arith, false_from_ne_true, bytes_eq-true)
 
 read_again : (net : Parts) → IsNetlist net → HasCovers net → reads (written net) ≡ Ok (model_of_text net ∷ [])
 read_again net valid covers =
-    let whole = whole_gates net valid covers in
-    let found = numbered 1 (lines_of net) in
-    ap reads_lines (written_lines (lines_of net) true (lines_named net valid))
-    ∙ ap (λ fault. unless_fault fault (models (map statement found))) (no_fault net whole)
-    ∙ ap if_any (models_are net whole (clock_is_named net net.clock valid.clock))
+    grind (arith, whole_gates net valid covers, numbered 1 (lines_of net), written_lines (lines_of net) true (lines_named net valid), lines_named net valid, no_fault net, models_are net, clock_is_named net net.clock valid.clock)
 
 flat_again : (depth limit : ℕ) (net : Parts) → IsNetlist net → length net.latches + length net.gates ≤ limit
     → flat_within depth limit (model_of_text net ∷ []) net.name ≡ Ok net
@@ -39,9 +34,4 @@ flat_again depth limit net valid few =
     ap (flat_from depth limit (model ∷ []) net.name) (model_found model) ∙ lines_flat net depth limit few ∙ lines_link net valid
 
 pub reads_back : WrittenReadsBack
-reads_back net valid covers few = record {
-  model = model_of_text net;
-  named = refl;
-  read = read_again net valid covers;
-  flat = flat_again 200 4000000 net valid few;
-}
+reads_back net valid covers few = grind (arith, read_again net valid covers, flat_again 200 4000000 net valid few)

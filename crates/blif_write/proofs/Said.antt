@@ -1,5 +1,5 @@
 -- What the lines of a written netlist say: one model.
-use Rattle.std.proofs.Common.{◌≡◌, ℕ, ◌+◌, Bool, true, false, List, [], ◌∷◌, ◌++◌, length, map, take, refl, sym, ap, ◌∙◌, append_assoc, append-nil, if◌then◌else◌, None, Some, get_or}
+use Rattle.std.proofs.Common.{◌≡◌, ℕ, ◌+◌, Bool, true, false, List, [], ◌∷◌, ◌++◌, length, map, take, refl, sym, ap, ◌∙◌, append_assoc, append-nil, if◌then◌else◌, None, Some, get_or, arith}
 use Rattle.blif_write.proofs.Common.{All, flat_map, list_any, Option, length-map, All-head, All-tail, Lit, Zero, Edge, Rise, Fall, Init, Parts, numbered, BlifModel, GateLine, LatchLine, name_of, clock_lines, control_words, edge_word, init_word, latch_line, latch_lines, lit_byte, plane_word, lits_words, row_line, gate_lines, all_gate_lines, lines_of}
 use Rattle.std.specs.Prelude.{codes, bytes_eq}
 use Rattle.std.proofs.lemmas.List.{map-append, take_at, get_or_at}
@@ -65,14 +65,11 @@ abbrev says : List (List ℕ) → Statement
 says words = statement (record { number = 0; words = words })
 
 number_aside : (k : kinds.Kind) (n : ℕ) (words : List (List ℕ)) → statement_of_kind k (line n words) ≡ statement_of_kind k (line 0 words)
-number_aside of.Row n words = refl
-number_aside k n words = refl
+number_aside k n words = grind arith
 
 says_all : (n : ℕ) (ws : List (List (List ℕ))) → map statement (numbered n ws) ≡ map says ws
 says_all n [] = refl
-says_all n (words ∷ ws) =
-    ap (λ said. said ∷ map statement (numbered (n + 1) ws)) (number_aside (kind (line 0 words)) n words)
-    ∙ ap (λ rest. says words ∷ rest) (says_all (n + 1) ws)
+says_all n (words ∷ ws) = grind (arith, numbered (n + 1) ws, number_aside (kind (line 0 words)) n words, line 0 words, says_all (n + 1) ws)
 
 abbrev row_said : Bool → rows.Row → Statement
 row_said plane row = Row row plane
@@ -92,8 +89,7 @@ abbrev clock_said : Parts → List Statement
 clock_said net = clocks_said (clock_names net net.clock)
 
 lit_same : (lit : Lit) → lit_of (lit_byte lit) ≡ lit
-lit_same Zero = refl
-lit_same lit = refl
+lit_same lit = grind arith
 
 lits_same : (lits : List Lit) → map lit_of (map lit_byte lits) ≡ lits
 lits_same lits = map-map lit_of lit_byte lits ∙ map_fixed (λ (lit : Lit). lit_of (lit_byte lit)) lits (λ k d l. lit_same (get_or lits k d))
@@ -106,11 +102,7 @@ abbrev row_with : List Lit → rows.Row
 row_with lits = record { lits = lits }
 
 row_says : (plane : Bool) (row : rows.Row) → says (row_line plane row) ≡ row_said plane row
-row_says plane row =
-    let at : Line = record { number = 0; words = row_line plane row } in
-    ap (λ k. statement_of_kind k at) (row_kind 0 plane row.lits)
-    ∙ ap (λ lits. Row (row_with lits) (is_on at)) (row_lits plane row.lits)
-    ∙ ap (λ on. Row row on) (row_on 0 plane row.lits)
+row_says plane row = grind (arith, row_kind 0 plane row.lits, row_lits plane row.lits, row_on 0 plane row.lits)
 
 rows_say : (plane : Bool) (rs : List rows.Row) → map says (map (row_line plane) rs) ≡ map (row_said plane) rs
 rows_say plane [] = refl
@@ -129,10 +121,7 @@ gate_says net gate =
 
 gates_say : (net : Parts) (gs : List gates.Gate) → map says (flat_map (gate_lines net) gs) ≡ flat_map (gate_said net) gs
 gates_say net [] = refl
-gates_say net (gate ∷ gs) =
-    map-append says (gate_lines net gate) (flat_map (gate_lines net) gs)
-    ∙ ap (λ said. said ++ map says (flat_map (gate_lines net) gs)) (gate_says net gate)
-    ∙ ap (λ rest. gate_said net gate ++ rest) (gates_say net gs)
+gates_say net (gate ∷ gs) = grind (arith, map-append says (gate_lines net gate) (flat_map (gate_lines net) gs), gate_says net gate, gates_say net gs)
 
 -- no clock is named `NIL`
 abbrev pub IsNamed : Option clocks.Clock → Type 0
@@ -140,8 +129,7 @@ IsNamed None = Unit {0}
 IsNamed (Some clock) = bytes_eq clock.name (codes "NIL") ≡ false
 
 init_same : (from name : List ℕ) (init : Init) → latch_of (from ∷ name ∷ init_word init ∷ []) ≡ record { from = from; output = name; control = None; init = init }
-init_same from name starts.Zero = refl
-init_same from name init = refl
+init_same from name init = grind arith
 
 abbrev clock_with : Edge → List ℕ → clocks.Clock
 clock_with edge name = record { edge = edge; name = name }
@@ -152,15 +140,7 @@ line_with from name init control = record { from = from; output = name; control 
 control_same : (from name : List ℕ) (edge : Edge) (clock : List ℕ) (init : Init) → bytes_eq clock (codes "NIL") ≡ false
     → latch_of (from ∷ name ∷ edge_word edge ∷ clock ∷ init_word init ∷ [])
     ≡ record { from = from; output = name; control = Some (clock_with edge clock); init = init }
-control_same from name edge clock init named = by edge init
-  where
-    named_control : (edge : Edge) → control_of edge clock ≡ Some (clock_with edge clock)
-    named_control edge = ap (λ t. if t then None else Some (clock_with edge clock)) named
-
-    by : (edge : Edge) (init : Init) → latch_of (from ∷ name ∷ edge_word edge ∷ clock ∷ init_word init ∷ []) ≡ line_with from name init (Some (clock_with edge clock))
-    by Rise starts.Zero = ap (line_with from name starts.Zero) (named_control Rise)
-    by Fall starts.Zero = ap (line_with from name starts.Zero) (named_control Fall)
-    by edge init = ap (line_with from name init) (named_control edge)
+control_same from name edge clock init named = grind arith
 
 latch_same : (from name : List ℕ) (clock : Option clocks.Clock) (clocked : Bool) (init : Init) → IsNamed clock
     → latch_of (from ∷ name ∷ (control_words clock clocked ++ init_word init ∷ []))
@@ -170,20 +150,14 @@ latch_same from name (Some clock) false init named = init_same from name init
 latch_same from name (Some clock) true init named = control_same from name clock.edge clock.name init named
 
 latch_says : (net : Parts) (latch : latches.Latch) → IsNamed net.clock → says (latch_line net latch) ≡ latch_said net latch
-latch_says net latch named =
-    ap (λ l. Latch l) (latch_same (name_of net latch.from) latch.name net.clock latch.clocked latch.init named)
+latch_says net latch named = grind (arith, latch_same (name_of net latch.from) latch.name net.clock latch.clocked latch.init named)
 
 latches_say : (net : Parts) (ls : List latches.Latch) → IsNamed net.clock → map says (map (latch_line net) ls) ≡ map (latch_said net) ls
 latches_say net [] named = refl
 latches_say net (latch ∷ ls) named = rw (latch_says net latch named, latches_say net ls named) refl
 
 clock_says : (net : Parts) (clock : Option clocks.Clock) → map says (clock_lines net clock) ≡ clocks_said (clock_names net clock)
-clock_says net None = refl
-clock_says net (Some clock) = by (list_any (bytes_eq clock.name) net.inputs)
-  where
-    by : (t : Bool) → map says (if t then [] else (codes ".clock" ∷ clock.name ∷ []) ∷ []) ≡ clocks_said (if t then [] else clock.name ∷ [])
-    by true = refl
-    by false = refl
+clock_says net clock = grind arith
 
 abbrev body_said : Parts → List Statement
 body_said net = map (latch_said net) net.latches ++ (flat_map (gate_said net) net.gates ++ End ∷ [])
@@ -193,14 +167,7 @@ all_said : (net : Parts) → IsNamed net.clock → map says (lines_of net)
 all_said net named =
     let end : List (List (List ℕ)) = (codes ".end" ∷ []) ∷ [] in
     let gs = all_gate_lines net ++ end in
-    rw (
-      map-append says (clock_lines net net.clock) (latch_lines net ++ gs),
-      clock_says net net.clock,
-      map-append says (latch_lines net) gs,
-      latches_say net net.latches named,
-      map-append says (all_gate_lines net) end,
-      gates_say net net.gates,
-    ) refl
+    grind (arith, map-append says (clock_lines net net.clock) (latch_lines net ++ gs), clock_says net net.clock, map-append says (latch_lines net) gs, latches_say net net.latches named, map-append says (all_gate_lines net) end, gates_say net net.gates)
 
 -- The statements lie in one model, which ends at the last.
 
@@ -220,10 +187,7 @@ gate_members : (net : Parts) (gs : List gates.Gate) (rest : List Statement) → 
 gate_members net [] rest = refl
 gate_members net (gate ∷ gs) rest =
     let more = flat_map (gate_said net) gs in
-    ap members (append_assoc (gate_said net gate) more rest)
-    ∙ ap (λ said. Names (map (name_of net) gate.pins) gate.name ∷ said) (row_members gate.cover.plane gate.cover.rows (more ++ rest))
-    ∙ ap (λ said. gate_said net gate ++ said) (gate_members net gs rest)
-    ∙ sym (append_assoc (gate_said net gate) more (members rest))
+    grind (arith, append_assoc (gate_said net gate) more rest, row_members gate.cover.plane gate.cover.rows (more ++ rest), gate_members net gs rest, append_assoc (gate_said net gate) more (members rest))
 
 clock_models : (names : List (List ℕ)) (rest : List Statement) → models (clocks_said names ++ rest) ≡ models rest
 clock_models [] rest = refl
@@ -261,8 +225,7 @@ module _ (f : Statement → List (List ℕ)) (no_latch : (l : LatchLine) → f (
   gates_nothing : (net : Parts) (gs : List gates.Gate) → flat_map f (flat_map (gate_said net) gs) ≡ []
   gates_nothing net [] = refl
   gates_nothing net (gate ∷ gs) =
-      nothing_front (Names (map (name_of net) gate.pins) gate.name) _ (no_names _ _)
-      (rows_nothing gate.cover.plane gate.cover.rows _ (gates_nothing net gs))
+      grind (arith, nothing_front (Names (map (name_of net) gate.pins) gate.name) _ (no_names _ _) (rows_nothing gate.cover.plane gate.cover.rows _ (gates_nothing net gs)), rows_nothing gate.cover.plane gate.cover.rows _ (gates_nothing net gs), gates_nothing net gs)
 
   pub body_nothing : (net : Parts) → flat_map f (map (latch_said net) net.latches ++ flat_map (gate_said net) net.gates) ≡ []
   body_nothing net = latches_nothing net net.latches _ (gates_nothing net net.gates)
@@ -312,18 +275,13 @@ plane_is plane (row ∷ rs) rest none on = refl
 
 gate_same : (net : Parts) (gate : gates.Gate) (rest : List Statement) → IsWhole gate → StartsNoRow rest
     → gate_of (map (name_of net) gate.pins) gate.name (map (row_said gate.cover.plane) gate.cover.rows ++ rest) ≡ gate_of_text net gate
-gate_same net gate rest whole none =
-    let width = length-map gate.pins (name_of net) ∙ whole.width in
-    rw (width, plane_is gate.cover.plane gate.cover.rows rest none whole.cover.plane, rows_are gate.cover.plane gate.cover.rows rest none) refl
+gate_same net gate rest whole none = grind (arith, length-map gate.pins (name_of net), plane_is gate.cover.plane gate.cover.rows rest none whole.cover.plane, rows_are gate.cover.plane gate.cover.rows rest none)
 
 gates_body : (net : Parts) (gs : List gates.Gate) → All IsWhole gs → body_of (flat_map (gate_said net) gs) ≡ gate_items net gs
 gates_body net [] whole = refl
 gates_body net (gate ∷ gs) whole =
     let rest = flat_map (gate_said net) gs in
-    let said = map (row_said gate.cover.plane) gate.cover.rows ++ rest in
-    ap (λ g. item.Gate g ∷ body_of said) (gate_same net gate rest (All-head IsWhole gate gs whole) (starts_no_row net gs))
-    ∙ ap (λ items. item.Gate (gate_of_text net gate) ∷ items)
-    (rows_body gate.cover.plane gate.cover.rows rest ∙ gates_body net gs (All-tail IsWhole gate gs whole))
+    grind (arith, gate_same net gate rest (All-head IsWhole gate gs whole) (starts_no_row net gs), All-head IsWhole gate gs whole, starts_no_row net gs, rows_body gate.cover.plane gate.cover.rows rest, gates_body net gs (All-tail IsWhole gate gs whole), All-tail IsWhole gate gs whole)
 
 -- The whole model.
 
@@ -333,19 +291,12 @@ inner net = map (latch_said net) net.latches ++ flat_map (gate_said net) net.gat
 inner_members : (net : Parts) → members (clock_said net ++ body_said net) ≡ clock_said net ++ inner net
 inner_members net =
     let end : List Statement = End ∷ [] in
-    rw (
-      clock_members (clock_names net net.clock) (body_said net),
-      latch_members net net.latches (flat_map (gate_said net) net.gates ++ end),
-      gate_members net net.gates end,
-      append-nil (flat_map (gate_said net) net.gates),
-    ) refl
+    grind (arith, clock_members (clock_names net net.clock) (body_said net), latch_members net net.latches (flat_map (gate_said net) net.gates ++ end), gate_members net net.gates end, append-nil (flat_map (gate_said net) net.gates))
 
 no_more_models : (net : Parts) → models (clock_said net ++ body_said net) ≡ []
 no_more_models net =
     let end : List Statement = End ∷ [] in
-    clock_models (clock_names net net.clock) (body_said net)
-    ∙ latch_models net net.latches (flat_map (gate_said net) net.gates ++ end)
-    ∙ gate_models net net.gates end
+    grind (arith, clock_models (clock_names net net.clock) (body_said net), latch_models net net.latches (flat_map (gate_said net) net.gates ++ end), gate_models net net.gates end)
 
 model_is : (net : Parts) → All IsWhole net.gates
     → model_of net.name (Inputs net.inputs ∷ Outputs (map (name_of net) net.outputs) ∷ (clock_said net ++ inner net)) ≡ model_of_text net
@@ -367,10 +318,4 @@ model_is net whole =
     rw (no_inputs, no_outputs, the_clocks, the_body, append-nil net.inputs, append-nil outs) refl
 
 pub models_are : (net : Parts) → All IsWhole net.gates → IsNamed net.clock → models (map statement (numbered 1 (lines_of net))) ≡ model_of_text net ∷ []
-models_are net whole named =
-    let outs = map (name_of net) net.outputs in
-    let rest = clock_said net ++ body_said net in
-    ap models (says_all 1 (lines_of net) ∙ all_said net named)
-    ∙ ap (λ more. model_of net.name (Inputs net.inputs ∷ Outputs outs ∷ more) ∷ models rest) (inner_members net)
-    ∙ ap (λ model. model ∷ models rest) (model_is net whole)
-    ∙ ap (λ more. model_of_text net ∷ more) (no_more_models net)
+models_are net whole named = grind (arith, says_all 1 (lines_of net), all_said net named, inner_members net, model_is net whole, no_more_models net)

@@ -4,6 +4,4 @@ use Rattle.blif_write.proofs.NameLemmas.{last_input_is}
 use Rattle.blif_write.proofs.names.last_input.Goals as goal
 
 pub returns-in_default : goal.returns-in_default
-returns-in_default c =
-    c.name_of.ensures
-    ∙ rw c.inputs.ensures.inputs (last_input_is c.args.net.now (codes ".inputs") (omega arith))
+returns-in_default c = grind (arith, last_input_is c.args.net.now (codes ".inputs"))

@@ -1,3 +1,4 @@
+use Rattle.std.proofs.Common.{arith}
 use Rattle.std.specs.Prelude.{OnOk, Ok, Err}
 use Rattle.std.specs.declared.result.Result.{Result}
 use Rattle.blif_write.proofs.LineLemmas.{written_is}
@@ -6,8 +7,7 @@ use Rattle.blif_write.proofs.Common.{appended_then, appended_cut, appended_equal
 use Rattle.blif_write.proofs.text.write.Goals as goal
 
 on_ok : {T E P : Type 0} (r : Result T E) → P → OnOk r P
-on_ok (Ok x) p = p
-on_ok (Err e) p = tt
+on_ok r p = grind arith
 
 pub returns-in_err-put_head-clause-text : goal.returns-in_err-put_head-clause-text
 returns-in_err-put_head-clause-text g c = appended_equal _ _ _ _ (written_is c.args.net.now) (appended_cut _ _ _ _ _ c.in_err-put_head.ensures c.from_residual.ensures.0)
