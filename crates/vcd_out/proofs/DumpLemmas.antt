@@ -23,9 +23,7 @@ use Rattle.vcd_out.proofs.LineLemmas.{is_plain, code_is_plain, piece_then, first
 -- ---- names stay on their lines
 
 name_is_plain : (name : List ℕ) → IsBlifName name → is_plain name ≡ true
-name_is_plain name blif =
-    list_all-from_AllPass (λ b. not (b == 10)) name
-    (λ k d short. ap not (ne_eqb (get_or name k d) 10 (λ e. omega (arith, e, (blif.1 k d short).0))))
+name_is_plain name blif = grind (arith, list_all-from_AllPass, ne_eqb)
 
 signal_is_plain : (net : Parts) → IsNetlist net → (n : ℕ) → n < count net → is_plain (signal_name net (signal n)) ≡ true
 signal_is_plain net valid n short =
@@ -39,64 +37,46 @@ module _ (s : Sig) (at : ℕ) (net : Parts) (valid : IsNetlist net) where
       fold (read_line s at) shown (lines_from [] (variable_line net n ++ rest)) ≡ fold (read_line s at) shown (lines_from [] rest)
   variable_reads n shown rest short =
       let name : List ℕ = signal_name net (signal n) in
-      ap (fold (read_line s at) shown)
-      (piece_then (codes "$var wire 1 ") (code n) (codes " " ++ (name ++ codes " $end\n")) rest (code_is_plain n)
-      ∙ piece_then ((codes "$var wire 1 " ++ code n) ++ codes " ") name (codes " $end\n") rest (signal_is_plain net valid n short))
+      grind (arith, piece_then (codes "$var wire 1 ") (code n) (codes " " ++ (name ++ codes " $end\n")) rest (code_is_plain n), code_is_plain n, piece_then ((codes "$var wire 1 " ++ code n) ++ codes " ") name (codes " $end\n") rest (signal_is_plain net valid n short), signal_is_plain net valid n short)
 
   variables_read : (a n : ℕ) (shown : Shown) (rest : List ℕ) → a + n ≤ count net →
       fold (read_line s at) shown (lines_from [] (flat_map (variable_line net) (range_with_len a n) ++ rest)) ≡ fold (read_line s at) shown (lines_from [] rest)
   variables_read a zero shown rest few = refl
   variables_read a (suc n) shown rest few =
       let more : List ℕ = flat_map (variable_line net) (range_with_len (a + 1) n) in
-      ap (λ (text : List ℕ). fold (read_line s at) shown (lines_from [] text)) (append_assoc (variable_line net a) more rest)
-      ∙ variable_reads a shown (more ++ rest) (omega (arith, few))
-      ∙ variables_read (a + 1) n shown rest (omega (arith, few))
+      grind (arith, append_assoc (variable_line net a) more rest, variable_reads a shown (more ++ rest), variables_read (a + 1) n shown rest)
 
   head_reads : (rest : List ℕ) → fold (read_line s at) nothing_shown (lines_from [] (head_text net ++ rest)) ≡ fold (read_line s at) nothing_shown (lines_from [] rest)
   head_reads rest =
       let variables : List ℕ = flat_map (variable_line net) (range_with_len 0 (count net)) in
       let last : List ℕ = codes "$upscope $end\n$enddefinitions $end\n#0\n$dumpvars\n" in
-      ap (fold (read_line s at) nothing_shown)
-      (piece_then (codes "$scope module ") net.name (codes " $end\n" ++ (variables ++ last)) rest (name_is_plain net.name valid.name))
-      ∙ ap (λ (text : List ℕ). fold (read_line s at) nothing_shown (lines_from [] text)) (append_assoc variables last rest)
-      ∙ variables_read 0 (count net) nothing_shown (last ++ rest) (omega arith)
+      grind (arith, piece_then (codes "$scope module ") net.name (codes " $end\n" ++ (variables ++ last)) rest (name_is_plain net.name valid.name), name_is_plain net.name valid.name, append_assoc variables last rest, variables_read 0 (count net) nothing_shown (last ++ rest))
 
   -- a dump shows what the first changes tell, and the later ones after them
   pub dump_reads : (told : List Change) → list_all is_first (first_changes told) ≡ true → list_all (λ c. nat_lt c.at (2 ^ 64)) (later_changes told) ≡ true →
       shown_value (vcd_text told net) s at ≡ fold (value_after s at) (fold (value_after s at) None (first_changes told)) (later_changes told)
-  dump_reads told first small =
-      ap (λ (shown : Shown). shown.value)
-      (head_reads (flat_map value_line (first_changes told) ++ (codes "$end\n" ++ timed_lines 0 (later_changes told)))
-      ∙ firsts_read s at (first_changes told) None (codes "$end\n" ++ timed_lines 0 (later_changes told)) first)
-      ∙ timed_read s at (later_changes told) 0 (fold (value_after s at) None (first_changes told)) small
+  dump_reads told first small = grind (arith, head_reads (flat_map value_line (first_changes told) ++ (codes "$end\n" ++ timed_lines 0 (later_changes told))), firsts_read s, timed_read s)
 
 -- ---- the first changes and the later ones of a run
 
 keep_all : (p : Change → Bool) (xs : List Change) → list_all p xs ≡ true → filter p xs ≡ xs
 keep_all p [] all = refl
-keep_all p (x ∷ xs) all =
-    let parts = and_parts (p x) (list_all p xs) all in
-    rw parts.0 (ap (λ (ys : List Change). x ∷ ys) (keep_all p xs parts.1))
+keep_all p (x ∷ xs) all = grind (arith, and_parts (p x) (list_all p xs) all, keep_all p xs)
 
 keep_none : (p : Change → Bool) (xs : List Change) → list_all (λ x. not (p x)) xs ≡ true → filter p xs ≡ []
 keep_none p [] none = refl
-keep_none p (x ∷ xs) none =
-    let parts = and_parts (not (p x)) (list_all (λ x. not (p x)) xs) none in
-    rw (not-true (p x) parts.0) (keep_none p xs parts.1)
+keep_none p (x ∷ xs) none = grind (arith, and_parts, not-true, keep_none p xs)
 
 later_of_first : (xs : List Change) → list_all is_first xs ≡ true → later_changes xs ≡ []
 later_of_first [] all = refl
-later_of_first (x ∷ xs) all =
-    let parts = and_parts (is_first x) (list_all is_first xs) all in
-    rw parts.0 (later_of_first xs parts.1)
+later_of_first (x ∷ xs) all = grind (arith, and_parts (is_first x) (list_all is_first xs) all, later_of_first xs)
 
 run_shows : (net : Parts) (valid : IsNetlist net) (schedule : Schedule) (inputs : List Bool) (vectors : List (List Bool)) (plans : List (List RoundPlan)) → schedule.ticks ≡ plans →
     length schedule.ticks ≡ length (inputs ∷ vectors) →
     length (history_of net schedule (zip (inputs ∷ vectors) schedule.ticks)) < length schedule.past + 2 ^ 64 →
     (s : Sig) (at : ℕ) →
     shown_value (vcd_text (changes net schedule (inputs ∷ vectors)) net) s at ≡ last_value (changes net schedule (inputs ∷ vectors)) s at
-run_shows net valid schedule inputs vectors [] is ticks fits s at =
-    absurd (omega (arith, ticks, ap (λ (xs : List (List RoundPlan)). length xs) is))
+run_shows net valid schedule inputs vectors [] is ticks fits s at = grind arith
 run_shows net valid schedule inputs vectors (rounds ∷ plans) is ticks fits s at =
     let opened : PlayState = first_opened net schedule inputs in
     let played : PlayState = after_plans opened rounds in
@@ -129,6 +109,4 @@ run_shows net valid schedule inputs vectors (rounds ∷ plans) is ticks fits s a
 
 pub dumps_show : DumpsShowValues
 dumps_show net schedule [] valid latches gates fit ticks some fits s at short = absurd (omega (arith, some))
-dumps_show net schedule (inputs ∷ vectors) valid latches gates fit ticks some fits s at short =
-    run_shows net valid schedule inputs vectors schedule.ticks refl ticks fits s at
-    ∙ changes_tell net schedule (inputs ∷ vectors) latches gates fit ticks some s at short
+dumps_show net schedule (inputs ∷ vectors) valid latches gates fit ticks some fits s at short = grind (arith, run_shows net valid schedule inputs vectors schedule.ticks, changes_tell net schedule (inputs ∷ vectors) latches gates fit ticks some s)

@@ -22,11 +22,7 @@ plain_cons b bs other plain = and_from (not (b == 10)) (is_plain bs) (plain_byte
 
 plain_code : (f n : ℕ) → is_plain (code_upto f n) ≡ true
 plain_code zero n = refl
-plain_code (suc f) n =
-    elim (cases_lt n 94) [
-      | inl short ↦ rw (lt-ltb n 94 short) (plain_cons (33 + n) [] (λ e. omega (arith, e)) refl)
-      | inr far ↦ rw (le-ltb n 94 far) (plain_cons (33 + n % 94) (code_upto f (n / 94 - 1)) (λ e. omega (arith, e)) (plain_code f (n / 94 - 1)))
-    ]
+plain_code (suc f) n = grind (arith, cases_lt n 94, lt-ltb n 94, plain_cons (33 + n) [], le-ltb n 94, plain_cons (33 + n % 94) (code_upto f (n / 94 - 1)), plain_code f (n / 94 - 1))
 
 pub code_is_plain : (n : ℕ) → is_plain (code n) ≡ true
 code_is_plain n = plain_code (suc n) n
@@ -42,10 +38,7 @@ decimal_is_plain =
 -- a plain piece stays on its line
 pub piece : (line p rest : List ℕ) → is_plain p ≡ true → lines_from line (p ++ rest) ≡ lines_from (line ++ p) rest
 piece line [] rest plain = ap (λ (l : List ℕ). lines_from l rest) (sym (append-nil line))
-piece line (b ∷ p) rest plain =
-    let parts = and_parts (not (b == 10)) (is_plain p) plain in
-    rw (not-true (b == 10) parts.0)
-    (piece (line ++ b ∷ []) p rest parts.1 ∙ ap (λ (l : List ℕ). lines_from l rest) (append_assoc line (b ∷ []) p))
+piece line (b ∷ p) rest plain = grind (arith, and_parts (not (b == 10)) (is_plain p) plain, not-true (b == 10), piece (line ++ b ∷ []) p rest, append_assoc line (b ∷ []) p)
 
 pub piece_then : (line p more rest : List ℕ) → is_plain p ≡ true → lines_from line ((p ++ more) ++ rest) ≡ lines_from (line ++ p) (more ++ rest)
 piece_then line p more rest plain = ap (lines_from line) (append_assoc p more rest) ∙ piece line p (more ++ rest) plain
@@ -68,36 +61,21 @@ module _ (s : Sig) (at : ℕ) where
 
   -- a value counts in the text as its change does
   value_counts : (c : Change) (v : Option Bool) → read_value s at c.value (code c.sig.0) (record { time = c.at; value = v }) ≡ record { time = c.at; value = value_after s at v c }
-  value_counts c v =
-      rw (code_test c.sig.0 s.0)
-      (elim (cases_Bool (c.sig.0 == s.0 && not (nat_lt at c.at))) [
-        | inl is ↦ rw is refl
-        | inr isnt ↦ rw isnt refl
-      ])
+  value_counts c v = grind (arith, code_test c.sig.0 s.0, cases_Bool (c.sig.0 == s.0 && not (nat_lt at c.at)))
 
   bit_reads : (b : Bool) (n : ℕ) (shown : Shown) (rest : List ℕ) →
       fold (read_line s at) shown (lines_from [] ((bit_text b ++ (code n ++ codes "\n")) ++ rest)) ≡ fold (read_line s at) (read_value s at b (code n) shown) (lines_from [] rest)
-  bit_reads false n shown rest = ap (fold (read_line s at) shown) (piece_then (48 ∷ []) (code n) (codes "\n") rest (code_is_plain n))
-  bit_reads true n shown rest = ap (fold (read_line s at) shown) (piece_then (49 ∷ []) (code n) (codes "\n") rest (code_is_plain n))
+  bit_reads b n shown rest = grind (arith, piece_then, code_is_plain)
 
   value_reads : (c : Change) (v : Option Bool) (rest : List ℕ) →
       fold (read_line s at) (record { time = c.at; value = v }) (lines_from [] (value_line c ++ rest))
       ≡ fold (read_line s at) (record { time = c.at; value = value_after s at v c }) (lines_from [] rest)
-  value_reads c v rest =
-      bit_reads c.value c.sig.0 (record { time = c.at; value = v }) rest
-      ∙ ap (λ (shown : Shown). fold (read_line s at) shown (lines_from [] rest)) (value_counts c v)
+  value_reads c v rest = grind (arith, bit_reads c.value c.sig.0, value_counts c v)
 
   time_reads : (time : ℕ) (c : Change) (v : Option Bool) (rest : List ℕ) → c.at < 2 ^ 64 →
       fold (read_line s at) (record { time = time; value = v }) (lines_from [] (time_line time c ++ rest))
       ≡ fold (read_line s at) (record { time = c.at; value = v }) (lines_from [] rest)
-  time_reads time c v rest small =
-      elim (cases_Bool (c.at == time)) [
-        | inl same ↦ rw same (ap (λ (n : ℕ). fold (read_line s at) (record { time = n; value = v }) (lines_from [] rest)) (sym (eqb-true c.at time same)))
-        | inr other ↦
-            rw other
-            (ap (fold (read_line s at) (record { time = time; value = v })) (piece_then (35 ∷ []) (decimal c.at) (codes "\n") rest (decimal_is_plain c.at small))
-            ∙ ap (λ (n : ℕ). fold (read_line s at) (record { time = n; value = v }) (lines_from [] rest)) (decimal_is_IsNumeral c.at small).1)
-      ]
+  time_reads time c v rest small = grind (arith, cases_Bool (c.at == time), eqb-true c.at time, piece_then (35 ∷ []) (decimal c.at) (codes "\n") rest (decimal_is_plain c.at small), decimal_is_plain c.at small, decimal_is_IsNumeral c.at small)
 
   -- the values at moment 0
   pub firsts_read : (changes : List Change) (v : Option Bool) (rest : List ℕ) → list_all is_first changes ≡ true →
@@ -105,25 +83,10 @@ module _ (s : Sig) (at : ℕ) where
       ≡ fold (read_line s at) (record { time = 0; value = fold (value_after s at) v changes }) (lines_from [] rest)
   firsts_read [] v rest first = refl
   firsts_read (c ∷ changes) v rest first =
-      let parts = and_parts (is_first c) (list_all is_first changes) first in
-      let zero_time : c.at ≡ 0 = eqb-true c.at 0 parts.0 in
-      let here : fold (read_line s at) (record { time = 0; value = v }) (lines_from [] (value_line c ++ (flat_map value_line changes ++ rest)))
-      ≡ fold (read_line s at) (record { time = 0; value = value_after s at v c }) (lines_from [] (flat_map value_line changes ++ rest)) =
-      ap (λ (n : ℕ). fold (read_line s at) (record { time = n; value = v }) (lines_from [] (value_line c ++ (flat_map value_line changes ++ rest)))) (sym zero_time)
-      ∙ value_reads c v (flat_map value_line changes ++ rest)
-      ∙ ap (λ (n : ℕ). fold (read_line s at) (record { time = n; value = value_after s at v c }) (lines_from [] (flat_map value_line changes ++ rest))) zero_time in
-      ap (λ (text : List ℕ). fold (read_line s at) (record { time = 0; value = v }) (lines_from [] text)) (append_assoc (value_line c) (flat_map value_line changes) rest)
-      ∙ here
-      ∙ firsts_read changes (value_after s at v c) rest parts.1
+      grind (arith, and_parts (is_first c) (list_all is_first changes) first, eqb-true c.at 0, value_reads c v (flat_map value_line changes ++ rest), append_assoc (value_line c) (flat_map value_line changes) rest, firsts_read changes (value_after s at v c) rest)
 
   -- later values, with their times
   pub timed_read : (changes : List Change) (time : ℕ) (v : Option Bool) → list_all (λ c. nat_lt c.at (2 ^ 64)) changes ≡ true →
       (fold (read_line s at) (record { time = time; value = v }) (lines_from [] (timed_lines time changes))).value ≡ fold (value_after s at) v changes
   timed_read [] time v small = refl
-  timed_read (c ∷ changes) time v small =
-      let parts = and_parts (nat_lt c.at (2 ^ 64)) (list_all (λ c. nat_lt c.at (2 ^ 64)) changes) small in
-      let shown : Shown = fold (read_line s at) (record { time = time; value = v }) (lines_from [] (timed_lines time (c ∷ changes))) in
-      ap (λ (shown : Shown). shown.value)
-      (time_reads time c v (value_line c ++ timed_lines c.at changes) (ltb-true c.at (2 ^ 64) parts.0)
-      ∙ value_reads c v (timed_lines c.at changes))
-      ∙ timed_read changes c.at (value_after s at v c) parts.1
+  timed_read (c ∷ changes) time v small = grind (arith, and_parts, time_reads time, ltb-true, value_reads, timed_read changes)
