@@ -65,8 +65,8 @@ module _ (order : List ℕ) (net : Parts) (care : CareSet) (a : Arena) (vars : a
       let is = are k d less in
       let pair : Pair = get_or pairs k d in
       record {
-        above = above-bounded order net care layout wide a.vars vars a refl rails fixed set told pair.here.0 pair.there.0 is.here is.there;
-        below = above-bounded order net care layout wide a.vars vars a refl rails fixed set told pair.there.0 pair.here.0 is.there is.here;
+        above = above-bounded order net care layout a vars rails fixed wide set told pair.here.0 pair.there.0 is.here is.there;
+        below = above-bounded order net care layout a vars rails fixed wide set told pair.there.0 pair.here.0 is.there is.here;
       }
 
 -- ---- the fixpoint at the columns

@@ -9,10 +9,11 @@ use Rattle.loops.proofs.Reading.{wire_of_gate}
 use Rattle.fixpoint.specs.Working.{read_at_fix}
 use Rattle.care_sets.proofs.CareLemmas.{states_serve_invariant}
 use Rattle.refusals.proofs.RefusalLemmas.{next_state_is, length-next_state}
-use Rattle.verdict.specs.Enough.{IsOfNext}
+use Rattle.verdict.specs.Enough.{IsOfDecision, IsOfNext}
 use Rattle.clause_decision.specs.Loads.{LoadsAreKnown}
 use Rattle.verdict.proofs.CareLemmas.{model_is, read-bits}
-use Rattle.verdict.proofs.DecisionLemmas.{IsMadeOf, vector_of, length-vector_of, laid-vector_of, made-constant, made-laid, made-listed, made-same, made-two, made-signal}
+use Rattle.verdict.proofs.DecisionLemmas.{vector_of, length-vector_of, laid-vector_of, decision_list, decision-wide, made-constant, made-laid}
+use Rattle.verdict.proofs.MadeLemmas.{IsMadeOf, made-listed, made-same, made-signal, wide-two}
 use Rattle.verdict.proofs.PartLemmas.{leaving-value}
 use Rattle.verdict.proofs.WorkLemmas.{there_and}
 
@@ -21,7 +22,7 @@ use Rattle.verdict.proofs.WorkLemmas.{there_and}
 module _ (net : Parts) (care : CareSet) where
   -- where a value is 1, and where it is 0
   abbrev IsKnown : (List Bool → Trit) → Type 0
-  IsKnown x = (b : Bool) → IsMadeOf net care (λ v. is_bit b (x v))
+  IsKnown x = (b : Bool) → IsMadeOf net (IsOfDecision net care) (λ v. is_bit b (x v))
 
   known-same : (x y : List Bool → Trit) → ((v : List Bool) → y v ≡ x v) → IsKnown x → IsKnown y
   known-same x y same known b = made-same (λ v long. ap (is_bit b) (same v)) (known b)
@@ -48,7 +49,7 @@ module _ (net : Parts) (care : CareSet) where
     next-known place = known-within (λ v. next net (bits v)) (length net.latches) place (λ v. length-map net.latches (λ (l : Latch). wire (fix net (bits v)) l.from)) (λ less.
         known-same (λ v. value_in (fix net (bits v)) (get_or net.latches place no_latch).from.0) (λ v. get_or (next net (bits v)) place X)
         (λ v. get_or-map (λ (l : Latch). wire (fix net (bits v)) l.from) net.latches place no_latch X less)
-        (λ b. made-signal net care (get_or net.latches place no_latch).from.0 (valid.sources place no_latch less) b))
+        (λ b. made-signal (decision_list net care) (get_or net.latches place no_latch).from.0 (valid.sources place no_latch less) b))
 
     read-known : (i : ℕ) → IsKnown (λ v. value_in (reads v) i)
     read-known i = known-within reads (length model.columns) i width (λ less.
@@ -95,7 +96,7 @@ module _ (net : Parts) (care : CareSet) where
 -- whether the next state is in the invariant, at vectors of care
 record IsNextInside (net : Parts) (care : CareSet) : Type 0 where
   pub of : List Bool → Bool
-  pub made : IsMadeOf net care of
+  pub made : IsMadeOf net (IsOfDecision net care) of
   pub same : (v : List Bool) → length v ≡ columns net → is_care_vector net care v ≡ true → is_in_invariant care (next_state net v) ≡ of v
 
 next-inside : (net : Parts) (care : CareSet) → IsNetlist net → IsCareOf net care → LoadsAreKnown net care → IsNextInside net care
@@ -122,7 +123,7 @@ pub leaves-fit : (net : Parts) (care : CareSet) (a : Arena) (set inside : Node) 
     nodes a.vars (difference a set inside) ≤ w
 leaves-fit net care a set inside valid bound loads vars told inside_is wide =
     let n = next-inside net care valid bound loads in
-    made-two vars wide (λ p q. p && not q) (λ u. is_care_vector net care (vector_of net u)) (λ u. n.of (vector_of net u)) (difference a set inside)
+    wide-two (decision-wide vars wide) (λ p q. p && not q) (λ u. is_care_vector net care (vector_of net u)) (λ u. n.of (vector_of net u)) (difference a set inside)
     (made-laid (made-listed (SaysCare (λ v. refl)) (λ v long. refl))) (made-laid n.made)
     (λ u long.
     let v : List Bool = vector_of net u in

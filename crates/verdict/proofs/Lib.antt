@@ -12,6 +12,7 @@ mod FanoutLemmas
 mod InvarianceLemmas
 mod LeavesLemmas
 mod LooseLemmas
+pub mod MadeLemmas
 mod MarkLemmas
 mod NextLemmas
 pub mod PartLemmas

@@ -15,6 +15,16 @@ use std::alloc::{AllocError, Global};
 /// How many times as large as a loop its netlist may be for the whole to be simulated for that loop's sake.
 const MOST_TIMES: usize = 256;
 
+/// The number of the block at this place: there are no more blocks than gates.
+#[tactic(auto, using(crate::proofs::ScopeLemmas::few_blocks))]
+pub(crate) fn block_number(looped: &LoopedNetlist<'_>, place: usize) -> u32
+    requires { place < length looped.now.blocks.list }
+    ensures { result ≡ place }
+{
+    looped.net().laws();
+    place as u32
+}
+
 /// Whether the loop at this place needs more than one sweep at the vector of zeros. That isn't asked of a loop that is a
 /// small part of its netlist: its diagrams take less time than a simulation of the whole.
 fn needs_more_at_zeros(
@@ -49,13 +59,11 @@ fn is_settled(
     if !looped.blocks().list.items()[place].looped {
         return Ok(true);
     }
-    let Ok(number) = u32::try_from(place) else {
-        return Ok(false);
-    };
-    if needs_more_at_zeros(alloc, looped, number)? {
+    let block = block_number(looped, place);
+    if needs_more_at_zeros(alloc, looped, block)? {
         return Ok(false);
     }
-    match settles_alone(alloc, looped, number, budget)? {
+    match settles_alone(alloc, looped, block, budget)? {
         Some(sweeps) => Ok(sweeps == 1),
         None => Ok(false),
     }

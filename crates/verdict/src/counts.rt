@@ -9,6 +9,7 @@ ghost use Rattle.clause_decision.specs.Sweeping.{IsLeastCount};
 ghost use Rattle.verdict.specs.Loose.{AreUnknown, IsLoopCount};
 ghost use Rattle.verdict.specs.Verdicts.{AreSweepsOnCare};
 
+use crate::alone::block_number;
 use crate::loose::{Unknown, is_fed_known, is_known_around};
 use crate::scopes::scope_of;
 use crate::search::Search;
@@ -36,11 +37,9 @@ fn ask_sweeps(
     if !is_fed_known(alloc, search, unknown, place)? {
         return Ok(None);
     }
-    let Ok(block) = u32::try_from(place) else {
-        return Ok(None);
-    };
     let looped = search.looped();
     let care = search.care();
+    let block = block_number(looped, place);
     let scope = scope_of(alloc, search, gates_at(looped, place))?;
     let conflicts = search.conflicts();
     match unknown {

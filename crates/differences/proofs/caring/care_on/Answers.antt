@@ -1,14 +1,17 @@
 use Rattle.std.proofs.Common.{◌≡◌, ◌∙◌, ◌+◌, ◌-◌, ◌*◌, Bool, List, length, take, drop, refl, sym, ap, arith}
 use Rattle.std.proofs.lemmas.List.{take_rest, length-drop}
+use Rattle.verdict.proofs.MadeLemmas.{made-listed}
 use Rattle.verdict.proofs.PartLemmas.{IfOk-both, invariant-reads, assume-reads}
+use Rattle.verdict.proofs.WorkLemmas.{assume-bounded, invariant-bounded}
 use Rattle.differences.proofs.Common.{GrowsWithin, within_only, within_moved, within_then, within_more, within_refused, by_variable, conjunction, values_of, columns, is_care_vector, IsWide, IsLaidBy}
 use Rattle.bdd_store.proofs.GrowthLemmas.{KeepsNodes-chain, within_one}
 use Rattle.dual_rail.proofs.SurelyLemmas.{All-rails-kept, values_of-kept}
+use Rattle.dual_rail.proofs.WidthLemmas.{wide-one}
 use Rattle.verdict.specs.Causes.{HasModelOver}
 use Rattle.verdict.specs.Costs.{assume_effort, invariant_effort}
 use Rattle.differences.specs.Comparisons.{SaysCare}
 use Rattle.differences.proofs.CaringLemmas.{state-values}
-use Rattle.differences.proofs.LaidLemmas.{made-listed, made-one, assume-bounded, invariant-bounded}
+use Rattle.differences.proofs.LaidLemmas.{comparison_list, comparison-wide}
 use Rattle.differences.proofs.caring.care_on.Goals as goal
 use Rattle.differences.proofs.caring.care_on.Goals.{After-invariant_on, After-assume_on, After-and}
 
@@ -52,7 +55,7 @@ after-inside c =
     let rails = c.args.rails.now in
     let first = rw c.net.ensures.net at c.inputs-first.ensures.inputs in
     within_moved (λ w wide.
-    invariant-bounded l.order.now l.looped.now.net l.care.now l.laid wide c.args.d.now.vars c.requires.vars (values_of c.args.d.now (take (length rails - c.inputs-first.result) (drop c.inputs-first.result rails)))
+    invariant-bounded (comparison_list l.looped.now.net l.care.now) l.order.now c.requires.vars (comparison-wide l.order.now l.looped.now.net l.care.now l.laid c.requires.vars wide) (values_of c.args.d.now (take (length rails - c.inputs-first.result) (drop c.inputs-first.result rails)))
     (λ v long. state-values l.looped.now.net c.args.d.now rails c.inputs-first.result v (by_variable l.order.now v) first (c.requires.columns.values v long))) c.invariant_on.ensures.grows
 
 after-allowed : (c : After-assume_on) → let l = c.args.comparison.now in
@@ -62,7 +65,7 @@ after-allowed c before =
     let l = c.args.comparison.now in
     let keeps = c.invariant_on.ensures.grows.keeps in
     within_then before (within_moved (λ w wide.
-    assume-bounded l.order.now l.looped.now.net l.care.now l.laid wide c.invariant_on.new.d.vars (keeps.vars ∙ c.requires.vars) (values_of c.invariant_on.new.d c.args.rails.now)
+    assume-bounded (comparison_list l.looped.now.net l.care.now) l.order.now (keeps.vars ∙ c.requires.vars) (comparison-wide l.order.now l.looped.now.net l.care.now l.laid (keeps.vars ∙ c.requires.vars) wide) (values_of c.invariant_on.new.d c.args.rails.now)
     (λ v long. values_of-kept keeps c.args.rails.now c.requires.columns.proper (by_variable l.order.now v) ∙ c.requires.columns.values v (long ∙ keeps.vars))) c.assume_on.ensures.grows)
 
 pub returns-in_err-inside-clause-grows : goal.returns-in_err-inside-clause-grows
@@ -80,5 +83,5 @@ returns-clause-grows g =
     let l = g.args.comparison.now in
     let keeps = KeepsNodes-chain g.invariant_on.ensures.grows.keeps g.assume_on.ensures.grows.keeps in
     within_then (after-allowed at.After-assume_on (after-inside at.After-invariant_on)) (within_only (within_one (λ w wide.
-    made-one l.order.now l.looped.now.net l.care.now l.laid wide g.assume_on.new.d.vars (keeps.vars ∙ g.requires.vars) (conjunction g.assume_on.new.d g.in_ok-inside.inside g.in_ok-allowed.allowed)
+    wide-one (comparison-wide l.order.now l.looped.now.net l.care.now l.laid (keeps.vars ∙ g.requires.vars) wide) (conjunction g.assume_on.new.d g.in_ok-inside.inside g.in_ok-allowed.allowed)
     (made-listed (SaysCare (λ v. refl)) (λ v long. counted at.After-and v (long ∙ sym g.requires.vars)))) g.and.ensures.grows))

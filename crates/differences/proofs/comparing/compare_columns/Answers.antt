@@ -6,9 +6,10 @@ use Rattle.loops.specs.Cuts.{loops_by}
 use Rattle.fixpoint.specs.Working.{HasLargeCover}
 use Rattle.isolation.proofs.ColumnLemmas.{AreColumns-kept}
 use Rattle.isolation.proofs.SettlingLemmas.{loops-are}
+use Rattle.verdict.proofs.MadeLemmas.{working-wide}
 use Rattle.differences.specs.Comparisons.{AddsInComparison, care_cost, solving_cost}
 use Rattle.differences.proofs.ComparingLemmas.{fixed-is}
-use Rattle.differences.proofs.LaidLemmas.{working-wide}
+use Rattle.differences.proofs.LaidLemmas.{comparison_list, comparison-wide}
 use Rattle.differences.proofs.comparing.compare_columns.Goals as goal
 use Rattle.differences.proofs.comparing.compare_columns.Goals.{After-care_on, After-solve_beside}
 
@@ -43,12 +44,13 @@ care-adds c = adds_caused (λ over. inr over) c.care_on.ensures.grows.adds
 -- the working list of the fixpoint
 solving-adds : (c : After-solve_beside) → AddsInComparison c.solve_beside.result c.care_on.new.d c.solve_beside.new.d c.args.comparison.now.order.now c.args.comparison.now.looped.now.net c.args.comparison.now.care.now (solving_cost c.args.comparison.now.looped.now.net)
 solving-adds c =
-    let l = c.args.comparison.now.looped.now in
+    let comparison = c.args.comparison.now in
+    let l = comparison.looped.now in
     let is = c.care_on.ensures.looped in
     adds_caused {cause = HasLargeCover l.net} (λ over. inl over)
     (adds_moved (λ w wide.
-    working-wide c.args.comparison.now.order.now l.net c.args.comparison.now.care.now c.args.comparison.now.laid wide c.care_on.new.d.vars (care-vars c) (values_of c.care_on.new.d c.args.rails.now) (points-are c)
-    (loops_by l.blocks l.cut) (loops-are l.net l.blocks l.cut is.blocks is.cut)) c.solve_beside.ensures.adds)
+    working-wide (comparison_list l.net comparison.care.now) comparison.order.now (values_of c.care_on.new.d c.args.rails.now) (points-are c) (loops_by l.blocks l.cut) (loops-are l.net l.blocks l.cut is.blocks is.cut)
+    (comparison-wide comparison.order.now l.net comparison.care.now comparison.laid (care-vars c) wide)) c.solve_beside.ensures.adds)
 
 pub returns-in_err-set-clause-adds : goal.returns-in_err-set-clause-adds
 returns-in_err-set-clause-adds g = adds_more (omega arith) (adds_refused g.in_err-set.was g.from_residual.ensures.1 (care-adds (goal.at.returns-in_err-set-clause-adds g).After-care_on))

@@ -1,6 +1,8 @@
 use Rattle.std.proofs.Common.{◌≡◌, ◌∙◌, refl, ◌*◌, List, Bool, length, sym, arith}
-use Rattle.verdict.proofs.Common.{within_only, within_one, within_then, within_moved, within_more, within_refused, conjunction, columns, is_care_vector, assume_effort, GrowsInDecision, SaysCare, laid}
-use Rattle.verdict.proofs.DecisionLemmas.{made-listed, made-one, wide-kept}
+use Rattle.verdict.proofs.Common.{within_only, within_one, within_then, within_moved, within_more, within_refused, conjunction, columns, is_care_vector, assume_effort, GrowsInDecision, SaysCare, laid, order, values_of}
+use Rattle.dual_rail.proofs.WidthLemmas.{wide-one}
+use Rattle.verdict.proofs.DecisionLemmas.{decision_list, decision-wide, wide-kept}
+use Rattle.verdict.proofs.MadeLemmas.{made-listed}
 use Rattle.verdict.proofs.PartLemmas.{assume-reads}
 use Rattle.verdict.proofs.WorkLemmas.{assume-bounded}
 use Rattle.verdict.proofs.beginning.care_on.Goals as goal
@@ -18,7 +20,10 @@ returns-clause-told g = grind arith
 
 -- what the assumption works with
 assumption : (c : After-assume_on) → GrowsInDecision c.assume_on.result c.args.d.now c.assume_on.new.d c.args.question.now.net c.args.question.now.care (2 * assume_effort c.args.question.now.care)
-assumption c = grind (arith, within_moved, assume-bounded c.args.question.now.net c.args.question.now.care c.args.d.now.vars c.requires.vars)
+assumption c =
+    let q = c.args.question.now in
+    within_moved (λ w wide. assume-bounded (decision_list q.net q.care) (order q.net) c.requires.vars (decision-wide c.requires.vars wide) (values_of c.args.d.now c.args.rails.now) c.requires.columns.values)
+    (rw c.care.ensures.care at c.assume_on.ensures.grows)
 
 pub returns-in_err-allowed-clause-grows : goal.returns-in_err-allowed-clause-grows
 returns-in_err-allowed-clause-grows g = within_more (omega arith) (within_refused g.in_err-allowed.was g.from_residual.ensures.1 (assumption (goal.at.returns-in_err-allowed-clause-grows g).After-assume_on))
@@ -28,5 +33,5 @@ returns-clause-grows g =
     let at = goal.at.returns-clause-grows g in
     let keeps = g.assume_on.ensures.grows.keeps in
     within_then (assumption at.After-assume_on) (within_only (within_one (λ w wide.
-    made-one (keeps.vars ∙ g.requires.vars) (wide-kept keeps wide) (conjunction g.assume_on.new.d g.args.inside g.in_ok-allowed.allowed)
+    wide-one (decision-wide (keeps.vars ∙ g.requires.vars) (wide-kept keeps wide)) (conjunction g.assume_on.new.d g.args.inside g.in_ok-allowed.allowed)
     (made-listed (SaysCare (λ v. refl)) (λ v long. counts at.After-and v (long ∙ sym g.requires.vars)))) g.and.ensures.grows))

@@ -1,6 +1,7 @@
 use Rattle.std.proofs.Common.{◌≡◌, ◌∙◌, ◌-◌, List, Bool, length, take, drop, ap, arith}
-use Rattle.verdict.proofs.Common.{length-drop, within_moved, Rails, values_of, bits, columns, state_of, laid}
+use Rattle.verdict.proofs.Common.{length-drop, within_moved, Rails, values_of, bits, columns, state_of, laid, order}
 use Rattle.std.proofs.lemmas.List.{take_rest}
+use Rattle.verdict.proofs.DecisionLemmas.{decision_list, decision-wide}
 use Rattle.verdict.proofs.PartLemmas.{IfOk-both, invariant-reads}
 use Rattle.verdict.proofs.VerdictLemmas.{state-values}
 use Rattle.verdict.proofs.WorkLemmas.{invariant-bounded}
@@ -36,4 +37,5 @@ pub returns-clause-grows : goal.returns-clause-grows
 returns-clause-grows g =
     let c : After-invariant_on = (goal.at.returns-clause-grows g).After-invariant_on in
     let q = g.args.question.now in
-    grind (arith, After-invariant_on, within_moved, invariant-bounded q.net q.care g.args.d.now.vars g.requires.vars, values c)
+    within_moved (λ w wide. invariant-bounded (decision_list q.net q.care) (order q.net) g.requires.vars (decision-wide g.requires.vars wide) (values_of g.args.d.now (latches c)) (values c))
+    (rw g.care.ensures.care at g.invariant_on.ensures.grows)

@@ -5,10 +5,10 @@ sweeps_needed-requires-clause-known c = rw (c.looped-looped.ensures.looped, c.ca
 
 pub sweeps_fed_known-requires-clause-fed : goal.sweeps_fed_known-requires-clause-fed
 sweeps_fed_known-requires-clause-fed c =
-    rw (c.looped-looped.ensures.looped, c.care-care.ensures.care, c.in-Ok.ensures.1) (c.in_ok-is_fed_known.ensures c.if-not-branch.false)
+    rw (c.looped-looped.ensures.looped, c.care-care.ensures.care, c.block_number-block.ensures) (c.in_ok-is_fed_known.ensures c.if-not-branch.false)
 
 pub returns-in-Nowhere : goal.returns-in-Nowhere
-returns-in-Nowhere c = rw (c.looped-looped.ensures.looped, c.care-care.ensures.care, c.in-Ok.ensures.1) at c.sweeps_needed.ensures
+returns-in-Nowhere c = rw (c.looped-looped.ensures.looped, c.care-care.ensures.care, c.block_number-block.ensures) at c.sweeps_needed.ensures
 
 pub returns : goal.returns
-returns c = rw (c.looped-looped.ensures.looped, c.care-care.ensures.care, c.in-Ok.ensures.1) at c.sweeps_fed_known.ensures
+returns c = rw (c.looped-looped.ensures.looped, c.care-care.ensures.care, c.block_number-block.ensures) at c.sweeps_fed_known.ensures

@@ -5,7 +5,7 @@ use Rattle.verdict.specs.Verdicts.{IsSolvedWhole}
 use Rattle.verdict.proofs.CountLemmas.{column-vectors}
 use Rattle.verdict.proofs.DecisionLemmas.{decision-adds}
 use Rattle.isolation.proofs.SettlingLemmas.{loops-are}
-use Rattle.verdict.proofs.SolutionLemmas.{working-wide}
+use Rattle.verdict.proofs.SolutionLemmas.{solving-wide}
 use Rattle.verdict.proofs.VerdictLemmas.{fixed-is}
 use Rattle.verdict.proofs.diagrams.judge_whole.Goals as goal
 use Rattle.verdict.proofs.diagrams.judge_whole.Goals.{After-solve_beside, In_ok-found}
@@ -42,7 +42,7 @@ solving-adds c =
     let adds = rw c.looped-looped.ensures.looped at c.solve_beside.ensures.adds in
     adds_caused {cause = HasLargeCover net} (λ over. inl over)
     (adds_moved (λ w wide.
-    working-wide net care c.args.d.now c.requires.vars (values_of c.args.d.now c.args.rails.now) (points-are c) (loops_by c.args.question.now.blocks c.args.question.now.cut)
+    solving-wide net care c.args.d.now c.requires.vars (values_of c.args.d.now c.args.rails.now) (points-are c) (loops_by c.args.question.now.blocks c.args.question.now.cut)
     (loops-are net c.args.question.now.blocks c.args.question.now.cut is.blocks is.cut) (subst (λ n. IsWide n (IsLaid net care) w) (sym c.requires.vars) wide)) adds)
 
 pub returns-in_err-found-clause-adds : goal.returns-in_err-found-clause-adds
