@@ -143,31 +143,27 @@ fn copy_latches(alloc: Global, net: &Netlist) -> Result<Vec<Latch>, AllocError>
     Ok(latches)
 }
 
-/// The parts of the first netlist but for gates and outputs.
-fn parts_without_gates(alloc: Global, a: &Netlist) -> Result<Parts, AllocError>
-    ensures { IfOk result (λ parts. parts ≡ record { name = a.now.name; inputs = a.now.inputs; clock = a.now.clock; latches = a.now.latches; gates = []; outputs = [] }) }
+/// The parts of a netlist that has the columns of this one, and these gates and outputs.
+fn parts_of(
+    alloc: Global,
+    net: &Netlist,
+    gates: Vec<Gate>,
+    outputs: Vec<Sig>,
+) -> Result<Parts, AllocError>
+    ensures { IfOk result (λ parts. parts ≡ record { name = net.now.name; inputs = net.now.inputs; clock = net.now.clock; latches = net.now.latches; gates = gates.items; outputs = outputs.items }) }
 {
-    let name = a.name().copy()?;
-    let clock = copy_clock(a)?;
-    let inputs = Items::of(copy_inputs(alloc, a)?);
-    let latches = Items::of(copy_latches(alloc, a)?);
+    let name = net.name().copy()?;
+    let clock = copy_clock(net)?;
+    let inputs = Items::of(copy_inputs(alloc, net)?);
+    let latches = Items::of(copy_latches(alloc, net)?);
     Ok(Parts {
         name,
         inputs,
         clock,
         latches,
-        gates: Items::of(Vec::new(alloc)),
-        outputs: Items::of(Vec::new(alloc)),
+        gates: Items::of(gates),
+        outputs: Items::of(outputs),
     })
-}
-
-/// The parts of the joined netlist, which has these gates.
-fn joined_parts(alloc: Global, a: &Netlist, gates: Vec<Gate>) -> Result<Parts, AllocError>
-    ensures { IfOk result (λ parts. parts ≡ record { name = a.now.name; inputs = a.now.inputs; clock = a.now.clock; latches = a.now.latches; gates = gates.items; outputs = [] }) }
-{
-    let mut parts = parts_without_gates(alloc, a)?;
-    parts.gates = Items::of(gates);
-    Ok(parts)
 }
 
 /// The parts of these netlists are refused for want of memory alone.
@@ -188,22 +184,14 @@ fn netlist_by(alloc: Global, parts: Parts) -> Result<Netlist, AllocError>
     }
 }
 
-/// The parts of a netlist.
-fn copy_parts(alloc: Global, net: &Netlist) -> Result<Parts, AllocError>
-    ensures { IfOk result (λ parts. parts ≡ net.now) }
-{
-    let mut parts = parts_without_gates(alloc, net)?;
-    parts.gates = Items::of(copy_gates(alloc, net)?);
-    parts.outputs = Items::of(net.outputs().to_vec(alloc)?);
-    Ok(parts)
-}
-
 /// An equal netlist.
 pub(crate) fn copy_netlist(alloc: Global, net: &Netlist) -> Result<Netlist, AllocError>
     ensures { IfOk result (λ copy. copy ≡ net.now) }
 {
     net.laws();
-    let parts = copy_parts(alloc, net)?;
+    let gates = copy_gates(alloc, net)?;
+    let outputs = net.outputs().to_vec(alloc)?;
+    let parts = parts_of(alloc, net, gates, outputs)?;
     netlist_by(alloc, parts)
 }
 
@@ -216,7 +204,7 @@ pub(crate) fn netlist_of(
     requires { IsNetlist record { name = a.now.name; inputs = a.now.inputs; clock = a.now.clock; latches = a.now.latches; gates = gates.items; outputs = [] } }
     ensures { IfOk result (λ net. net ≡ record { name = a.now.name; inputs = a.now.inputs; clock = a.now.clock; latches = a.now.latches; gates = gates.items; outputs = [] }) }
 {
-    let parts = joined_parts(alloc, a, gates)?;
+    let parts = parts_of(alloc, a, gates, Vec::new(alloc))?;
     netlist_by(alloc, parts)
 }
 
