@@ -13,16 +13,12 @@ columns_of net first values = zip (drop first (signal_names net)) values
 
 module _ (net : Parts) (first : ℕ) (values : List Bool) (fits : first + length values ≤ count net) where
   pub length-columns : length (columns_of net first values) ≡ length values
-  length-columns =
-      omega (arith, length-zip (drop first (signal_names net)) values, length-drop first (signal_names net), length-signal_names net)
+  length-columns = grind (arith, length-zip (drop first (signal_names net)) values, length-drop first (signal_names net), length-signal_names net)
 
   column_is : (i : ℕ) (name : List ℕ) (d : Bool) (e : List ℕ × Bool) → slice_get (signal_names net) (first + i) ≡ Some name → i < length values →
       get_or (columns_of net first values) i e ≡ (name, get_or values i d)
   column_is i name d e found inside =
-      get_or-zip (drop first (signal_names net)) values i e (omega (arith, length-drop first (signal_names net), length-signal_names net)) inside
-      ∙ ap₂ (λ (n : List ℕ) (v : Bool). (n, v))
-      (get_or-drop first (signal_names net) i e.0 ∙ get_or_from_slice_get (signal_names net) (first + i) name e.0 found)
-      (get_or_default values i e.1 d inside)
+      grind (arith, get_or-zip (drop first (signal_names net)) values i e, length-drop first (signal_names net), length-signal_names net, get_or-drop first (signal_names net) i e.0, get_or_from_slice_get (signal_names net) (first + i) name e.0 found, get_or_default values i e.1 d inside)
 
   abbrev upto : ℕ → List ℕ
   upto i = flat_map column_text (take i (columns_of net first values))

@@ -15,12 +15,7 @@ use Rattle.report.specs.LoopTexts.{numbered_loops, each_loop}
 -- the texts of the items that pass a test
 pub kept_texts : {X : Type 0} (p : X → Bool) (f : X → List ℕ) (xs : List X) → flat_map f (filter p xs) ≡ flat_map (λ x. if p x then f x else []) xs
 kept_texts p f [] = refl
-kept_texts p f (x ∷ xs) = by_test (p x) (kept_texts p f xs)
-  where
-    by_test : (t : Bool) → flat_map f (filter p xs) ≡ flat_map (λ x. if p x then f x else []) xs
-        → flat_map f (cond t (x ∷ filter p xs) (filter p xs)) ≡ (if t then f x else []) ++ flat_map (λ x. if p x then f x else []) xs
-    by_test true rest = ap (λ text. f x ++ text) rest
-    by_test false rest = rest
+kept_texts p f (x ∷ xs) = grind (arith, kept_texts p f xs)
 
 -- the lines of a loop
 pub lines_are : (net : Parts) (l : Listed) → IsLoopOf net l
@@ -53,11 +48,7 @@ module _ (text : ℕ → ℕ → List ℕ) (net : Parts) (s t u : LoopList) (cam
       let at = comes_at net s t u came x all yielded next in
       let wide = length-append came (x ∷ []) in
       let grown : length (came ++ x ∷ []) ≡ length came + 1 = omega (arith, wide) in
-      ap (told_first text net) grown
-      ∙ ap (flat_map (told_of text)) (take_more (listed_loops net) (length came) (loop_seen x) at.inside)
-      ∙ flat_map-append (told_of text) (take (length came) (listed_loops net)) (get_or (listed_loops net) (length came) (loop_seen x) ∷ [])
-      ∙ ap (λ (l : Listed). told_first text net (length came) ++ (told_of text l ++ [])) (sym at.is)
-      ∙ ap (λ (rest : List ℕ). told_first text net (length came) ++ rest) (append-nil (text x.number x.first))
+      grind (arith, take_more (listed_loops net) (length came) (loop_seen x) at.inside, flat_map-append (told_of text) (take (length came) (listed_loops net)) (get_or (listed_loops net) (length came) (loop_seen x) ∷ []), append-nil (text x.number x.first))
 
   -- all loops
   pub whole_told : loops_left t ≡ [] → told_first text net (length came) ≡ each_loop text net

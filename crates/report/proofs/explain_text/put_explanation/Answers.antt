@@ -1,3 +1,4 @@
+use Rattle.std.proofs.Common.{arith}
 use Rattle.report.proofs.Common.{appended_then, appended_cut}
 use Rattle.report.proofs.explain_text.put_explanation.Goals as goal
 
@@ -10,6 +11,4 @@ returns-in_err-put_way g c =
     (appended_then _ _ _ _ _ _ _ _ _ _ c.in_ok-put_gates.ensures (appended_cut _ _ _ _ _ c.in_err-put_way.ensures c.from_residual-in_err-put_way.ensures.0))
 
 pub returns : goal.returns
-returns g c =
-    rw (← c.items.ensures, ← c.items-2.ensures, ← c.items-3.ensures)
-    (appended_then _ _ _ _ _ _ _ _ _ _ c.in_ok-put_gates.ensures (appended_then _ _ _ _ _ _ _ _ _ _ c.in_ok-put_way.ensures c.put_needs.ensures))
+returns g c = grind (arith, appended_then _ _ _ _ _ _ _ _ _ _ c.in_ok-put_gates.ensures (appended_then _ _ _ _ _ _ _ _ _ _ c.in_ok-put_way.ensures c.put_needs.ensures), appended_then _ _ _ _ _ _ _ _ _ _ c.in_ok-put_way.ensures c.put_needs.ensures)

@@ -1,3 +1,4 @@
+use Rattle.std.proofs.Common.{arith}
 use Rattle.report.proofs.Common.{appended_then, appended_cut}
 use Rattle.report.proofs.help.put_help.Goals as goal
 
@@ -11,5 +12,4 @@ returns-in_err-put_topics g c =
 
 pub returns : goal.returns
 returns g c =
-    rw (← c.head.ensures, ← c.topics.ensures, ← c.tail.ensures)
-    (appended_then _ _ _ _ _ _ _ _ _ _ c.in_ok-write_whole.ensures (appended_then _ _ _ _ _ _ _ _ _ _ c.in_ok-put_topics.ensures c.write_whole-2.ensures))
+    grind (arith, appended_then _ _ _ _ _ _ _ _ _ _ c.in_ok-write_whole.ensures (appended_then _ _ _ _ _ _ _ _ _ _ c.in_ok-put_topics.ensures c.write_whole-2.ensures), appended_then _ _ _ _ _ _ _ _ _ _ c.in_ok-put_topics.ensures c.write_whole-2.ensures)

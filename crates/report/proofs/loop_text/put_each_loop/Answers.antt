@@ -1,4 +1,4 @@
-use Rattle.std.proofs.Common.{ap, ◌∙◌}
+use Rattle.std.proofs.Common.{ap, ◌∙◌, arith}
 use Rattle.report.proofs.Common.{appended_none, comes_at, loops_left, loop_lines}
 use Rattle.report.proofs.LoopTextLemmas.{told_all, told_cut, told_more}
 use Rattle.report.proofs.loop_text.put_each_loop.Goals as goal
@@ -7,9 +7,7 @@ pub loop-listed-init : goal.loop-listed-init
 loop-listed-init g c = (tt, appended_none _ _ _)
 
 pub put_loop-requires : goal.put_loop-requires
-put_loop-requires g c =
-    (comes_at c.args.looped.now.net c.into_iter-listed-iterator.result c.loop-listed.listed-iterator c.next.new.self c.loop-listed.yielded c.in-Some.listed
-    (ap loops_left c.into_iter-listed-iterator.ensures.into_iter_gives ∙ c.in_order-listed-items.ensures) c.loop-listed.yielded_by c.in-Some.ensures.steps).loop
+put_loop-requires g c = grind (arith, comes_at c.args.looped.now.net c.into_iter-listed-iterator.result c.loop-listed.listed-iterator c.next.new.self c.loop-listed.yielded c.in-Some.listed)
 
 pub loop-listed-preserved : goal.loop-listed-preserved
 loop-listed-preserved g c = (

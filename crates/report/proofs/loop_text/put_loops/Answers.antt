@@ -1,3 +1,4 @@
+use Rattle.std.proofs.Common.{arith}
 use Rattle.report.proofs.Common.{appended_then, appended_cut}
 use Rattle.report.proofs.loop_text.put_loops.Goals as goal
 
@@ -11,5 +12,4 @@ returns-in_err-write_whole g c =
 
 pub returns : goal.returns
 returns g c =
-    rw (← c.count.ensures)
-    (appended_then _ _ _ _ _ _ _ _ _ _ c.in_ok-put_numbered.ensures (appended_then _ _ _ _ _ _ _ _ _ _ c.in_ok-write_whole.ensures c.put_each_loop.ensures))
+    grind (arith, appended_then _ _ _ _ _ _ _ _ _ _ c.in_ok-put_numbered.ensures (appended_then _ _ _ _ _ _ _ _ _ _ c.in_ok-write_whole.ensures c.put_each_loop.ensures), appended_then _ _ _ _ _ _ _ _ _ _ c.in_ok-write_whole.ensures c.put_each_loop.ensures)
