@@ -1,5 +1,5 @@
 -- The items of the text, by their places.
-use Rattle.std.proofs.Common.{◌*◌, ◌||◌, Bool, true, false, eqb, All, ◌≡◌, ℕ, ◌+◌, ◌<◌, ◌≤◌, List, [], ◌∷◌, ◌++◌, length, get_or, map, refl, sym, ap, subst, ◌∙◌, arith, Some}
+use Rattle.std.proofs.Common.{◌*◌, true, false, eqb, All, ◌≡◌, ℕ, ◌+◌, ◌<◌, ◌≤◌, List, [], ◌∷◌, ◌++◌, length, get_or, map, sym, subst, ◌∙◌, arith, Some}
 use Rattle.aiger_write.proofs.Common.{enumerate_from, length-map, item_at, codes, And, edge, latch_line, and_line, name_of, Latch}
 use Rattle.std.specs.List.{list_any, IsDistinct, AllByRecursion, slice_get}
 use Rattle.std.proofs.lemmas.Bool.{false≢true, eqb-true}

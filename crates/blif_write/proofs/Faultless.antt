@@ -1,9 +1,8 @@
 -- No line of a written netlist has a fault.
-use Rattle.std.proofs.Common.{◌≡◌, ◌&&◌, ℕ, ◌+◌, ◌≤◌, nat_lt, not, Bool, true, false, List, [], ◌∷◌, ◌++◌, length, map, refl, sym, ap, ◌∙◌, subst, append_assoc, arith, eq-eqb, if◌then◌else◌, None, Some, option_map}
-use Rattle.blif_write.proofs.Common.{All, flat_map, list_any, Option, length-map, All-head, All-tail, IsCover, Lit, Zero, Edge, Rise, Fall, Init, Gate, Parts, numbered, name_of, clock_lines, control_words, edge_word, init_word, latch_line, latch_lines, lit_byte, plane_word, lits_words, row_line, gate_lines, all_gate_lines, lines_of}
+use Rattle.std.proofs.Common.{◌≡◌, ◌&&◌, ℕ, ◌+◌, ◌≤◌, Bool, true, false, List, [], ◌∷◌, ◌++◌, length, map, refl, sym, ap, ◌∙◌, subst, append_assoc, arith, eq-eqb, if◌then◌else◌, None, Some, option_map}
+use Rattle.blif_write.proofs.Common.{All, flat_map, Option, length-map, All-head, All-tail, IsCover, Lit, Init, Gate, Parts, numbered, name_of, clock_lines, control_words, init_word, latch_line, latch_lines, lit_byte, plane_word, lits_words, row_line, gate_lines, all_gate_lines, lines_of}
 use Rattle.std.specs.Prelude.{codes, bytes_eq}
 use Rattle.std.specs.List.{list_all}
-use Rattle.std.proofs.lemmas.Grind.{common_steps}
 use Rattle.std.proofs.lemmas.List.{length-append}
 use Rattle.cover_logic.specs.declared.row.Row.{Row as CoverRow}
 use Rattle.netlist.specs.declared.parts.Clock.{Clock as ClockOf}
@@ -12,10 +11,9 @@ use Rattle.netlist.specs.declared.parts.Latch.{Latch as LatchOf}
 use Rattle.blif_text.specs.Texts.{Line}
 use Rattle.blif_read.specs.declared.kind.Kind.TheVariants.{Row}
 use Rattle.blif_read.specs.declared.fault.BlifFault.{BlifFault}
-use Rattle.blif_read.specs.declared.fault.BlifFault.TheVariants.{TooManyPins}
 use Rattle.blif_read.specs.Kinds.{kind, arguments, pin_count, is_on, kind_of, model_name}
-use Rattle.blif_read.specs.Places.{is_model, is_end, is_row, is_names, in_model, cover_line, first_row, this_unless, place_behind, is_model_name}
-use Rattle.blif_read.specs.Faults.{names_fault, latch_fault, typed_latch_fault, is_init, is_lit, is_plane, is_row_of, same_plane, differs, row_fault, fault_at, fault, or_else, first_fault}
+use Rattle.blif_read.specs.Places.{in_model, cover_line, first_row, place_behind, is_model_name}
+use Rattle.blif_read.specs.Faults.{names_fault, latch_fault, is_lit, is_plane, is_row_of, differs, row_fault, fault_at, fault, or_else, first_fault}
 
 abbrev pub line : ℕ → List (List ℕ) → Line
 line n words = record { number = n; words = words }
@@ -52,12 +50,6 @@ end_passes : Passes ((codes ".end" ∷ []) ∷ [])
 end_passes = record { none = λ n earlier m. or_none _ _ (inside _ _ _ m refl) refl }
 
 -- Latches.
-
-typed_fine : (n : ℕ) (edge : Edge) (init : Init) → typed_latch_fault n (edge_word edge) (is_init (init_word init)) ≡ None
-typed_fine n edge init = grind arith
-
-init_fine : (n : ℕ) (from name : List ℕ) (init : Init) → latch_fault n (from ∷ name ∷ init_word init ∷ []) ≡ None
-init_fine n from name init = grind arith
 
 latch_fine : (n : ℕ) (from name : List ℕ) (clock : Option ClockOf) (clocked : Bool) (init : Init)
     → latch_fault n (from ∷ name ∷ (control_words clock clocked ++ init_word init ∷ [])) ≡ None
@@ -126,13 +118,6 @@ row_fault_none n earlier pins plane row e opened =
     ap (λ k. fault_at k at (place_behind earlier) (is_model_name (model_name at) earlier)) (row_kind n plane row.lits)
     ∙ inside _ _ _ opened.model
     (fits _ _ pins plane at opened.width (subst P e (row_fine plane row.lits)) (row_on n plane row.lits) opened.first)
-
-same_as_itself : (plane : Bool) → not (same_plane plane plane) ≡ false
-same_as_itself plane = grind arith
-
-still_same : (first : Option Line) (at : Line) (plane : Bool) → is_on at ≡ plane → differs (option_map is_on first) plane ≡ false
-    → differs (option_map is_on (this_unless at first)) plane ≡ false
-still_same first at plane on same = grind arith
 
 next_row : (at : Line) (earlier : List Line) (pins : ℕ) (plane : Bool) → kind at ≡ Row → is_on at ≡ plane
     → InCover earlier pins plane → InCover (at ∷ earlier) pins plane

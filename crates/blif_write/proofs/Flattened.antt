@@ -1,5 +1,5 @@
 -- The model of a written netlist flattens to its lines, since no instance stands in it.
-use Rattle.std.proofs.Common.{◌≡◌, ℕ, ◌+◌, ◌≤◌, nat_lt, List, [], ◌∷◌, ◌++◌, length, map, refl, ap, ◌∙◌, arith, if◌then◌else◌, None, Some, false}
+use Rattle.std.proofs.Common.{◌≡◌, ℕ, ◌+◌, ◌≤◌, List, [], ◌∷◌, ◌++◌, length, map, refl, ap, ◌∙◌, arith, Some, false}
 use Rattle.blif_write.proofs.Common.{length-map, Parts, BlifModel, GateLine, LatchLine, list_any}
 use Rattle.netlist.specs.declared.parts.Gate as gates
 use Rattle.netlist.specs.declared.parts.Latch as latches

@@ -1,7 +1,7 @@
 -- Lines and the whole text, as they are appended.
-use Rattle.std.proofs.Common.{◌≡◌, ℕ, List, [], ◌∷◌, ◌++◌, true, false, map, refl, sym, ap, ◌∙◌, append_assoc, append-nil, Some, None, arith}
-use Rattle.std.specs.Prelude.{codes, Bool}
-use Rattle.blif_write.proofs.Common.{flat_map, Option, Sig, Clock, Gate, Latch, Parts, edge_word, line_text, name_of, control_words, init_word, latch_line, row_line, gate_lines, latch_lines, all_gate_lines, behind, gate_text}
+use Rattle.std.proofs.Common.{◌≡◌, ℕ, List, [], ◌∷◌, ◌++◌, map, refl, sym, ap, ◌∙◌, append_assoc, append-nil, arith}
+use Rattle.std.specs.Prelude.{codes}
+use Rattle.blif_write.proofs.Common.{flat_map, Sig, Gate, Latch, Parts, line_text, name_of, control_words, init_word, latch_line, row_line, gate_lines, latch_lines, all_gate_lines, behind, gate_text}
 use Rattle.std.proofs.lemmas.List.Concat.{flat_map-append}
 use Rattle.std.proofs.lemmas.List.Folds.{flat_map-map}
 use Rattle.blif_write.specs.Written.{line_end, text_of, head_lines, written}
@@ -32,9 +32,6 @@ line_ends word f [] last = refl
 line_ends word f (sig ∷ sigs) last =
     ap (λ rest. word ++ 32 ∷ rest) (line_ends (f sig) f sigs last)
     ∙ ap (λ rest. word ++ 32 ∷ rest) (sym (append_assoc (f sig) (flat_map (λ sig. behind (f sig)) sigs) (last_behind last)))
-
-abbrev pub names_line : Parts → List Sig → List ℕ → List ℕ
-names_line net sigs last = line_text (codes ".names" ∷ (map (name_of net) sigs ++ last ∷ []))
 
 -- The line of a latch.
 

@@ -1,9 +1,9 @@
 -- The lines of a written netlist link to the netlist.
-use Rattle.std.proofs.Common.{◌≡◌, ◌&&◌, ◌||◌, ℕ, ◌<◌, not, Bool, true, false, List, [], ◌∷◌, ◌++◌, length, map, get_or, refl, sym, ap, ◌∙◌, subst, arith, eq-eqb, if◌then◌else◌, None, Some, option_map, is_some, Ok, Err, cond, ap₂}
-use Rattle.blif_write.proofs.Common.{All, IfSome, flat_map, list_any, bytes_eq, Option, All-head, All-tail, Sig, Clock, Edge, Rise, Fall, Gate, Latch, Parts, signal, signal_names, driven_names, IsNetlist, IsClockName, BlifModel, GateLine, LatchLine, name_of}
-use Rattle.std.specs.Prelude.{codes, filter}
+use Rattle.std.proofs.Common.{◌≡◌, ◌&&◌, ◌||◌, ℕ, ◌<◌, not, Bool, true, false, List, [], ◌∷◌, ◌++◌, length, map, get_or, refl, sym, ap, ◌∙◌, arith, eq-eqb, if◌then◌else◌, None, Some, option_map, is_some, Ok, cond, ap₂}
+use Rattle.blif_write.proofs.Common.{All, IfSome, flat_map, list_any, bytes_eq, Option, All-head, All-tail, Sig, Clock, Edge, Gate, Latch, Parts, signal, signal_names, driven_names, IsNetlist, IsClockName, GateLine, LatchLine, name_of}
+use Rattle.std.specs.Prelude.{codes}
 use Rattle.std.specs.List.{find, position_or_len, IsDistinct, AllByRecursion}
-use Rattle.std.specs.Option.{option_or, option_and_then, option_map_or}
+use Rattle.std.specs.Option.{option_or, option_and_then}
 use Rattle.std.proofs.lemmas.List.Elements.{All-nil, All-cons, All-append, All-map, All-weaker}
 use Rattle.std.proofs.lemmas.List.Folds.{list_any-append, list_any_at, map_fixed}
 use Rattle.std.proofs.lemmas.Bool.{or_right, or_parts, false_from_ne_true, both_ways}
@@ -14,7 +14,7 @@ use Rattle.netlist.proofs.NameLemmas.{length-signal_names}
 use Rattle.flatten.specs.declared.fault.FlatFault.{FlatFault}
 use Rattle.flatten.specs.declared.fault.FlatFault.TheVariants.{DeclaredTwice, DrivenTwice, Undriven, BadClock, ClockRead}
 use Rattle.flatten.specs.Instances.{is_among}
-use Rattle.flatten.specs.Linking.{first_twice, each_once, own_clocks, latch_outputs, gate_outputs, drivers, reads, has_control, first_control, edge_eq, is_fitting, has_bad_control, link_fault, signal_list, sig_of, latch_with, gate_with, netlist_by, linked}
+use Rattle.flatten.specs.Linking.{first_twice, own_clocks, latch_outputs, gate_outputs, drivers, reads, has_control, first_control, edge_eq, is_fitting, has_bad_control, link_fault, signal_list, sig_of, latch_with, gate_with, netlist_by, linked}
 use Rattle.flatten.proofs.Names.{bytes_refl, bytes_sym}
 use Rattle.flatten.proofs.Libraries.{distinct_fresh, none_old}
 use Rattle.blif_write.proofs.NameLemmas.{driven_any}
@@ -226,9 +226,6 @@ fitting net clock e is =
 
     same_edge : (edge : Edge) → edge_eq edge edge ≡ true
     same_edge edge = grind arith
-
-abbrev is_bad : BlifModel → Option Clock → Option Clock → Bool
-is_bad top first control = option_map_or (λ control. option_map_or (λ f. not (is_fitting top f control)) first false) control false
 
 good_control : (net : Parts) (latch : Latch) → ClockFits net net.clock → has_bad_control (model_of_text net) net.clock (latch_of_text net latch) ≡ false
 good_control net latch fits = grind (arith, fitting net)

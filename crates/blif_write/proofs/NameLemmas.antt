@@ -1,6 +1,6 @@
 -- Names of signals, and the last words of lines.
-use Rattle.std.proofs.Common.{◌≡◌, ◌||◌, ◌==◌, ℕ, zero, suc, ◌-◌, ◌<◌, true, false, List, [], ◌∷◌, length, map, get_or, refl, sym, ap, ◌∙◌, subst, arith, Some}
-use Rattle.blif_write.proofs.Common.{list_any, IfSome, Option, bytes_eq, Sig, Clock, Parts, Latch, Gate, signal, signal_names, driven_names, IsNetlist, IsClockName, name_of}
+use Rattle.std.proofs.Common.{◌≡◌, ◌||◌, ◌==◌, ℕ, zero, suc, ◌-◌, ◌<◌, true, false, List, [], ◌∷◌, length, map, get_or, refl, sym, ap, ◌∙◌, arith, Some}
+use Rattle.blif_write.proofs.Common.{list_any, bytes_eq, Sig, Clock, Parts, Latch, Gate, signal, signal_names, driven_names, IsNetlist, name_of}
 use Rattle.std.specs.List.{slice_get}
 use Rattle.std.proofs.lemmas.Option.{get_or_from_slice_get}
 use Rattle.std.proofs.lemmas.List.{get_or_append_left, get_or_default, map-id}

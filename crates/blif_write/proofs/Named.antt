@@ -1,6 +1,6 @@
 -- Each line of a written netlist has words, all of which are names.
-use Rattle.std.proofs.Common.{◌≡◌, ◌≢◌, ℕ, if◌then◌else◌, Bool, true, false, List, [], ◌∷◌, ◌++◌, map, refl, arith, None, Some, length, get_or}
-use Rattle.blif_write.proofs.Common.{All, IfSome, flat_map, list_any, bytes_eq, Option, All-head, All-tail, Sig, Lit, Zero, Clock, Edge, Rise, Fall, Init, Gate, Latch, Parts, signal_names, driven_names, IsNetlist, IsClockName, name_of, clock_lines, edge_word, init_word, control_words, latch_line, latch_lines, lit_byte, plane_word, lits_words, row_line, gate_lines, all_gate_lines, lines_of}
+use Rattle.std.proofs.Common.{◌≡◌, ◌≢◌, ℕ, Bool, true, List, [], ◌∷◌, ◌++◌, map, refl, arith, length, get_or}
+use Rattle.blif_write.proofs.Common.{All, IfSome, flat_map, Option, All-head, All-tail, Sig, Lit, Clock, Edge, Init, Gate, Latch, Parts, signal_names, driven_names, IsNetlist, IsClockName, name_of, clock_lines, edge_word, init_word, control_words, latch_line, latch_lines, lit_byte, plane_word, lits_words, row_line, gate_lines, all_gate_lines, lines_of}
 use Rattle.std.specs.Prelude.{codes}
 use Rattle.std.proofs.lemmas.List.Elements.{All-nil, All-cons, All-append, All-get_or, All-map, All-weaker, All-take, All-drop}
 use Rattle.cyc_base.specs.Names.{IsBlifByte, IsBlifName}

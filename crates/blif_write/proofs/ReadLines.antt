@@ -1,7 +1,7 @@
 -- A text of lines of names reads back as these lines.
-use Rattle.std.proofs.Common.{◌≡◌, List, [], ◌∷◌, ◌++◌, ℕ, true, false, refl, sym, ap, ◌∙◌, append_assoc, append-nil, arith}
+use Rattle.std.proofs.Common.{◌≡◌, List, [], ◌∷◌, ◌++◌, ℕ, false, refl, sym, ap, ◌∙◌, append_assoc, append-nil, arith}
 use Rattle.blif_write.proofs.Common.{All, All-tail, numbered, line_text}
-use Rattle.std.specs.Prelude.{codes, Bool, ◌&&◌, if◌then◌else◌, Ok}
+use Rattle.std.specs.Prelude.{Bool, ◌&&◌, if◌then◌else◌, Ok}
 use Rattle.std.proofs.lemmas.Bool.{and_right}
 use Rattle.cyc_base.specs.Names.{IsBlifName}
 use Rattle.blif_text.specs.Texts.{ends_in_backslash, lines}

@@ -1,11 +1,8 @@
 -- A written netlist reads back.
-use Rattle.std.proofs.Common.{◌≡◌, ◌+◌, ◌≤◌, ℕ, true, [], ◌∷◌, length, map, ap, ◌∙◌, refl, None, Some, Ok, arith}
+use Rattle.std.proofs.Common.{◌≡◌, ◌+◌, ◌≤◌, ℕ, true, [], ◌∷◌, length, ap, ◌∙◌, Ok, arith}
 use Rattle.blif_write.proofs.Common.{All, IfSome, Option, Clock, Parts, IsNetlist, IsClockName, numbered, lines_of}
-use Rattle.std.specs.Prelude.{codes}
 use Rattle.cyc_base.proofs.NameLemmas.{bytes_eq-true}
-use Rattle.blif_read.specs.Models.{models}
-use Rattle.blif_read.specs.Statements.{statement}
-use Rattle.blif_read.specs.Reads.{reads, reads_lines, unless_fault, if_any}
+use Rattle.blif_read.specs.Reads.{reads}
 use Rattle.flatten.specs.Flat.{flat_within, flat_from}
 use Rattle.blif_write.specs.Written.{written}
 use Rattle.blif_write.specs.Laws.{HasCovers, WrittenReadsBack}

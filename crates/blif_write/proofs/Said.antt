@@ -1,6 +1,6 @@
 -- What the lines of a written netlist say: one model.
 use Rattle.std.proofs.Common.{◌≡◌, ℕ, ◌+◌, Bool, true, false, List, [], ◌∷◌, ◌++◌, length, map, take, refl, sym, ap, ◌∙◌, append_assoc, append-nil, if◌then◌else◌, None, Some, get_or, arith}
-use Rattle.blif_write.proofs.Common.{All, flat_map, list_any, Option, length-map, All-head, All-tail, Lit, Zero, Edge, Rise, Fall, Init, Parts, numbered, BlifModel, GateLine, LatchLine, name_of, clock_lines, control_words, edge_word, init_word, latch_line, latch_lines, lit_byte, plane_word, lits_words, row_line, gate_lines, all_gate_lines, lines_of}
+use Rattle.blif_write.proofs.Common.{All, flat_map, list_any, Option, length-map, All-head, All-tail, Lit, Edge, Init, Parts, numbered, BlifModel, GateLine, LatchLine, name_of, clock_lines, control_words, edge_word, init_word, latch_line, latch_lines, lit_byte, plane_word, lits_words, row_line, gate_lines, all_gate_lines, lines_of}
 use Rattle.std.specs.Prelude.{codes, bytes_eq}
 use Rattle.std.proofs.lemmas.List.{map-append, take_at, get_or_at}
 use Rattle.cover_logic.specs.declared.row.Row as rows
@@ -8,15 +8,14 @@ use Rattle.netlist.specs.declared.parts.Clock as clocks
 use Rattle.netlist.specs.declared.parts.Init.TheVariants as starts
 use Rattle.netlist.specs.declared.parts.Gate as gates
 use Rattle.netlist.specs.declared.parts.Latch as latches
-use Rattle.blif_text.specs.Texts.{Line}
 use Rattle.blif_read.specs.declared.kind.Kind as kinds
 use Rattle.blif_read.specs.declared.kind.Kind.TheVariants as of
 use Rattle.blif_read.specs.declared.models.Item.{Item}
 use Rattle.blif_read.specs.declared.models.Item.TheVariants as item
 use Rattle.blif_read.specs.declared.statement.Statement.{Statement}
 use Rattle.blif_read.specs.declared.statement.Statement.TheVariants.{Model, Inputs, Outputs, Clocks, Names, Row, Latch, End}
-use Rattle.blif_read.specs.Kinds.{kind, is_on, pin_count}
-use Rattle.blif_read.specs.Statements.{lit_of, lits_of, latch_of, control_of, pins_of, output_of, statement, statement_of_kind}
+use Rattle.blif_read.specs.Kinds.{kind, pin_count}
+use Rattle.blif_read.specs.Statements.{lit_of, lits_of, latch_of, pins_of, output_of, statement, statement_of_kind}
 use Rattle.blif_read.specs.Models.{members, inputs_in, outputs_in, clocks_in, rows_of, plane_of, gate_of, body_of, model_of, models}
 use Rattle.blif_write.proofs.Faultless.{line, IsWhole, counted, row_on, row_kind}
 use Rattle.std.proofs.lemmas.List.Folds.{map_fixed}
@@ -98,9 +97,6 @@ row_lits : (plane : Bool) (lits : List Lit) → lits_of (lits_words lits ++ plan
 row_lits plane [] = refl
 row_lits plane (lit ∷ lits) = lits_same (lit ∷ lits)
 
-abbrev row_with : List Lit → rows.Row
-row_with lits = record { lits = lits }
-
 row_says : (plane : Bool) (row : rows.Row) → says (row_line plane row) ≡ row_said plane row
 row_says plane row = grind (arith, row_kind 0 plane row.lits, row_lits plane row.lits, row_on 0 plane row.lits)
 
@@ -133,9 +129,6 @@ init_same from name init = grind arith
 
 abbrev clock_with : Edge → List ℕ → clocks.Clock
 clock_with edge name = record { edge = edge; name = name }
-
-abbrev line_with : List ℕ → List ℕ → Init → Option clocks.Clock → LatchLine
-line_with from name init control = record { from = from; output = name; control = control; init = init }
 
 control_same : (from name : List ℕ) (edge : Edge) (clock : List ℕ) (init : Init) → bytes_eq clock (codes "NIL") ≡ false
     → latch_of (from ∷ name ∷ edge_word edge ∷ clock ∷ init_word init ∷ [])

@@ -3,11 +3,9 @@ use Rattle.std.proofs.Common.{◌≡◌, ℕ, suc, ◌+◌, ◌<◌, Bool, true,
 use Rattle.differences.proofs.Common.{find, Node, Arena, den, IsLayout, by_variable, bits, vectors, find-alike, Rails, IsWide, Parts, rails_at, rails_at-proper, CareSet, columns, is_care_vector, Pair, IsLaidBy, TellsBy, AreFixedBy, some_differ, BoundsPairs}
 use Rattle.std.specs.List.{All, list_any}
 use Rattle.std.proofs.lemmas.List.{length-append}
-use Rattle.bdd_store.specs.Arena.{IsNodeOf}
 use Rattle.dual_rail.specs.Rails.{trit_of}
 use Rattle.dual_rail.proofs.SurelyLemmas.{length-values}
 use Rattle.netlist.specs.Fixpoint.{fix, fix_gates}
-use Rattle.netlist.specs.Netlists.{count}
 use Rattle.netlist.proofs.FixpointLemmas.{length-fix_gates}
 use Rattle.loops.specs.declared.structure.Blocks.{Blocks}
 use Rattle.loops.specs.declared.structure.Cut.{Cut}
@@ -18,7 +16,7 @@ use Rattle.refusals.proofs.LawLemmas.{care_test}
 use Rattle.verdict.proofs.CareLemmas.{value_at-place}
 use Rattle.clause_decision.specs.Apart.{are_apart, is_apart_at, some_is_apart, IsPairOf}
 use Rattle.differences.specs.Pairs.{least_apart}
-use Rattle.differences.specs.Sets.{HasRails, pair_differs}
+use Rattle.differences.specs.Sets.{pair_differs}
 use Rattle.differences.proofs.LaidLemmas.{above-bounded}
 
 -- ---- values
@@ -38,9 +36,6 @@ any-in s f g (x ∷ xs) each =
     by s p q = grind arith
 
 -- ---- pairs
-
-pub has-rails : (net : Parts) (rails : List Rails) (pairs : List Pair) → length rails ≡ count net → All (IsPairOf net) pairs → All (HasRails rails) pairs
-has-rails net rails pairs wide are k d less = grind arith
 
 module _ (order : List ℕ) (net : Parts) (care : CareSet) (a : Arena) (vars : a.vars ≡ columns net) (set : Node) (rails : List Rails)
     (told : TellsBy order a set (is_care_vector net care)) (fixed : AreFixedBy order net a rails) (pairs : List Pair) (are : All (IsPairOf net) pairs) where
@@ -82,7 +77,3 @@ fixed-is order net blocks cut a points solved vars are is = record {
   proper = is.rails;
   values = λ v wide. is.values (by_variable order v) ∙ ap (fix net) (are v (wide ∙ vars));
 }
-
--- another node of the same function, in other diagrams
-pub TellsBy-same : {order : List ℕ} {s t : Arena} {m n : Node} {test : List Bool → Bool} → t.vars ≡ s.vars → IsNodeOf t n → ((w : List Bool) → den t n w ≡ den s m w) → TellsBy order s m test → TellsBy order t n test
-TellsBy-same {order} vars node same is = record { node = node; value = λ v wide. same (by_variable order v) ∙ is.value v (wide ∙ vars) }

@@ -1,5 +1,5 @@
 -- The columns of a vector, appended one after another.
-use Rattle.std.proofs.Common.{◌≡◌, ℕ, ◌+◌, ◌<◌, ◌≤◌, Bool, List, length, take, drop, get_or, zip, slice_get, Some, sym, ap₂, ◌∙◌, arith}
+use Rattle.std.proofs.Common.{◌≡◌, ℕ, ◌+◌, ◌<◌, ◌≤◌, Bool, List, length, take, drop, get_or, zip, slice_get, Some, sym, arith}
 use Rattle.report.proofs.Common.{flat_map, Option, Ok, Err, IsErr, Result, get_or_from_slice_get, SinkCall, IsAppended, over, appended_item, appended_in_item, appended_items, Parts, signal_names, column_text}
 use Rattle.std.proofs.lemmas.List.{get_or-drop, get_or_default, length-drop}
 use Rattle.std.proofs.lemmas.Slice.Zip.{get_or-zip, length-zip}

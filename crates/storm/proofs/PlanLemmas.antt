@@ -20,7 +20,7 @@ use Rattle.delay_core.specs.declared.plan.PlannedEvent.{PlannedEvent}
 use Rattle.storm.specs.declared.planning.StormPlan.{StormPlan}
 use Rattle.storm.specs.Building.{AreFixed, FitsRound}
 use Rattle.storm.specs.Laws.{UnknownGatesHavePlans}
-use Rattle.storm.specs.Plans.{is_unknown, is_shaking, rest_value, pin_values, each_gate, plan_at, if_shaking, storm_plan}
+use Rattle.storm.specs.Plans.{is_unknown, is_shaking, rest_value, pin_values, each_gate, plan_at, storm_plan}
 use Rattle.storm.specs.Storms.{Turn, shakes, low_turn, high_turn, turns, turn_event, turn_events, storm_round, zeros_back, shaking_count, most_events, storm_events}
 
 -- ---- the values of the fixpoint are fixed
@@ -106,15 +106,6 @@ if_some : {A : Type 0} (t : Bool) (x y : A) → (if t then Some x else None) ≡
 if_some t x y e = grind arith
 
 module _ (net : Parts) (v : List Bool) (plan : StormPlan) where
-  values_of_plan : (values : List Trit) → plan ≡ plan_at net values → values ≡ fix net (bits v) → if_shaking plan ≡ storm_plan net v
-  values_of_plan values is fixed = ap if_shaking (is ∙ ap (plan_at net) fixed)
-
-  pub some_plan : (values : List Trit) → plan ≡ plan_at net values → values ≡ fix net (bits v) → list_any (λ shakes. shakes) plan.shaking ≡ true → Some plan ≡ storm_plan net v
-  some_plan values is fixed any = rw (← values_of_plan values is fixed, any) refl
-
-  pub no_plan : (values : List Trit) → plan ≡ plan_at net values → values ≡ fix net (bits v) → list_any (λ shakes. shakes) plan.shaking ≡ false → None ≡ storm_plan net v
-  no_plan values is fixed any = rw (← values_of_plan values is fixed, any) refl
-
   module _ (made : storm_plan net v ≡ Some plan) where
     pub plan_is : plan ≡ plan_at net (fix net (bits v))
     plan_is = if_some (list_any (λ shakes. shakes) (plan_at net (fix net (bits v))).shaking) (plan_at net (fix net (bits v))) plan made

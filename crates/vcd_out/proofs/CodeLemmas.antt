@@ -1,5 +1,5 @@
 -- Codes are numbers without a zero.
-use Rattle.std.proofs.Common.{◌≡◌, ◌<◌, ◌≤◌, ◌+◌, ◌-◌, ◌*◌, ◌/◌, ◌%◌, ℕ, zero, suc, List, [], ◌∷◌, inl, inr, refl, ap, arith}
+use Rattle.std.proofs.Common.{◌≡◌, ◌<◌, ◌≤◌, ◌+◌, ◌-◌, ◌*◌, ◌/◌, ◌%◌, ℕ, zero, suc, List, [], ◌∷◌, ap, arith}
 use Rattle.vcd_out.proofs.Common.{cases_lt, lt-ltb, le-ltb, code_upto, code}
 use Rattle.vcd_out.specs.Codes.{CodesDiffer}
 

@@ -1,5 +1,5 @@
 -- The dump of a run shows what its changes tell.
-use Rattle.std.proofs.Common.{◌≡◌, ◌<◌, ◌≤◌, ◌+◌, ◌^◌, ◌==◌, ℕ, zero, suc, Bool, true, not, nat_lt, List, [], ◌∷◌, ◌++◌, length, map, filter, get_or, codes, None, refl, ap, sym, ◌∙◌, arith}
+use Rattle.std.proofs.Common.{◌≡◌, ◌<◌, ◌≤◌, ◌+◌, ◌^◌, ℕ, zero, suc, Bool, true, not, nat_lt, List, [], ◌∷◌, ◌++◌, length, map, filter, codes, None, refl, ap, sym, ◌∙◌, arith}
 use Rattle.vcd_out.proofs.Common.{fold, flat_map, list_all, range_with_len, eq-eqb, ne_eqb, lt-ltb, and_parts, and_from, not-true, append_assoc, append-nil, list_all-append, Sig, count, signal, Change, signal_name, value_after, code, variable_line, head_text, value_line, timed_lines, is_first, first_changes, later_changes, lines_from, Shown, read_line}
 use Rattle.std.specs.List.{zip}
 use Rattle.std.proofs.lemmas.List.{length-append, length-map, length-reverse}

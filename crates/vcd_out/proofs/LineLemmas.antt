@@ -1,5 +1,5 @@
 -- How a reader goes over the lines of a dump.
-use Rattle.std.proofs.Common.{◌≡◌, ◌≢◌, ◌<◌, ◌+◌, ◌-◌, ◌/◌, ◌%◌, ◌^◌, ◌==◌, ◌&&◌, ℕ, zero, suc, Bool, true, false, not, nat_lt, List, [], ◌∷◌, ◌++◌, codes, decimal, Option, inl, inr, refl, ap, sym, ◌∙◌, arith}
+use Rattle.std.proofs.Common.{◌≡◌, ◌≢◌, ◌<◌, ◌+◌, ◌-◌, ◌/◌, ◌%◌, ◌^◌, ◌==◌, ◌&&◌, ℕ, zero, suc, Bool, true, not, nat_lt, List, [], ◌∷◌, ◌++◌, codes, decimal, Option, inl, inr, refl, ap, sym, ◌∙◌, arith}
 use Rattle.vcd_out.proofs.Common.{fold, flat_map, list_all, cases_lt, lt-ltb, le-ltb, eq-eqb, ne_eqb, and_parts, and_from, not-true, append_assoc, append-nil, list_all-append, Sig, Change, value_after, code_upto, code, value_line, timed_lines, is_first, lines_from, Shown, read_line}
 use Rattle.std.specs.Str.{bytes_eq}
 use Rattle.std.proofs.lemmas.Bool.{cases_eq, cases_Bool, eqb-true, ltb-true}

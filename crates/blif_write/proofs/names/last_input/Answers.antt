@@ -1,4 +1,4 @@
-use Rattle.std.proofs.Common.{◌∙◌, arith}
+use Rattle.std.proofs.Common.{arith}
 use Rattle.std.specs.Prelude.{codes}
 use Rattle.blif_write.proofs.NameLemmas.{last_input_is}
 use Rattle.blif_write.proofs.names.last_input.Goals as goal

@@ -1,5 +1,5 @@
 use Rattle.std.proofs.Common.{arith}
-use Rattle.std.specs.Prelude.{OnOk, Ok, Err}
+use Rattle.std.specs.Prelude.{OnOk}
 use Rattle.std.specs.declared.result.Result.{Result}
 use Rattle.blif_write.proofs.LineLemmas.{written_is}
 use Rattle.blif_write.proofs.ReadingBack.{reads_back}

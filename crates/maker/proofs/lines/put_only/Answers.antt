@@ -1,4 +1,4 @@
-use Rattle.std.proofs.Common.{rules, ◌==◌, if◌then◌else◌, string_bytes, arith}
+use Rattle.std.proofs.Common.{arith}
 use Rattle.maker.proofs.CellLemmas.{item_more}
 use Rattle.maker.proofs.lines.put_only.Goals as goal
 

@@ -1,4 +1,4 @@
-use Rattle.std.proofs.Common.{rules, ◌++◌, string_bytes, decimal, arith}
+use Rattle.std.proofs.Common.{arith}
 use Rattle.maker.specs.Ring.{behind}
 use Rattle.maker.proofs.CellLemmas.{part_more}
 use Rattle.maker.proofs.lines.put_wires.Goals as goal

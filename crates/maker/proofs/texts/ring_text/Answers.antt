@@ -1,6 +1,4 @@
-use Rattle.std.proofs.Common.{◌++◌, List, ℕ, map, codes, ap, ◌∙◌, arith}
-use Rattle.std.specs.List.{flat_map}
-use Rattle.maker.specs.Ring.{behind, text_of, cells, request, grant, latch_line, gate_lines}
+use Rattle.std.proofs.Common.{arith}
 use Rattle.maker.proofs.CellLemmas.{ring_put}
 use Rattle.maker.proofs.texts.ring_text.Goals as goal
 

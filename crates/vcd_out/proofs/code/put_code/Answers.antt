@@ -1,4 +1,4 @@
-use Rattle.std.proofs.Common.{◌+◌, ◌-◌, ◌/◌, ◌%◌, ◌++◌, ◌∷◌, [], ℕ, List, ap, sym, ◌∙◌, arith}
+use Rattle.std.proofs.Common.{◌+◌, ◌-◌, ◌/◌, ◌%◌, ◌∷◌, [], ℕ, List, arith}
 use Rattle.vcd_out.proofs.Common.{append_assoc, code}
 use Rattle.vcd_out.proofs.CodeLemmas.{code_step}
 use Rattle.vcd_out.proofs.code.put_code.Goals as goal
