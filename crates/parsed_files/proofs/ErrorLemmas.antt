@@ -1,5 +1,5 @@
 -- What the errors of the crates below say of a file's meaning.
-use Rattle.std.proofs.Common.{◌≡◌, ◌≢◌, ◌⊎◌, inl, inr, Err, sym, subst}
+use Rattle.std.proofs.Common.{◌≡◌, ◌≢◌, ◌⊎◌, inl, inr, Err, sym, subst, arith}
 use Rattle.std.specs.declared.option.Option.{Option}
 use Rattle.std.specs.declared.result.Result.{Result}
 use Rattle.blif_read.specs.declared.fault.BlifFault.{BlifFault}
@@ -13,39 +13,18 @@ use Rattle.parsed_files.specs.Faults.{Fault, IsErrorOf, blif_fault, flat_fault, 
 -- an error of the text, unless it is want of memory
 pub text_says : {T : Type 0} (meaning : Result T (Option Fault)) (fault : BlifFault) (error : Option Fault) → error ≡ blif_fault fault
     → (fault ≢ blif.Memory → meaning ≡ Err (blif_fault fault)) → IsErrorOf meaning error
-text_says {T} meaning fault error is there =
-    let P : Option Fault → Type 0 = IsErrorOf meaning in
-    subst P (sym is) (by_fault fault there)
-  where
-    by_fault : (f : BlifFault) → (f ≢ blif.Memory → meaning ≡ Err (blif_fault f)) → IsErrorOf meaning (blif_fault f)
-    by_fault blif.Memory h = tt
-    by_fault f h = h (λ e. cc)
+text_says {T} meaning fault error is there = grind arith
 
 -- one of flattening
 pub walk_says : {T : Type 0} (meaning : Result T (Option Fault)) (fault : FlatFault) (error : Option Fault) → error ≡ flat_fault fault
     → (fault ≡ walk.Memory) ⊎ (meaning ≡ Err (flat_fault fault)) → IsErrorOf meaning error
-walk_says {T} meaning fault error is there =
-    let P : Option Fault → Type 0 = IsErrorOf meaning in
-    subst P (sym is) (by_fault fault there)
-  where
-    by_fault : (f : FlatFault) → (f ≡ walk.Memory) ⊎ (meaning ≡ Err (flat_fault f)) → IsErrorOf meaning (flat_fault f)
-    by_fault walk.Memory h = tt
-    by_fault f (inl same) = cc
-    by_fault f (inr has) = has
+walk_says {T} meaning fault error is there = grind arith
 
 -- one of binding
 pub care_says : {T : Type 0} (meaning : Result T (Option Fault)) (fault : CareFault) (error : Option Fault) → error ≡ care_fault fault
     → (fault ≡ care.Memory) ⊎ (meaning ≡ Err (care_fault fault)) → IsErrorOf meaning error
-care_says {T} meaning fault error is there =
-    let P : Option Fault → Type 0 = IsErrorOf meaning in
-    subst P (sym is) (by_fault fault there)
-  where
-    by_fault : (f : CareFault) → (f ≡ care.Memory) ⊎ (meaning ≡ Err (care_fault f)) → IsErrorOf meaning (care_fault f)
-    by_fault care.Memory h = tt
-    by_fault f (inl same) = cc
-    by_fault f (inr has) = has
+care_says {T} meaning fault error is there = grind arith
 
 -- the second of two cases says more
 pub or_more : {A B C : Type 0} → (B → C) → A ⊎ B → A ⊎ C
-or_more more (inl a) = inl a
-or_more more (inr b) = inr (more b)
+or_more more h = grind arith

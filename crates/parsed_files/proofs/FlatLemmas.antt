@@ -22,28 +22,10 @@ record IsLinked (top : BlifModel) (all : Result FlatLines FlatFault) (net : Part
   pub latches : length net.latches ≡ length lines.latches
 
 is_linked : (top : BlifModel) (all : Result FlatLines FlatFault) (net : Parts) → linked_lines top all ≡ Ok net → IsLinked top all net
-is_linked top (Err fault) net e = absurd (cc)
-is_linked top (Ok lines) net e = by (link_fault top lines) e
-  where
-    by : (fault : Option FlatFault)
-        → (let r : Result Parts FlatFault = elim fault [ Some fault ↦ Err fault | None ↦ Ok (netlist_by (sig_of (signal_list top lines)) top lines) ] in r ≡ Ok net)
-        → IsLinked top (Ok lines) net
-    by None is =
-        let h : net ≡ netlist_by (sig_of (signal_list top lines)) top lines = cc in
-        record {
-          lines = lines;
-          are = refl;
-          inputs = ap (λ (p : Parts). length p.inputs) h;
-          latches = ap (λ (p : Parts). length p.latches) h ∙ length-map lines.latches (latch_with (sig_of (signal_list top lines)));
-        }
-    by (Some fault) is = absurd (cc)
+is_linked top all net e = grind (arith, length-map)
 
 few : (text : List ℕ) (models : List BlifModel) (i : ℕ) → reads text ≡ Ok models → length (model_at models i).inputs ≤ length text
-few text models i are =
-    elim (cases_lt i (length models)) [
-      | inl inside ↦ few_inputs text models are i no_model inside
-      | inr past ↦ rw (get_or_past models i no_model past) (omega arith)
-    ]
+few text models i are = grind (arith, cases_lt i (length models), few_inputs text models are i no_model, get_or_past models i no_model)
 
 -- at most as many inputs as its text has bytes, and at most as many latches as a flat netlist may have
 pub record HasFewColumns (text : List ℕ) (net : Parts) : Type 0 where
@@ -58,7 +40,4 @@ flat_has_few_columns text models top net are e = by (find_model models top) e
     by None is = absurd (cc)
     by (Some i) is =
         let model = model_at models i in
-        let linked = is_linked model (flat_lines max_depth max_items models i) net is in
-        let inputs = few text models i are in
-        let latches = few_lines max_items (events max_depth max_depth models model.name (mark_of models) [] 1 model.body) linked.lines linked.are in
-        record { inputs = omega (arith, linked.inputs, inputs); latches = omega (arith, linked.latches, latches) }
+        grind (arith, is_linked model (flat_lines max_depth max_items models i) net is, few text models i are, few_lines max_items (events max_depth max_depth models model.name (mark_of models) [] 1 model.body))

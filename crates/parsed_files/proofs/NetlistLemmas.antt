@@ -29,20 +29,10 @@ top_at [] d some = absurd (omega (arith, some))
 top_at (model ∷ models) d some = refl
 
 pub some_models : (text : List ℕ) (models : List BlifModel) → reads text ≡ Ok models → 0 < length models
-some_models text [] is = absurd (by_lines (lines text true) is)
-  where
-    nothing : (fault : Option BlifFault) (found : List BlifModel) → unless_fault fault found ≡ Ok [] → ⊥
-    nothing (Some fault) found e = cc
-    nothing None [] e = cc
-    nothing None (model ∷ found) e = cc
-
-    by_lines : (r : Result (List Line) ℕ) → reads_lines r ≡ Ok [] → ⊥
-    by_lines (Err bad) e = cc
-    by_lines (Ok found) e = nothing (first_fault [] found) (models_of (map statement found)) e
+some_models text [] is = grind arith
 some_models text (model ∷ models) is = omega (arith)
 
 -- a fault of flattening at the first model is the file's
 pub first_bad : (bytes : List ℕ) (models : List BlifModel) (name : List ℕ) (fault : FlatFault) → length bytes ≤ MAX_FILE_BYTES → reads bytes ≡ Ok models
     → name ≡ top_of models → flat models name ≡ Err fault → netlist_of bytes ≡ Err (flat_fault fault)
-first_bad bytes models name fault short is top there =
-    netlist_of_short bytes short ∙ ap models_result is ∙ ap flat_result (ap (flat models) (sym top) ∙ there)
+first_bad bytes models name fault short is top there = grind arith

@@ -14,33 +14,19 @@ use Rattle.parsed_files.specs.ScheduleFiles.{of_sched, sched_fault, schedule_of,
 
 pub vectors_of_short : (net : Parts) (unknowns : Bool) (bytes : List ℕ) → length bytes ≤ MAX_FILE_BYTES
     → vectors_of net unknowns bytes ≡ of_sched net (vectors_read bytes (length net.inputs) unknowns)
-vectors_of_short net unknowns bytes short =
-    ap (λ (t : Bool). if t then of_sched net (vectors_read bytes (length net.inputs) unknowns) else Err (Some too_long))
-    (let e : nat_le (length bytes) MAX_FILE_BYTES ≡ true = grind (arith, short) in e)
+vectors_of_short net unknowns bytes short = grind arith
 
 pub vectors_of_long : (net : Parts) (unknowns : Bool) (bytes : List ℕ) → MAX_FILE_BYTES < length bytes → vectors_of net unknowns bytes ≡ Err (Some too_long)
-vectors_of_long net unknowns bytes long =
-    ap (λ (t : Bool). if t then of_sched net (vectors_read bytes (length net.inputs) unknowns) else Err (Some too_long))
-    (let e : nat_le (length bytes) MAX_FILE_BYTES ≡ false = grind (arith, long) in e)
+vectors_of_long net unknowns bytes long = grind arith
 
 pub schedule_of_short : (net : Parts) (ticks : ℕ) (bytes : List ℕ) → length bytes ≤ MAX_FILE_BYTES
     → schedule_of net ticks bytes ≡ of_sched net (schedule_read bytes net ticks)
-schedule_of_short net ticks bytes short =
-    ap (λ (t : Bool). if t then of_sched net (schedule_read bytes net ticks) else Err (Some too_long))
-    (let e : nat_le (length bytes) MAX_FILE_BYTES ≡ true = grind (arith, short) in e)
+schedule_of_short net ticks bytes short = grind arith
 
 pub schedule_of_long : (net : Parts) (ticks : ℕ) (bytes : List ℕ) → MAX_FILE_BYTES < length bytes → schedule_of net ticks bytes ≡ Err (Some too_long)
-schedule_of_long net ticks bytes long =
-    ap (λ (t : Bool). if t then of_sched net (schedule_read bytes net ticks) else Err (Some too_long))
-    (let e : nat_le (length bytes) MAX_FILE_BYTES ≡ false = grind (arith, long) in e)
+schedule_of_long net ticks bytes long = grind arith
 
 -- an error of vectors is the fault of their file, unless it is want of memory
 pub sched_says : {T : Type 0} (net : Parts) (meaning : Result T (Option Fault)) (fault : SchedFault) (error : Option Fault)
     → (error ≡ None) ⊎ (error ≡ sched_fault net fault) → (fault ≢ sched.Memory → meaning ≡ Err (sched_fault net fault)) → IsErrorOf meaning error
-sched_says {T} net meaning fault error is there =
-    let P : Option Fault → Type 0 = IsErrorOf meaning in
-    elim is [ inl e ↦ subst P (sym e) tt | inr e ↦ subst P (sym e) (by_fault fault there) ]
-  where
-    by_fault : (f : SchedFault) → (f ≢ sched.Memory → meaning ≡ Err (sched_fault net f)) → IsErrorOf meaning (sched_fault net f)
-    by_fault sched.Memory h = tt
-    by_fault f h = h (λ e. cc)
+sched_says {T} net meaning fault error is there = grind arith

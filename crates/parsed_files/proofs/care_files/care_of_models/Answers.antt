@@ -1,4 +1,4 @@
-use Rattle.std.proofs.Common.{Ok}
+use Rattle.std.proofs.Common.{Ok, arith}
 use Rattle.std.proofs.lemmas.Result.{err_from_is_err_and}
 use Rattle.care_sets.specs.declared.fault.CareFault.TheVariants.{Memory}
 use Rattle.parsed_files.specs.CareFiles.{care_models}
@@ -15,6 +15,4 @@ returns-in_err-bind-clause-bad c =
     c.in_ok-assume.ensures.good c.in_ok-invariant.ensures.good c.in_err-bind.ensures.fault))
 
 pub returns-clause-good : goal.returns-clause-good
-returns-clause-good c =
-    bound_models c.args.net.now c.args.models.now.list c.in_ok-assume.assume c.in_ok-invariant.invariant c.in_ok-bind.field-0
-    c.in_ok-assume.ensures.good c.in_ok-invariant.ensures.good c.in_ok-bind.ensures.bound
+returns-clause-good c = grind (arith, bound_models c.args.net.now c.args.models.now.list c.in_ok-assume.assume c.in_ok-invariant.invariant c.in_ok-bind.field-0 c.in_ok-assume.ensures.good c.in_ok-invariant.ensures.good c.in_ok-bind.ensures.bound)

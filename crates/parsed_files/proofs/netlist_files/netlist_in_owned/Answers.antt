@@ -20,9 +20,7 @@ returns-in_err-flatten_owned-clause-bad c =
     c.in_err-flatten_owned.ensures.fault))
 
 pub returns-clause-inputs : goal.returns-clause-inputs
-returns-clause-inputs c =
-    let few = (flat_has_few_columns c.args.bytes.items _ _ _ c.in_ok-models.ensures.models c.in_ok-flatten_owned.ensures.netlist).inputs in
-    omega (arith, few, c.requires)
+returns-clause-inputs c = grind (arith, flat_has_few_columns c.args.bytes.items _ _ _ c.in_ok-models.ensures.models c.in_ok-flatten_owned.ensures.netlist)
 
 pub returns-clause-latches : goal.returns-clause-latches
 returns-clause-latches c = (flat_has_few_columns c.args.bytes.items _ _ _ c.in_ok-models.ensures.models c.in_ok-flatten_owned.ensures.netlist).latches

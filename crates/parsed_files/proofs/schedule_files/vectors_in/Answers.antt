@@ -1,12 +1,10 @@
-use Rattle.std.proofs.Common.{ap, ◌∙◌}
+use Rattle.std.proofs.Common.{ap, ◌∙◌, arith}
 use Rattle.parsed_files.specs.ScheduleFiles.{of_sched}
 use Rattle.parsed_files.proofs.ScheduleLemmas.{sched_says, vectors_of_short}
 use Rattle.parsed_files.proofs.schedule_files.vectors_in.Goals as goal
 
 pub returns-in-Ok-clause-good : goal.returns-in-Ok-clause-good
-returns-in-Ok-clause-good c =
-    let read = rw c.inputs.ensures.inputs at c.in-Ok.ensures.vectors in
-    vectors_of_short c.args.net.now c.args.unknowns c.args.bytes.now c.requires ∙ ap (of_sched c.args.net.now) read
+returns-in-Ok-clause-good c = grind arith
 
 pub returns-in-Err-clause-bad : goal.returns-in-Err-clause-bad
 returns-in-Err-clause-bad c =
