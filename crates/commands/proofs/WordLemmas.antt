@@ -14,25 +14,10 @@ no_less n (b ∷ digits) = let more = no_less (n * 10 + (b - 48)) digits in omeg
 
 pub more_digits : (most n m b : ℕ) (rest : List ℕ) → (is_digit b && nat_le (n * 10 + (b - 48)) most) ≡ true → m ≡ n * 10 + (b - 48)
     → up_to most n (b ∷ rest) ≡ up_to most m rest
-more_digits most n m b rest fits is = ap (λ (k : ℕ). if is_digit b && list_all is_digit rest && nat_le (with_digits k rest) most then Some (with_digits k rest) else None) (sym is)
-    ∙ by_digit (is_digit b) fits
-  where
-    by_digit : (t : Bool) → (t && nat_le (n * 10 + (b - 48)) most) ≡ true
-        → (if t && list_all is_digit rest && nat_le (with_digits m rest) most then Some (with_digits m rest) else None) ≡ up_to most m rest
-    by_digit true e = refl
-    by_digit false e = cc
+more_digits most n m b rest fits is = grind arith
 
 pub no_more_digits : (most n b : ℕ) (rest : List ℕ) → (is_digit b && nat_le (n * 10 + (b - 48)) most) ≡ false → up_to most n (b ∷ rest) ≡ None
-no_more_digits most n b rest over = by_digit (is_digit b) over (list_all is_digit rest)
-  where
-    too_many : nat_le (n * 10 + (b - 48)) most ≡ false → nat_le (with_digits (n * 10 + (b - 48)) rest) most ≡ false
-    too_many e = let more = no_less (n * 10 + (b - 48)) rest in grind (arith, e, more)
-
-    by_digit : (t : Bool) → (t && nat_le (n * 10 + (b - 48)) most) ≡ false → (u : Bool)
-        → (if (t && u) && nat_le (with_digits (n * 10 + (b - 48)) rest) most then Some (with_digits (n * 10 + (b - 48)) rest) else None) ≡ None
-    by_digit true e true = ap (λ (t : Bool). if t then Some (with_digits (n * 10 + (b - 48)) rest) else None) (too_many e)
-    by_digit true e false = refl
-    by_digit false e u = refl
+no_more_digits most n b rest over = grind (arith, no_less (n * 10 + (b - 48)) rest)
 
 -- options one after another
 pub more_options : (word value : List ℕ) (known more : Options) (rest : List (List ℕ)) → with_option word value known ≡ Some more
@@ -78,16 +63,14 @@ aiger_not_asked file rest found = ap (option_map (Aiger file)) found
 
 pub equal_asked : (file second : List ℕ) (rest : List (List ℕ)) (options known : Options) → options_of no_options rest ≡ Some options
     → unobserved options ≡ Some known → equal_with file second rest ≡ Some (Equal file second known)
-equal_asked file second rest options known found bare =
-    ap (λ o. option_map (Equal file second) (option_and_then unobserved o)) found ∙ ap (option_map (Equal file second)) bare
+equal_asked file second rest options known found bare = grind arith
 
 pub equal_not_asked : (file second : List ℕ) (rest : List (List ℕ)) → options_of no_options rest ≡ None → equal_with file second rest ≡ None
 equal_not_asked file second rest none = ap (λ o. option_map (Equal file second) (option_and_then unobserved o)) none
 
 pub equal_observed : (file second : List ℕ) (rest : List (List ℕ)) (options : Options) → options_of no_options rest ≡ Some options
     → unobserved options ≡ None → equal_with file second rest ≡ None
-equal_observed file second rest options found observed =
-    ap (λ o. option_map (Equal file second) (option_and_then unobserved o)) found ∙ ap (option_map (Equal file second)) observed
+equal_observed file second rest options found observed = grind arith
 
 pub storm_asked : (file : List ℕ) (rounds : ℕ) (rest : List (List ℕ)) (options : Options) → options_of no_options rest ≡ Some options
     → storm_with file rounds rest ≡ Some (Storm file rounds options)
@@ -99,17 +82,12 @@ storm_not_asked file rounds rest found = ap (option_map (Storm file rounds)) fou
 -- the options of an explanation, word by word
 pub dot_asked : (file word : List ℕ) (known : Options) (told drawn : Form) (rest : List (List ℕ)) → is_dot word ≡ true → with_dot told ≡ Some drawn
     → explain_with file known told (word ∷ rest) ≡ explain_with file known drawn rest
-dot_asked file word known told drawn [] dot is =
-    ap (λ t. if t then option_and_then (λ f. Some (Explain file known f)) (with_dot told) else None) dot ∙ ap (option_and_then (λ f. Some (Explain file known f))) is
-dot_asked file word known told drawn (value ∷ rest) dot is =
-    ap (λ t. if t then option_and_then (λ f. explain_with file known f (value ∷ rest)) (with_dot told) else option_and_then (λ more. explain_with file more told rest) (with_option word value known)) dot
-    ∙ ap (option_and_then (λ f. explain_with file known f (value ∷ rest))) is
+dot_asked file word known told drawn [] dot is = grind arith
+dot_asked file word known told drawn (value ∷ rest) dot is = grind arith
 
 pub option_asked : (file word value : List ℕ) (known more : Options) (told : Form) (rest : List (List ℕ)) → is_dot word ≡ false → with_option word value known ≡ Some more
     → explain_with file known told (word ∷ value ∷ rest) ≡ explain_with file more told rest
-option_asked file word value known more told rest dot is =
-    ap (λ t. if t then option_and_then (λ f. explain_with file known f (value ∷ rest)) (with_dot told) else option_and_then (λ o. explain_with file o told rest) (with_option word value known)) dot
-    ∙ ap (option_and_then (λ o. explain_with file o told rest)) is
+option_asked file word value known more told rest dot is = grind arith
 
 -- the same, where the words are at least one, or two
 pub dot_behind : (file : List ℕ) (words : List (List ℕ)) (word : List ℕ) (known : Options) (told drawn : Form) → 1 ≤ length words → word ≡ get_or words 0 word

@@ -1,4 +1,4 @@
-use Rattle.std.proofs.Common.{◌≡◌, Some, None, sym, ap, subst, ◌∙◌}
+use Rattle.std.proofs.Common.{◌≡◌, Some, None, sym, ap, subst, ◌∙◌, arith}
 use Rattle.std.specs.Prelude.{MatchOption}
 use Rattle.std.specs.declared.option.Option.{Option}
 use Rattle.commands.specs.Words as asked
@@ -7,20 +7,8 @@ use Rattle.commands.proofs.WordLemmas.{dot_behind, option_behind}
 use Rattle.commands.proofs.parse.+explain_with.Goals as goal
 
 pub returns-in_ok-with_dot-in-len1-up : goal.returns-in_ok-with_dot-in-len1-up
-returns-in_ok-with_dot-in-len1-up t c =
-    let P : Option asked.Command → Type 0 = λ o. MatchOption c.explain_with.result (o ≡ None) (λ command. o ≡ Some (command_seen command)) in
-    subst P
-    (sym (dot_behind c.args.file.now c.args.words.now c.word-item.result (options_seen c.args.known) c.args.form c.in_ok-with_dot-in-len1-up.field-0
-    c.in-len1-up.len_at_least c.word-item.is
-    (ap asked.is_dot (sym c.bytes.ensures) ∙ sym c.is_dot.ensures ∙ c.if-is_dot.true) (sym c.in_ok-with_dot-in-len1-up.ensures)))
-    c.explain_with.ensures
+returns-in_ok-with_dot-in-len1-up t c = grind (arith, dot_behind c.args.file.now c.args.words.now c.word-item.result (options_seen c.args.known) c.args.form c.in_ok-with_dot-in-len1-up.field-0 c.in-len1-up.len_at_least c.word-item.is)
 
 pub returns-in_ok-more-in-len2-up : goal.returns-in_ok-more-in-len2-up
 returns-in_ok-more-in-len2-up t c =
-    let P : Option asked.Command → Type 0 = λ o. MatchOption c.explain_with-in-len2-up.result (o ≡ None) (λ command. o ≡ Some (command_seen command)) in
-    subst P
-    (sym (option_behind c.args.file.now c.args.words.now c.word-item-2.result c.word-item.result c.value-item.result (options_seen c.args.known) (options_seen c.in_ok-more-in-len2-up.more) c.args.form
-    c.in-len2-up.len_at_least c.word-item-2.is c.word-item.is c.value-item.is
-    (ap asked.is_dot (sym c.bytes.ensures) ∙ sym c.is_dot.ensures ∙ c.if-is_dot.false)
-    (ap (λ w. asked.with_option w c.value-item.result (options_seen c.args.known)) (sym c.bytes-in-len2-up.ensures) ∙ c.in_ok-more-in-len2-up.ensures)))
-    c.explain_with-in-len2-up.ensures
+    grind (arith, option_behind c.args.file.now c.args.words.now c.word-item-2.result c.word-item.result c.value-item.result (options_seen c.args.known) (options_seen c.in_ok-more-in-len2-up.more) c.args.form c.in-len2-up.len_at_least c.word-item-2.is c.word-item.is c.value-item.is)
