@@ -1,10 +1,10 @@
 // Lines of bits.
-ghost use Rattle.std.specs.Prelude.{◌≡◌, ◌||◌, ◌==◌, length, map, IfOk, Some, None, if◌then◌else◌};
+ghost use Rattle.std.specs.Prelude.{◌≡◌, length, map, Some, None, if◌then◌else◌};
 ghost use Rattle.std.specs.List.{list_all};
 ghost use Rattle.std.specs.Result.{result_err};
 ghost use Rattle.sched_text.specs.declared.kind.Kind.TheVariants as kinds;
 ghost use Rattle.sched_text.specs.Answers.{Reads};
-ghost use Rattle.sched_text.specs.LineFaults.{arguments, is_bit as is_bit_byte, are_bits, bit_of, bits_of, width_fault, permits as permits_start, start_fault, fault_of_words};
+ghost use Rattle.sched_text.specs.LineFaults.{arguments, is_bit, are_bits, bit_of, bits_of, width_fault, permits as permits_start, start_fault, fault_of_words};
 ghost use Rattle.sched_text.specs.Statements.{statement_of};
 
 use crate::fault::SchedFault;
@@ -12,35 +12,32 @@ use crate::pieces::PieceLine;
 use crate::statement::Statement;
 use cyc_base::Bits;
 use netlist::{Init, Netlist};
-use std::alloc::{AllocError, Global};
+use std::alloc::Global;
 
-fn all_bits(word: &[u8]) -> bool
-    ensures { result ≡ list_all is_bit_byte word.now }
+// The bits of a word, which stands in the line of this number.
+fn read_word(alloc: Global, line: u64, word: &[u8]) -> Result<Bits, SchedFault>
+    ensures { Reads result (if list_all is_bit word.now then None else Some (SchedFault.BadLine line)) (map bit_of word.now) }
 {
-    word.iter().all(|b| *b == b'0' || *b == b'1')
-}
-
-fn bits_of_word(alloc: Global, word: &[u8]) -> Result<Vec<bool>, AllocError>
-    ensures { IfOk result (λ bits. bits.items ≡ map bit_of word.now) }
-{
-    word.iter().map(|b| *b == b'1').collect(alloc)
+    let mut bits = Vec::with_capacity(alloc, word.len())?;
+    for b in word {
+        match *b {
+            b'0' => bits.push_reserved(false),
+            b'1' => bits.push_reserved(true),
+            _ => return Err(SchedFault::BadLine { line }),
+        }
+    }
+    Ok(Bits::of(bits))
 }
 
 // The bits behind the first word of a line. No second word is no bits.
 fn read_bits(alloc: Global, line: &PieceLine<'_>) -> Result<Bits, SchedFault>
     ensures { Reads result (if are_bits (arguments line.now.words) then None else Some (SchedFault.BadLine line.now.number)) (bits_of (arguments line.now.words)) }
 {
-    if line.words() < 2 {
-        return Ok(Bits::of(Vec::new(alloc)));
+    match line.words() {
+        0 | 1 => Ok(Bits::of(Vec::new(alloc))),
+        2 => read_word(alloc, line.number(), line.word(1)),
+        _ => Err(line.bad_line()),
     }
-    if line.words() != 2 {
-        return Err(line.bad_line());
-    }
-    let word = line.word(1);
-    if !all_bits(word) {
-        return Err(line.bad_line());
-    }
-    Ok(Bits::of(bits_of_word(alloc, word)?))
 }
 
 fn check_width(line: u64, width: usize, bits: &Bits) -> Result<(), SchedFault>
