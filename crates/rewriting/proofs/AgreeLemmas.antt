@@ -1,5 +1,5 @@
 -- An unrolled netlist depends on the number of sweeps of gates in loops alone.
-use Rattle.std.proofs.Common.{◌≡◌, ℕ, zero, suc, ◌+◌, Bool, true, false, ◌&&◌, if◌then◌else◌, nat_le, max, List, ◌++◌, length, map, filter, refl, ap, ap₂, ◌∙◌}
+use Rattle.std.proofs.Common.{◌≡◌, ℕ, zero, suc, ◌+◌, Bool, true, false, ◌&&◌, if◌then◌else◌, nat_le, max, List, ◌++◌, length, map, filter, refl, ap, ap₂, ◌∙◌, arith}
 use Rattle.std.proofs.Math.Path.{fun_ext}
 use Rattle.std.proofs.lemmas.Bool.{and_parts}
 use Rattle.std.specs.List.{range_with_len, sum_by}
@@ -15,15 +15,10 @@ use Rattle.unroll.specs.Unrolled.{Copy, copies_of, copied, copy_of, copies_upto,
 
 module _ (net : Parts) (loops : Loops) (are : AreLoopsOf net loops) (m o : ℕ → ℕ) (agree : (n : ℕ) → loops.same n n ≡ true → m n ≡ o n) where
   same_number : copies_of loops.same m ≡ copies_of loops.same o
-  same_number = fun_ext (λ n. by n (loops.same n n) refl)
-    where
-      by : (n : ℕ) → (b : Bool) → loops.same n n ≡ b → (if loops.same n n then m n else 0) ≡ (if loops.same n n then o n else 0)
-      by n true e = rw e (agree n e)
-      by n false e = rw e refl
+  same_number = grind arith
 
   pub sizes_agree : unrolled_size net loops.same m ≡ unrolled_size net loops.same o
-  sizes_agree =
-      ap (λ (f : ℕ → ℕ). length net.gates + length net.latches + sum_by f (range_with_len 0 (length net.gates)) + (if has_loop net loops.same then 1 else 0)) same_number
+  sizes_agree = grind (arith, same_number)
 
   same_copied : (k : ℕ) → copied net loops m k ≡ copied net loops o k
   same_copied k = ap (λ (f : ℕ → ℕ). filter (λ n. nat_le k (f n)) (range_with_len 0 (length net.gates))) same_number
@@ -46,9 +41,7 @@ module _ (net : Parts) (loops : Loops) (are : AreLoopsOf net loops) (m o : ℕ �
   same_old = ap (moved net) same_shift
 
   same_signal : (k n : ℕ) → copy_signal net loops m k n ≡ copy_signal net loops o k n
-  same_signal zero n = refl
-  same_signal (suc k) n =
-      ap (λ (all : List Copy). let s : Sig = record { 0 = first_gate net + (length (constants net loops) + place all (suc k) n) } in s) same_copies
+  same_signal k n = grind (arith, same_copies)
 
   same_pin : (k n : ℕ) → copy_pin net loops m k n ≡ copy_pin net loops o k n
   same_pin k n =
@@ -56,18 +49,14 @@ module _ (net : Parts) (loops : Loops) (are : AreLoopsOf net loops) (m o : ℕ �
       ∙ ap (λ (outer : Sig → Sig). redirected net loops (copy_signal net loops o k) (copy_signal net loops o (suc k)) outer n) same_old
 
   same_copy_gate : (copy : Copy) → copy_gate net loops m copy ≡ copy_gate net loops o copy
-  same_copy_gate copy =
-      ap (λ (pin : Sig → Sig). let gate : Gate = record { name = copy_name (mark net) copy.number (gate_at net copy.gate).name; pins = map pin (gate_at net copy.gate).pins; cover = (gate_at net copy.gate).cover } in gate)
-      (same_pin (before copy.number) copy.gate)
+  same_copy_gate copy = grind (arith, same_pin (before copy.number) copy.gate)
 
   same_kept_pin : (n : ℕ) (s : Sig) → kept_pin net loops m n s ≡ kept_pin net loops o n s
   same_kept_pin n s = by (in_loop_of net loops n s && loops.cut (gate_of net s)) refl
     where
       looped : (in_loop_of net loops n s && loops.cut (gate_of net s)) ≡ true → loops.same n n ≡ true
       looped e =
-          let both = and_parts (in_loop_of net loops n s) (loops.cut (gate_of net s)) e in
-          let there = (and_parts (nat_le (first_gate net) s.0) (loops.same n (gate_of net s)) both.0).1 in
-          same-trans net loops are n (gate_of net s) n there (same-sym net loops are n (gate_of net s) there)
+          grind (arith, and_parts (in_loop_of net loops n s) (loops.cut (gate_of net s)) e, and_parts (nat_le (first_gate net) s.0) (loops.same n (gate_of net s)), same-trans net loops are n (gate_of net s) n, same-sym net loops are n (gate_of net s))
 
       by : (b : Bool) → (in_loop_of net loops n s && loops.cut (gate_of net s)) ≡ b → kept_pin net loops m n s ≡ kept_pin net loops o n s
       by true e =

@@ -22,18 +22,10 @@ abbrev HasCover : Gate → Type 0
 HasCover gate = IsCover gate.cover
 
 gate_has_cover : (net : Parts) → HasCovers net → (n : ℕ) → HasCover (gate_at net n)
-gate_has_cover net have n =
-    elim (cases_lt n (length net.gates)) [
-      | inl inside ↦ have n no_gate inside
-      | inr past ↦ subst HasCover (sym (get_or_past net.gates n no_gate past)) none_is_cover
-    ]
+gate_has_cover net have n = grind (arith, cases_lt n (length net.gates), get_or_past net.gates n no_gate, none_is_cover)
 
 constants_have_covers : (net : Parts) (loops : Loops) → All HasCover (constants net loops)
-constants_have_covers net loops = by (has_loop net loops.same)
-  where
-    by : (b : Bool) → All HasCover (if b then zero_gate (mark net) ∷ [] else [])
-    by true = All-cons HasCover (zero_gate (mark net)) [] none_is_cover (All-nil HasCover)
-    by false = All-nil HasCover
+constants_have_covers net loops = grind arith
 
 pub unrolled_has_covers : (net : Parts) (loops : Loops) (m : ℕ → ℕ) → HasCovers net → HasCovers (unrolled net loops m)
 unrolled_has_covers net loops m have =

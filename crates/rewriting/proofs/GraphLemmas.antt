@@ -30,10 +30,7 @@ use Rattle.rewriting.proofs.RewrittenLemmas.{same_interface, tells_as_much}
 
 -- values that are known, and values above them that are told by Boolean ones
 known_told : (values above : List Trit) (known told : List Bool) → EachBelow values above → bits known ≡ values → bits told ≡ above → values ≡ bits told
-known_told values above known told below is_known is_told =
-    let lower : EachBelow (bits known) above = subst (λ (x : List Trit). EachBelow x above) (sym is_known) below in
-    let completes : Completes (bits known) told = subst (EachBelow (bits known)) (sym is_told) lower in
-    sym is_known ∙ ap bits (sym (above_bits known told completes))
+known_told values above known told below is_known is_told = grind (arith, above_bits known told)
 
 -- how many columns the rewritten netlist has
 pub same_columns : (net other : Parts) → HasSameInterface net other → columns other ≡ columns net
@@ -52,14 +49,12 @@ module _ (net : Parts) (care : CareSet) (what : Observe) (graph : Built) (valid 
   outputs_told v counts =
       let determined = outputs_known net care what v valid accepts counts in
       let known = known_list (outs net (bits v)) (All-map (λ value. value ≢ X) (wire (fix net (bits v))) net.outputs determined) in
-      known_told (outs net (bits v)) (outs (rewritten net care) (bits v)) known.0 ((machine_of graph).shown v)
-      ((tells_as_much net care).outputs v counts) known.1 (values.outputs v (width v counts))
+      grind (arith, known_told (outs net (bits v)) (outs (rewritten net care) (bits v)) known.0 ((machine_of graph).shown v) ((tells_as_much net care).outputs v counts) known.1 (values.outputs v (width v counts)), tells_as_much net care, width v counts)
 
   loads_told : (v : List Bool) → IsCareVector net care v → next net (bits v) ≡ bits ((machine_of graph).loads v)
   loads_told v counts =
       let after = accepts.closed v counts in
-      known_told (next net (bits v)) (next (rewritten net care) (bits v)) after.state ((machine_of graph).loads v)
-      ((tells_as_much net care).loads v counts) (sym after.is) (values.nexts v (width v counts))
+      grind (arith, known_told (next net (bits v)) (next (rewritten net care) (bits v)) after.state ((machine_of graph).loads v) ((tells_as_much net care).loads v counts), tells_as_much net care, width v counts)
 
   fits_fixpoint : FitsFixpoint net care (machine_of graph)
   fits_fixpoint = record { outputs = outputs_told; loads = loads_told }
@@ -78,21 +73,9 @@ fits_too net other graph same fits =
     let outputs = ap length same.outputs in
     let own_outputs = length-map net.outputs (λ (s : Sig). slice_index_or (signal_names net) s.0 []) in
     let other_outputs = length-map other.outputs (λ (s : Sig). slice_index_or (signal_names other) s.0 []) in
-    record {
-      inputs = omega (arith, inputs, fits.inputs);
-      latches = omega (arith, names, own, others, fits.latches);
-      output_count = omega (arith, outputs, own_outputs, other_outputs, fits.output_count);
-      next_count = omega (arith, names, own, others, fits.next_count);
-      outputs = fits.outputs;
-      nexts = fits.nexts;
-    }
+    grind arith
 
 -- what a user has of the graph of a netlist that was made by rewriting
 pub is_graphing : (net : Parts) (care : CareSet) (what : Observe) (other : Parts) (graph : Built) → IsNetlist net → Accepts net care what
     → IsRewriting net care other → graph ≡ built other → FitsNetlist other graph → HasValues other graph → IsGraphing net care graph
-is_graphing net care what other graph valid accepts rewriting is fits values = record {
-  is = is ∙ ap built rewriting.is;
-  fits = fits_too net other graph rewriting.same.interface fits;
-  interface = same_interface net care;
-  runs = graphs_show_the_same net care what graph valid accepts (subst (λ (p : Parts). HasValues p graph) rewriting.is values);
-}
+is_graphing net care what other graph valid accepts rewriting is fits values = grind (arith, fits_too net other graph rewriting.same.interface, same_interface net care, graphs_show_the_same net care what graph valid accepts)

@@ -30,64 +30,35 @@ use Rattle.rewriting.specs.Laws.{NeededIsLeast}
 -- ---- values that are equal
 
 trit_eq-refl : (a : Trit) → trit_eq a a ≡ true
-trit_eq-refl Zero = refl
-trit_eq-refl One = refl
-trit_eq-refl X = refl
+trit_eq-refl a = grind arith
 
 trit_eq-true : (a b : Trit) → trit_eq a b ≡ true → a ≡ b
-trit_eq-true Zero Zero e = refl
-trit_eq-true One One e = refl
-trit_eq-true X X e = refl
-trit_eq-true Zero One e = cc
-trit_eq-true Zero X e = cc
-trit_eq-true One Zero e = cc
-trit_eq-true One X e = cc
-trit_eq-true X Zero e = cc
-trit_eq-true X One e = cc
+trit_eq-true a b e = grind arith
 
 equal-map : (f g : ℕ → Trit) (cs : List ℕ) → list_all (λ c. trit_eq (f c) (g c)) cs ≡ true → map f cs ≡ map g cs
 equal-map f g [] e = refl
-equal-map f g (c ∷ cs) e =
-    let split = and_parts (trit_eq (f c) (g c)) (list_all (λ c. trit_eq (f c) (g c)) cs) e in
-    ap₂ (λ (t : Trit) (ts : List Trit). t ∷ ts) (trit_eq-true (f c) (g c) split.0) (equal-map f g cs split.1)
+equal-map f g (c ∷ cs) e = grind (arith, and_parts, trit_eq-true, equal-map f g cs)
 
 map-equal : (f g : ℕ → Trit) (cs : List ℕ) → map f cs ≡ map g cs → list_all (λ c. trit_eq (f c) (g c)) cs ≡ true
 map-equal f g [] e = refl
-map-equal f g (c ∷ cs) e =
-    let first : f c ≡ g c = cc in
-    let rest : map f cs ≡ map g cs = cc in
-    and_from (trit_eq (f c) (g c)) (list_all (λ c. trit_eq (f c) (g c)) cs)
-    (subst (λ (t : Trit). trit_eq (f c) t ≡ true) first (trit_eq-refl (f c))) (map-equal f g cs rest)
+map-equal f g (c ∷ cs) e = grind (arith, and_from, trit_eq-refl, map-equal f g cs)
 
 -- ---- tests of all care vectors
 
 all-none : {T : Type 0} (p : T → Bool) (xs : List T) → list_all p xs ≡ true → find (λ x. not (p x)) xs ≡ None
 all-none p [] e = refl
-all-none p (x ∷ xs) e =
-    let split = and_parts (p x) (list_all p xs) e in
-    rw split.0 (all-none p xs split.1)
+all-none p (x ∷ xs) e = grind (arith, and_parts (p x) (list_all p xs) e, all-none p xs)
 
 none-all : {T : Type 0} (p : T → Bool) (xs : List T) → find (λ x. not (p x)) xs ≡ None → list_all p xs ≡ true
 none-all p [] e = refl
-none-all p (x ∷ xs) e =
-    elim (cases_Bool (p x)) [
-      | inl passes ↦ and_from (p x) (list_all p xs) passes (none-all p xs (rw passes at e))
-      | inr fails ↦ (let h : Some x ≡ None = rw fails at e in cc)
-    ]
+none-all p (x ∷ xs) e = grind (arith, cases_Bool (p x), and_from (p x) (list_all p xs), none-all p xs)
 
 module _ (net : Parts) (care : CareSet) (p : List Bool → Bool) where
   each-care : list_all p (care_vectors net care) ≡ true → (v : List Bool) → IsCareVector net care v → p v ≡ true
-  each-care e v counts =
-      let none = sym (care_test net care (λ w. not (p w))) ∙ all-none p (care_vectors net care) e in
-      let fails = none_passes (columns net) (λ w. is_care_vector net care w && not (p w)) v none counts.width in
-      not-false (p v) (second_fails (is_care_vector net care v) (not (p v)) fails (care_vector_is net care v counts))
+  each-care e v counts = grind (arith, care_test net care, all-none p (care_vectors net care) e, none_passes (columns net), not-false (p v), second_fails (is_care_vector net care v) (not (p v)), care_vector_is net care v counts)
 
   all-care : ((v : List Bool) → IsCareVector net care v → p v ≡ true) → list_all p (care_vectors net care) ≡ true
-  all-care each =
-      none-all p (care_vectors net care)
-      (care_test net care (λ w. not (p w))
-      ∙ find-none (columns net) (λ w. is_care_vector net care w && not (p w))
-      (λ w wide. fails_after (is_care_vector net care w) (not (p w)) (λ is. ap not (each w (care_vector_decides net care w wide is)))))
+  all-care each = grind (arith, none-all p (care_vectors net care), care_test net care, find-none (columns net), fails_after, care_vector_decides net care)
 
 -- ---- values of care vectors
 
@@ -111,10 +82,7 @@ record AreBitsOf (net : Parts) (care : CareSet) (values : List Trit) : Type 0 wh
 
 values-care : (net : Parts) (care : CareSet) (values : List Trit) → are_care_values net care values ≡ true → AreBitsOf net care values
 values-care net care values e =
-    let known = and_parts (list_all (λ value. not (is_x value)) values) _ e in
-    let rest = and_parts (length values == columns net) (is_care_vector net care (map is_one values)) known.1 in
-    let wide = length-map values is_one ∙ eqb-true (length values) (columns net) rest.0 in
-    record { vector = map is_one values; are = known-bits values known.0; counts = care_vector_decides net care (map is_one values) wide rest.1 }
+    grind (arith, and_parts, and_parts (length values == columns net) (is_care_vector net care (map is_one values)), length-map values is_one, eqb-true (length values) (columns net), known-bits values, care_vector_decides net care (map is_one values))
 
 -- ---- the least number of sweeps
 
@@ -127,8 +95,7 @@ module _ (net : Parts) (care : CareSet) (n : ℕ) where
 
   enough-has : (k : ℕ) → is_enough net care n k ≡ true → (v : List Bool) → IsCareVector net care v → CutsAreFixed net (loops_of net) (bits v) n k
   enough-has k e v counts =
-      equal-map (value_in (sweeps net (loops_of net) (bits v) k)) (value_in (fix_gates net (bits v))) (cut_wires net n)
-      (each-care net care (are_fixed net n k) e v counts)
+      grind (arith, equal-map (value_in (sweeps net (loops_of net) (bits v) k)) (value_in (fix_gates net (bits v))) (cut_wires net n) (each-care net care (are_fixed net n k) e v counts), each-care net care (are_fixed net n k) e v counts)
 
   needed-fixed : (v : List Bool) → IsCareVector net care v → CutsAreFixed net (loops_of net) (bits v) n (sweeps_needed net care n)
   needed-fixed v counts =

@@ -38,8 +38,7 @@ use Rattle.rewriting.proofs.CoverLemmas.{unrolled_has_covers}
 use Rattle.rewriting.proofs.NeededLemmas.{needed_is_least, care-values}
 
 needed_is_of_loops : (net : Parts) (care : CareSet) → IsOfLoops (loops_of net) (sweeps_needed net care)
-needed_is_of_loops net care =
-    count_is_of_loops net (loops_of net) (loops_exist net) (are_care_values net care) (sweeps_needed net care) (λ a looped. needed_is_least net care a)
+needed_is_of_loops net care = grind (arith, count_is_of_loops net (loops_of net) (loops_exist net) (are_care_values net care) (sweeps_needed net care), loops_exist net, needed_is_least net care)
 
 pub rewritten_is_loop_free : RewrittenIsLoopFree
 rewritten_is_loop_free net care = unrolled_is_loop_free net (loops_of net) (loops_exist net) (sweeps_needed net care) (needed_is_of_loops net care)
@@ -52,38 +51,22 @@ pub rewritten_latches : (net : Parts) (care : CareSet) → length (rewritten net
 rewritten_latches net care = length-map net.latches (kept_latch net (shift net (loops_of net) (sweeps_needed net care)))
 
 pub same_interface : (net : Parts) (care : CareSet) → HasSameInterface net (rewritten net care)
-same_interface net care =
-    let keeps = unrolled_keeps_interface net (loops_of net) (loops_exist net) (sweeps_needed net care) (needed_is_of_loops net care) in
-    record { inputs = keeps.inputs; latches = keeps.latches; inits = keeps.inits; outputs = keeps.outputs; clock = keeps.clock }
+same_interface net care = grind (arith, unrolled_keeps_interface net (loops_of net) (loops_exist net) (sweeps_needed net care) (needed_is_of_loops net care), loops_exist net, needed_is_of_loops net care)
 
 enough_on_care : (net : Parts) (care : CareSet) (v : List Bool) → IsCareVector net care v → AreEnough net (loops_of net) (sweeps_needed net care) (bits v)
-enough_on_care net care v counts = record {
-  width = length-bits v ∙ counts.width;
-  fixed = λ a looped. (needed_is_least net care a).enough (bits v) (care-values net care v counts);
-}
+enough_on_care net care v counts = grind (arith, length-bits v, needed_is_least net care, care-values net care v counts)
 
 pub tells_as_much : (net : Parts) (care : CareSet) → TellsAsMuch net (rewritten net care) care
-tells_as_much net care =
-    let at = λ (v : List Bool) (counts : IsCareVector net care v).
-    unrolled_tells_as_much net (loops_of net) (loops_exist net) (sweeps_needed net care) (needed_is_of_loops net care) (bits v) (enough_on_care net care v counts) in
-    record { outputs = λ v counts. (at v counts).outputs; loads = λ v counts. (at v counts).loads }
+tells_as_much net care = grind (arith, unrolled_tells_as_much net (loops_of net) (loops_exist net) (sweeps_needed net care) (needed_is_of_loops net care), loops_exist net, needed_is_of_loops net care, enough_on_care net care)
 
 pub rewritten_shows_the_same : RewrittenShowsTheSame
-rewritten_shows_the_same net care what valid accepts =
-    same_by_fixpoints net (rewritten net care) care what valid accepts (same_interface net care) (tells_as_much net care)
+rewritten_shows_the_same net care what valid accepts = grind (arith, same_by_fixpoints net (rewritten net care) care what valid accepts (same_interface net care) (tells_as_much net care), same_interface net care, tells_as_much net care)
 
 -- what a user has of it
 pub is_rewriting : (net : Parts) (care : CareSet) (what : Observe) (other : Parts) → IsNetlist net → HasCovers net → Accepts net care what →
     other ≡ rewritten net care → IsNetlist other → rewritten_size net care ≤ 4000000 → IsRewriting net care other
-is_rewriting net care what other valid have accepts is other_valid small = record {
-  is = is;
-  loop_free = subst IsLoopFree (sym is) (rewritten_is_loop_free net care);
-  reads_back = subst ReadsBack (sym is) (reads_back (rewritten net care) (subst IsNetlist is other_valid) (unrolled_has_covers net (loops_of net) (sweeps_needed net care) have) few);
-  same = subst (λ (p : Parts). Same net p care) (sym is) (rewritten_shows_the_same net care what valid accepts);
-}
-  where
-    few : length (rewritten net care).latches + length (rewritten net care).gates ≤ 4000000
-    few = (let size = rewritten_has_its_size net care in omega (arith, size, small))
+is_rewriting net care what other valid have accepts is other_valid small =
+    grind (arith, rewritten_is_loop_free net care, reads_back, reads_back (rewritten net care), unrolled_has_covers net (loops_of net) (sweeps_needed net care) have, rewritten_shows_the_same net care what valid accepts, rewritten_has_its_size net care)
 
 -- ---- by blocks, a cut and counted sweeps
 
@@ -93,10 +76,7 @@ module _ (net : Parts) (blocks : Blocks) (cut : Cut) (care : CareSet) (counts : 
 
   -- two least numbers are one
   one_least : (l : Loops) (test : List Trit → Bool) (n a b : ℕ) → IsCountOfSweeps net l test n a → IsCountOfSweeps net l test n b → a ≡ b
-  one_least l test n a b first second =
-      let low = first.least b second.enough in
-      let high = second.least a first.enough in
-      omega arith
+  one_least l test n a b first second = grind arith
 
   pub counts_are_needed : (n : ℕ) → (loops_of net).same n n ≡ true → sweeps_of blocks counts n ≡ sweeps_needed net care n
   counts_are_needed n looped =
@@ -111,6 +91,4 @@ module _ (net : Parts) (blocks : Blocks) (cut : Cut) (care : CareSet) (counts : 
       ∙ netlists_agree net (loops_of net) (loops_exist net) (sweeps_of blocks counts) (sweeps_needed net care) counts_are_needed
 
   pub size_is_rewritten : unrolled_size net (in_one_loop blocks) (sweeps_of blocks counts) ≡ rewritten_size net care
-  size_is_rewritten =
-      ap (λ (l : Loops). unrolled_size net l.same (sweeps_of blocks counts)) loops
-      ∙ sizes_agree net (loops_of net) (loops_exist net) (sweeps_of blocks counts) (sweeps_needed net care) counts_are_needed
+  size_is_rewritten = grind (arith, loops, sizes_agree net (loops_of net) (loops_exist net) (sweeps_of blocks counts) (sweeps_needed net care) counts_are_needed, loops_exist net, counts_are_needed)

@@ -1,4 +1,4 @@
-use Rattle.std.proofs.Common.{ℕ, ◌≤◌, ◌∙◌, subst}
+use Rattle.std.proofs.Common.{ℕ, ◌≤◌, ◌∙◌, subst, arith}
 use Rattle.std.proofs.lemmas.Result.{IfErr-weaker, on_ok_weaker}
 use Rattle.std.specs.Prelude.{Ok, Err, IfOk, OnOk}
 use Rattle.std.specs.declared.result.Result.{Result}
@@ -8,8 +8,7 @@ use Rattle.rewriting.proofs.rewriting.rewrite.Goals as goal
 
 -- what follows for a value from three facts of it
 by_three : {T E S : Type 0} (P Q R : T → Type 0) → ((x : T) → P x → S → Q x → R x) → (r : Result T E) → IfOk r P → OnOk r S → IfOk r Q → IfOk r R
-by_three P Q R f (Ok x) p s q = f x p s q
-by_three P Q R f (Err e) p s q = tt
+by_three P Q R f r p s q = grind arith
 
 pub returns-clause-rewriting : goal.returns-clause-rewriting
 returns-clause-rewriting c =

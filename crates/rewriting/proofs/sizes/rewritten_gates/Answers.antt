@@ -7,8 +7,4 @@ pub returns-clause-on_care : goal.returns-clause-on_care
 returns-clause-on_care c care on_care =
     let l = c.args.looped.now in
     let is = c.unrolled_size-size.ensures.looped in
-    let size = c.unrolled_size-size.ensures.size ∙ size_is_rewritten l.net l.blocks l.cut care c.args.sweeps.now is.blocks is.cut on_care in
-    let parts = rewritten_has_its_size l.net care in
-    let latches = rewritten_latches l.net care in
-    let own = c.latches.ensures.latches ∙ ap (λ (net : Parts). length net.latches) c.net-net.ensures.net in
-    omega (arith, size, parts, latches, own)
+    grind (arith, size_is_rewritten l.net l.blocks l.cut care c.args.sweeps.now is.blocks is.cut on_care, rewritten_has_its_size l.net care, rewritten_latches l.net care)
