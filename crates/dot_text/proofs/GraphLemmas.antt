@@ -26,9 +26,7 @@ use Rattle.dot_text.specs.LoopGraphs.{wire_style}
 module _ (net : Parts) (loops : Loops) (gate : ℕ) (pin : Sig) where
   pub wire_drawn : (source : ℕ) → Some source ≡ (if in_loop_of net loops gate pin then Some (gate_of net pin) else None)
       → loop_wire net loops gate pin ≡ wire pin.0 (gate_sig net gate).0 (wire_style (loops.cut source))
-  wire_drawn source is =
-      let (inside, same) = some_if (in_loop_of net loops gate pin) (gate_of net pin) source is in
-      rw inside (ap (λ (n : ℕ). wire pin.0 (gate_sig net gate).0 (wire_style (loops.cut n))) same)
+  wire_drawn source is = grind arith
 
   pub wire_left : None ≡ (if in_loop_of net loops gate pin then Some (gate_of net pin) else None) → loop_wire net loops gate pin ≡ []
   wire_left is = let outside = none_if (in_loop_of net loops gate pin) (gate_of net pin) None refl is in rw outside refl
@@ -49,10 +47,7 @@ picture_by net values drawn cycle needs = record { net = net; loops = loops_of n
 pub picture_is : (net : Parts) (values : List Trit) (why : Explanation) (first : ℕ) (way cycle : List Bool) (needs : List Trit) → first ≡ slice_index why.cycle 0
     → needs ≡ why.needs → AreMarksOf net why.way way → AreMarksOf net why.cycle cycle
     → picture_by net values (λ n. (loops_of net).same first n || is_marked way n) (is_marked cycle) needs ≡ picture_of net values why
-picture_is net values why first way cycle needs begins needed on_way on_cycle =
-    ap (picture_by net values (λ n. (loops_of net).same first n || is_marked way n) (is_marked cycle)) needed ∙
-    ap₂ (λ (drawn on : ℕ → Bool). picture_by net values drawn on why.needs)
-    (fun_ext (λ n. ap₂ (λ (m : ℕ) (b : Bool). (loops_of net).same m n || b) begins (on_way.each n))) (fun_ext on_cycle.each)
+picture_is net values why first way cycle needs begins needed on_way on_cycle = grind arith
 
 -- the values of all signals
 pub values_fit : (net : Parts) (v : List Bool) → length v ≡ length net.inputs + length net.latches → length (fix net (bits v)) ≡ count net
@@ -68,6 +63,4 @@ module _ (p : Picture) (n : ℕ) (pin : Sig) where
   drawn_by driven gate = if driven then gate_wire p n gate else needed_wire pin.0 p.net n (slice_index_or p.needs pin.0 X)
 
   pub driven_drawn : (source : ℕ) → pin ≡ gate_sig p.net source → pin_wire p n pin ≡ gate_wire p n source
-  driven_drawn source is =
-      let number : pin.0 ≡ first_gate p.net + source = ap (λ (s : Sig). s.0) is in
-      ap₂ drawn_by (le-leb (first_gate p.net) pin.0 (omega (arith, number))) (omega (arith, number))
+  driven_drawn source is = grind arith

@@ -24,14 +24,4 @@ found (gate ∷ gates) n (suc k) inside is = or_right (gate == n) (is_one_of gat
 -- the marks of these gates alone
 pub marks_of : (net : Parts) (gates : List ℕ) (old new : List Bool) → length old ≡ length net.gates → ((n : ℕ) → is_marked old n ≡ false)
     → AddMarks (Contains gates) old new → AreMarksOf net gates new
-marks_of net gates old new wide none are = record {
-  width = are.width ∙ wide;
-  each = λ n. same_truth (is_marked new n) (is_one_of gates n) (to n) (λ is. are.adds n (held gates n is));
-}
-  where
-    to : (n : ℕ) → is_marked new n ≡ true → is_one_of gates n ≡ true
-    to n is =
-        elim (are.only n is) [
-          | inl before ↦ absurd (true≢false (sym before ∙ none n))
-          | inr h ↦ found gates n h.0 h.1 h.2
-        ]
+marks_of net gates old new wide none are = grind (arith, same_truth, held gates, true≢false, found gates)

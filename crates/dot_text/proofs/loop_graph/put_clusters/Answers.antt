@@ -1,4 +1,4 @@
-use Rattle.std.proofs.Common.{ap, ◌∙◌}
+use Rattle.std.proofs.Common.{ap, ◌∙◌, arith}
 use Rattle.dot_text.proofs.Common.{appended_none, loops_of}
 use Rattle.loops.proofs.ListLemmas.{comes_at}
 use Rattle.loops.specs.Left.{loops_left}
@@ -10,9 +10,7 @@ pub loop-listed-init : goal.loop-listed-init
 loop-listed-init g c = (tt, appended_none _ _ _)
 
 pub put_cluster-requires : goal.put_cluster-requires
-put_cluster-requires g c =
-    (comes_at c.args.looped.now.net c.into_iter-listed-iterator.result c.loop-listed.listed-iterator c.next.new.self c.loop-listed.yielded c.in-Some.listed
-    (ap loops_left c.into_iter-listed-iterator.ensures.into_iter_gives ∙ c.in_order-listed-items.ensures) c.loop-listed.yielded_by c.in-Some.ensures.steps).loop
+put_cluster-requires g c = grind (arith, comes_at c.args.looped.now.net c.into_iter-listed-iterator.result c.loop-listed.listed-iterator c.next.new.self c.loop-listed.yielded c.in-Some.listed)
 
 pub loop-listed-preserved : goal.loop-listed-preserved
 loop-listed-preserved g c = (

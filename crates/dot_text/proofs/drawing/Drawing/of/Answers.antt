@@ -1,4 +1,4 @@
-use Rattle.std.proofs.Common.{◌<◌, ◌≤◌, ℕ, All, Bool, List, filter, length, ap, sym, subst, ◌∙◌}
+use Rattle.std.proofs.Common.{◌<◌, ◌≤◌, ℕ, All, Bool, List, filter, length, ap, sym, subst, ◌∙◌, arith}
 use Rattle.std.proofs.lemmas.List.Elements.{All-get_or}
 use Rattle.std.specs.Prelude.{◌||◌, slice_index}
 use Rattle.dot_text.proofs.Common.{Trit, is_marked, loops_of, Parts}
@@ -16,14 +16,10 @@ invariant_of-result-clause-narrow c = c.requires.valid.fits
 pub invariant_of-result-clause-valued : goal.invariant_of-result-clause-valued
 invariant_of-result-clause-valued c =
     let net = c.args.looped.now.net in
-    let values = c.in_ok-values.ensures ∙ ap (λ (n : Parts). fix n (bits c.args.vector.now)) c.net-net.ensures.net in
-    ap length values ∙ values_fit net c.args.vector.now c.requires.width
+    grind (arith, values_fit net c.args.vector.now c.requires.width)
 
 pub invariant_of-result-clause-begun : goal.invariant_of-result-clause-begun
-invariant_of-result-clause-begun c =
-    let net = c.args.looped.now.net in
-    let P : List ℕ → Type 0 = (λ gates. slice_index gates 0 < length net.gates) in
-    subst P (sym c.items.ensures) (All-get_or (λ n. n < length net.gates) c.args.why.now.cycle 0 0 c.requires.some c.requires.why.cycle)
+invariant_of-result-clause-begun c = grind arith
 
 pub invariant_of-result-clause-way_marked : goal.invariant_of-result-clause-way_marked
 invariant_of-result-clause-way_marked c = c.in_ok-way.ensures.width ∙ ap (λ (net : Parts). length net.gates) c.net-net.ensures.net
@@ -45,16 +41,10 @@ invariant_of-result-clause-inside c =
     (kept_inside net (λ n. (loops_of net).same (slice_index c.items.result.now 0) n || is_marked c.deref.result.now n))
 
 pub invariant_of-result-clause-few : goal.invariant_of-result-clause-few
-invariant_of-result-clause-few c =
-    let P : List Trit → Type 0 = (λ needs. length needs ≤ count c.args.looped.now.net) in
-    subst P (sym c.items-4.ensures) c.requires.why.needs
+invariant_of-result-clause-few c = grind arith
 
 pub returns : goal.returns
 returns c =
     let net = c.args.looped.now.net in
     let why = c.args.why.now in
-    let values = c.in_ok-values.ensures ∙ ap (λ (n : Parts). fix n (bits c.args.vector.now)) c.net-net.ensures.net in
-    picture_is net c.in_ok-values.values.items why (slice_index c.items.result.now 0) c.in_ok-way.way.items c.in_ok-cycle.cycle.items c.items-4.result.now
-    (ap (λ gates. slice_index gates 0) c.items.ensures) c.items-4.ensures
-    (rw (c.net-net.ensures.net, c.items-2.ensures) at c.in_ok-way.ensures) (rw (c.net-net.ensures.net, c.items-3.ensures) at c.in_ok-cycle.ensures)
-    ∙ ap (λ (values : List Trit). picture_of net values why) values
+    grind (arith, picture_is net c.in_ok-values.values.items why (slice_index c.items.result.now 0) c.in_ok-way.way.items c.in_ok-cycle.cycle.items c.items-4.result.now)
