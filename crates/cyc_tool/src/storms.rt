@@ -1,8 +1,6 @@
 // The storm of a refused wire, as a schedule file.
 ghost use Rattle.std.specs.Prelude.{◌≡◌, ◌+◌, ◌++◌, Some, IfOk, OnOk, length};
-ghost use Rattle.std.specs.List.{flat_map};
 ghost use Rattle.commands.specs.Seen.{rounds_seen};
-ghost use Rattle.cyc_io.specs.Bits.{bit_text};
 ghost use Rattle.cyc_io.specs.Text.{text_bytes};
 ghost use Rattle.refusals.specs.Refusals.{IsRefusalOf};
 ghost use Rattle.sched_text.specs.Written.{written};
@@ -17,7 +15,7 @@ use crate::outcome::Outcome;
 use crate::status;
 use crate::texts::{on_out, tell_declined, tell_too_large};
 use commands::Rounds;
-use cyc_io::{Failed, TextSink, write_whole};
+use cyc_io::{Failed, TextSink, put_bits, write_whole};
 use delay_core::Schedule;
 use netlist::Netlist;
 use refusals::Refusal;
@@ -26,47 +24,37 @@ use std::alloc::{AllocError, Global};
 use storm::laws::unknown_gates_have_plans;
 use storm::{StormFault, StormPlan, plan, schedule};
 
-fn push_bits(text: &mut Vec<u8>, bits: &[bool]) -> Result<(), AllocError>
-    ensures { OnOk result (text.new.items ≡ text.old.items ++ flat_map bit_text bits.now) }
+// The values of inputs, or a dash where there are none.
+fn put_inputs(inputs: &[bool], sink: &mut TextSink) -> Result<(), Failed>
+    ensures { OnOk result (text_bytes sink.new ≡ text_bytes sink.old ++ bits_or_dash inputs.now) }
 {
-    for bit in bits {
-        text.push(if *bit { b'1' } else { b'0' })?;
+    match inputs {
+        [] => write_whole(sink, b"-"),
+        inputs => put_bits(sink, inputs),
     }
-    Ok(())
-}
-
-fn push_inputs(text: &mut Vec<u8>, inputs: &[bool]) -> Result<(), AllocError>
-    ensures { OnOk result (text.new.items ≡ text.old.items ++ bits_or_dash inputs.now) }
-{
-    if inputs.is_empty() {
-        text.push(b'-')?;
-        return Ok(());
-    }
-    push_bits(text, inputs)
 }
 
 // The inputs of a vector, as a comment.
-fn inputs_of(alloc: Global, net: &Netlist, v: &[bool]) -> Result<Vec<u8>, AllocError>
+fn put_inputs_line(net: &Netlist, v: &[bool], sink: &mut TextSink) -> Result<(), Failed>
     requires { length v.now ≡ length net.now.inputs + length net.now.latches }
-    ensures { IfOk result (λ text. text.items ≡ inputs_line net.now v.now) }
+    ensures { OnOk result (text_bytes sink.new ≡ text_bytes sink.old ++ inputs_line net.now v.now) }
 {
-    let mut text = Vec::new(alloc);
-    text.extend_from_slice(b"# inputs ")?;
-    push_inputs(&mut text, &v[..net.inputs() as usize])?;
-    text.push(b'\n')?;
-    Ok(text)
+    write_whole(sink, b"# inputs ")?;
+    put_inputs(&v[..net.inputs() as usize], sink)?;
+    write_whole(sink, b"\n")
 }
 
 fn put_file(
     net: &Netlist,
-    inputs: &[u8],
+    v: &[bool],
     schedule: &Schedule,
     sink: &mut TextSink,
 ) -> Result<(), Failed>
-    requires { FitsOneTick net.now schedule.now }
-    ensures { OnOk result (text_bytes sink.new ≡ text_bytes sink.old ++ (inputs.now ++ written net.now schedule.now)) }
+    requires width { length v.now ≡ length net.now.inputs + length net.now.latches }
+    requires fits { FitsOneTick net.now schedule.now }
+    ensures { OnOk result (text_bytes sink.new ≡ text_bytes sink.old ++ (inputs_line net.now v.now ++ written net.now schedule.now)) }
 {
-    write_whole(sink, inputs)?;
+    put_inputs_line(net, v, sink)?;
     put_schedule(net, schedule, sink)
 }
 
@@ -81,9 +69,8 @@ fn file_of(
     requires fits { FitsOneTick net.now schedule.now }
     ensures { IfOk result (λ text. text.items ≡ inputs_line net.now v.now ++ written net.now schedule.now) }
 {
-    let inputs = inputs_of(alloc, net, v)?;
     let mut sink = TextSink::new(alloc);
-    match put_file(net, &inputs, schedule, &mut sink) {
+    match put_file(net, v, schedule, &mut sink) {
         Ok(()) => Ok(sink.into_vec()),
         Err(_) => Err(AllocError),
     }
