@@ -2,7 +2,7 @@ ghost use Rattle.std.specs.Prelude.{◌≡◌, ◌↔◌, ℕ, ◌+◌, ◌-◌,
 ghost use Rattle.std.specs.List.{slice_index_or};
 ghost use Rattle.bdd_store.specs.Arena.{empty, root_at, HasRoot, answer_to, with_answers, index, complemented, node_value, den, choice, top_of, IsNodeOf, IsBranching};
 ghost use Rattle.bdd_store.specs.Branches.{IsBranch};
-ghost use Rattle.bdd_store.specs.Soundness.{IsSound, SameFunction, IsLawful};
+ghost use Rattle.bdd_store.specs.Soundness.{IsSound, IsLawful};
 ghost use Rattle.bdd_store.specs.Growth.{KeepsNodes, IsEntered, IsRefused, IsNewFunction, AddsAtMost};
 ghost use Rattle.bdd_store.specs.Sweeping.{KeepsRoots, HasReached, AllReached};
 
@@ -339,16 +339,5 @@ impl Store {
     {
         self.answers.put(choice, n)?;
         Ok(())
-    }
-
-    /// Whether two nodes have one function. They are then one node.
-    pub fn same_function(&self, m: Node, n: Node) -> bool
-        requires m { IsNodeOf self.now m }
-        requires n { IsNodeOf self.now n }
-        ensures same { IsTrue result ↔ SameFunction self.now m n }
-        ensures canonical { SameFunction self.now m n → m ≡ n }
-    {
-        self.laws();
-        m == n
     }
 }

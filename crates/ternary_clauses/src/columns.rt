@@ -2,10 +2,10 @@
 ghost use Rattle.std.specs.Prelude.{IfOk};
 ghost use Rattle.std.specs.Prelude.{◌≡◌};
 ghost use Rattle.ternary_clauses.specs.Formulas.{IsFormula};
-ghost use Rattle.ternary_clauses.specs.Columns.{vector_read, SaysColumns};
+ghost use Rattle.ternary_clauses.specs.Columns.{SaysColumns};
 
-use crate::formula::{ClausesFault, Formula, Rails, value_of};
-use std::alloc::{AllocError, Global};
+use crate::formula::{ClausesFault, Formula, Rails};
+use std::alloc::Global;
 
 /// New variables, one for each column of a vector: rails that are known, and free.
 pub fn add_columns(
@@ -22,11 +22,4 @@ pub fn add_columns(
         rails.push(column)?;
     }
     Ok(rails)
-}
-
-/// The vector of a model: which of the columns are 1.
-pub fn vector_of(alloc: Global, rails: &[Rails], model: &[bool]) -> Result<Vec<bool>, AllocError>
-    ensures { IfOk result (λ vector. vector.items ≡ vector_read model.now rails.now) }
-{
-    rails.iter().map(|r| value_of(model, r.one)).collect(alloc)
 }
