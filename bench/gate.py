@@ -5,7 +5,8 @@
   bench/gate.py WORD..        the same of the command `rt WORD..`, as `ci netlist`
   bench/gate.py --edits WORD..  and a line for each edit whose trial took ten seconds or more
   bench/gate.py --pid NUMBER  the same of a run of `rt ci` that goes already, from now on, of the text that stands here
-  bench/gate.py --way         the longest way of the first build, crate by crate, by the proofs in the table of docs/GATE.md
+  bench/gate.py --way         the longest way of the first build, crate by crate, by the proofs in the table of docs/GATE.md,
+                              where each crate that the program stands on has a figure there
   bench/gate.py --change CRATE..  what is proved anew after a change in each of these crates until `cyc` stands again, by that table
 
 The longest way is the chain of crates, each of which stands on the one before it, whose proofs take the most together:
@@ -139,6 +140,18 @@ def longest_way(minutes):
     return max(map(way_to, below), key=lambda way: way[-1][1])
 
 
+def print_recorded_way():
+    """Prints the longest way by the table, if it has a figure for each crate that the program stands on."""
+    minutes = recorded()
+    below, wanted = uses(), ["cyc"]
+    for crate in wanted:
+        wanted.extend(it for it in below[crate] if it not in wanted)
+    missing = [it for it in below if it in wanted and it not in minutes]
+    if missing:
+        sys.exit(f"no proof time in docs/GATE.md for {', '.join(missing)}: the way could lead through a crate without one")
+    print_way(minutes)
+
+
 def print_way(minutes):
     print("| on the longest way | proof | sum |\n|---|---:|---:|")
     for crate, so_far in longest_way(minutes):
@@ -186,7 +199,7 @@ def table(spent):
 
 def main(words):
     if words == ["--way"]:
-        print_way(recorded())
+        print_recorded_way()
         return 0
     if words[:1] == ["--change"]:
         print_changes(words[1:], recorded())
