@@ -11,6 +11,9 @@ use crate::trail::{Trail, is_open, is_true, phase_of};
 /// What the search is to do where no clause forces anything.
 #[derive(Clone, Copy)]
 pub(crate) enum Next {
+    /// An assumption is open.
+    Assume(Lit),
+    /// The assumptions are true, and a variable is open.
     Decide(Lit),
     /// An assumption is false.
     Fails(Lit),
@@ -44,7 +47,7 @@ pub(crate) fn next_decision(trail: &Trail, queue: &mut Queue, assumptions: &[Lit
     ensures { IsNext trail.now.values.items assumptions.now result }
 {
     match next_assumption(trail, assumptions) {
-        Some(lit) if is_open(trail, lit) => Next::Decide(lit),
+        Some(lit) if is_open(trail, lit) => Next::Assume(lit),
         Some(lit) => Next::Fails(lit),
         None => match next_variable(trail, queue) {
             Some(lit) => Next::Decide(lit),
