@@ -5,6 +5,7 @@ ghost use Rattle.sat.specs.Answers.{IsVerdict};
 
 use crate::clauses::Clauses;
 use crate::engine::Engine;
+use crate::learning::fix_assumed;
 use crate::lit::Lit;
 use crate::merits::GIVEN;
 use crate::reduction::reduce;
@@ -92,14 +93,15 @@ impl Engine {
         ensures { Extends self.old.database self.new.database }
     {
         raise(pace);
-        let is_full = self.search.merits.passing > pace.limit;
-        if is_due(pace) {
+        let is_due = is_due(pace);
+        if self.search.merits.passing > pace.limit {
+            back_to(&mut self.search, 0);
+            return reduce(alloc, &mut self.database, &mut self.search);
+        }
+        if is_due {
             let level = first_level(&self.search.trail);
             back_to(&mut self.search, level);
-        }
-        if is_full {
-            back_to(&mut self.search, 0);
-            reduce(alloc, &mut self.database, &mut self.search)?;
+            fix_assumed(&mut self.database, &mut self.search, &mut self.working)?;
         }
         Ok(())
     }

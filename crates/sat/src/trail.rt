@@ -244,6 +244,12 @@ pub(crate) fn assumed_lits(trail: &Trail) -> &[Lit] {
     &lits[start..end]
 }
 
+/// Whether a literal's variable has its value by the assumptions, and isn't one of theirs.
+pub(crate) fn is_implied(trail: &Trail, lit: Lit) -> bool {
+    let cause = cause_of(trail, lit);
+    cause.reason != NONE && 0 < cause.level && cause.level <= first_level(trail)
+}
+
 /// Takes the last literal back, if it was assigned past a place.
 pub(crate) fn take_back(trail: &mut Trail, start: usize) -> Option<Lit> {
     if trail.lits.as_slice().len() <= start {
