@@ -7,6 +7,7 @@
   bench/gate.py --pid NUMBER  the same of a run of `rt ci` that goes already, from now on, of the text that stands here
   bench/gate.py --way         the longest way of the first build, crate by crate, by the proofs in the table of docs/GATE.md,
                               where each crate that the program stands on has a figure there
+  bench/gate.py --change CRATE..  what is proved anew after a change in each of these crates until `cyc` stands again, by that table
 
 The longest way is the chain of crates, each of which stands on the one before it, whose proofs take the most together:
 however many crates are checked side by side, a first build isn't shorter. It is printed below the table of a run too.
@@ -158,6 +159,30 @@ def print_way(minutes):
     print(f"\n{sum(minutes.values()):.1f} minutes in all")
 
 
+def above(crate):
+    """This crate, and those above it that the program stands on."""
+    below = uses()
+
+    @functools.cache
+    def reaches(one, other):
+        return one == other or any(reaches(it, other) for it in below[one])
+
+    return [it for it in below if reaches(it, crate) and reaches("cyc", it)]
+
+
+def print_changes(crates, minutes):
+    """How long it takes until `cyc` stands again: no less than the dearest chain of these crates, nor than a quarter of all."""
+    below = uses()
+    print("| a change in | crates proved again | processor minutes | minutes on four processors |\n|---|---:|---:|---:|")
+    for crate in crates:
+        changed = above(crate)
+        way = {}
+        for it in changed:
+            way[it] = minutes.get(it, 0) + max((way[low] for low in below[it] if low in way), default=0)
+        whole = sum(minutes.get(it, 0) for it in changed)
+        print(f"| `{crate}` | {len(changed)} | {whole:.0f} | {max(way['cyc'], whole / 4):.0f} |")
+
+
 def table(spent):
     sums = collections.Counter()
     for crate, kind, _, seconds in spent:
@@ -175,6 +200,9 @@ def table(spent):
 def main(words):
     if words == ["--way"]:
         print_recorded_way()
+        return 0
+    if words[:1] == ["--change"]:
+        print_changes(words[1:], recorded())
         return 0
     if words[:1] == ["--pid"]:
         table(watched(int(words[1]), lambda: os.path.exists(f"/proc/{words[1]}")))
