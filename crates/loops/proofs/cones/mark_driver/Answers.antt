@@ -1,6 +1,6 @@
 use Rattle.std.proofs.Common.{arith}
-use Rattle.isolation.proofs.MarkLemmas.{driver-none, driver-marked}
-use Rattle.isolation.proofs.cones.mark_driver.Goals as goal
+use Rattle.loops.proofs.MarkLemmas.{driver-none, driver-marked}
+use Rattle.loops.proofs.cones.mark_driver.Goals as goal
 
 pub returns-in-Some : goal.returns-in-Some
 returns-in-Some c =

@@ -1,7 +1,7 @@
 use Rattle.std.proofs.Common.{ℕ, ◌≡◌, ◌∙◌, ◌<◌, ap, length, subst}
-use Rattle.isolation.proofs.Common.{Blocks, block_at, get_or_default}
+use Rattle.loops.proofs.Common.{Blocks, block_at, get_or_default}
 use Rattle.loops.proofs.OrderLemmas.{block_gates, gates_within}
-use Rattle.isolation.proofs.excerpt.gates_at.Goals as goal
+use Rattle.loops.proofs.looped_netlist.gates_at.Goals as goal
 
 pub returns-clause-within : goal.returns-clause-within
 returns-clause-within c k d l =

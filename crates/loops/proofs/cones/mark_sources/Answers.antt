@@ -1,7 +1,7 @@
 use Rattle.std.proofs.Common.{◌∙◌, ap, arith}
-use Rattle.isolation.proofs.Common.{Gate}
-use Rattle.isolation.proofs.MarkLemmas.{pin-more, pins-marked}
-use Rattle.isolation.proofs.cones.mark_sources.Goals as goal
+use Rattle.netlist.specs.declared.parts.Gate.{Gate}
+use Rattle.loops.proofs.MarkLemmas.{pin-more, pins-marked}
+use Rattle.loops.proofs.cones.mark_sources.Goals as goal
 
 pub loop-pin-preserved : goal.loop-pin-preserved
 loop-pin-preserved c =

@@ -1,6 +1,6 @@
 use Rattle.std.proofs.Common.{◌-◌, arith}
-use Rattle.isolation.proofs.MarkLemmas.{marked-more, marked-all}
-use Rattle.isolation.proofs.cones.mark_upstream.Goals as goal
+use Rattle.loops.proofs.MarkLemmas.{marked-more, marked-all}
+use Rattle.loops.proofs.cones.mark_upstream.Goals as goal
 
 pub loop-place-init : goal.loop-place-init
 loop-place-init c = grind arith

@@ -1,8 +1,8 @@
 -- Which gates lie upstream of others.
 use Rattle.std.proofs.Common.{◌≡◌, inl, inr, ℕ, ◌<◌, List, [], ◌∷◌, length, sym, subst, arith}
-use Rattle.isolation.proofs.Common.{Parts, Feeds, Blocks, AreBlocksOf, home_of, leads-trans, IsUpstream}
-use Rattle.netlist.specs.Walks.{Walk}
-use Rattle.loops.specs.Walks.{AnyGate, Leads}
+use Rattle.loops.proofs.Common.{AnyGate, AreBlocksOf, Blocks, Feeds, Leads, Parts, Walk, home_of}
+use Rattle.loops.specs.Walks.{IsUpstream}
+use Rattle.loops.proofs.Walks.{leads-trans}
 
 pub upstream-trans : (net : Parts) (a b c : ℕ) → IsUpstream net a b → IsUpstream net b c → IsUpstream net a c
 upstream-trans net a b c (inl e) q = subst (λ (n : ℕ). IsUpstream net n c) (sym e) q

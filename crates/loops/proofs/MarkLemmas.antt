@@ -1,12 +1,15 @@
--- Marks while gates are marked from the last block to the first.
-use Rattle.std.proofs.Common.{◌≡◌, inl, inr, ◌⊎◌, ◌↔◌, ℕ, zero, suc, ◌+◌, ◌<◌, ◌≤◌, Bool, true, false, List, [], ◌∷◌, length, get_or, replicate, Option, Some, refl, sym, ap, ◌∙◌, subst, arith, Contains}
+-- Marks while gates are marked from the last block to the first, and lists of marked gates.
+use Rattle.std.proofs.Common.{◌≡◌, inl, inr, ◌⊎◌, ◌↔◌, ℕ, zero, suc, ◌+◌, ◌<◌, ◌≤◌, Bool, true, false, List, [], ◌∷◌, ◌++◌, length, get_or, replicate, Option, Some, refl, sym, ap, ◌∙◌, subst, arith, Contains, true≢false}
 use Rattle.std.proofs.Math.ListN.{set}
 use Rattle.std.specs.Prelude.{IfNone}
-use Rattle.isolation.proofs.Common.{cases_lt, cases_eq, get_or_default, Sig, Parts, IsNetlist, gate_at, gate_sig, Feeds, Blocks, AreBlocksOf, block_at, home_of, first_gate, gate_home, home_gate, gate_in, IsUpstream, AddMarks, IsNearOne, AreMarkedFrom, Contains-get_or}
-use Rattle.std.proofs.lemmas.List.{get_or-set_same, get_or-set_other, length-set}
+use Rattle.loops.proofs.Common.{cases_lt, cases_eq, get_or_append_left, get_or_default, get_or-set_other, get_or-set_same, length-set, Contains-append_left, Contains-get_or, Contains-push, Contains-push_cases, Sig, Parts, gate_at, gate_sig, Feeds, Blocks, AreBlocksOf, block_at, home_of, first_gate}
+use Rattle.netlist.specs.Netlists.{IsNetlist}
+use Rattle.std.proofs.lemmas.List.{get_or_push, length_push}
+use Rattle.loops.proofs.Told.{gate_home, home_gate}
 use Rattle.loops.proofs.Walks.{leads-step}
-use Rattle.isolation.specs.Cones.{is_marked, AreUpstreamMarks, IsConeOf, IsOnPin, IsNear, IsWithMark}
-use Rattle.isolation.proofs.UpstreamLemmas.{upstream-trans, same-up, upstream-closed}
+use Rattle.loops.specs.Cones.{is_marked, AddMarks, AreMarkedFrom, AreUpstreamMarks, IsConeOf, IsOnPin, IsNear, IsNearOne, IsWithMark, ListsMarked}
+use Rattle.loops.specs.Walks.{IsUpstream}
+use Rattle.loops.proofs.UpstreamLemmas.{upstream-trans, same-up, upstream-closed}
 
 -- nothing is marked for want of a gate of the kind
 pub add-none : (kind : ℕ → Type 0) (old : List Bool) → ((m : ℕ) → ¬ kind m) → AddMarks kind old old
@@ -100,28 +103,28 @@ module _ (net : Parts) (blocks : Blocks) (are : AreBlocksOf net blocks) (old : L
       member : (n : ℕ) → Contains gates n → (n < length net.gates) × (home_of blocks n ≡ b)
       member n c = gate_home net blocks are b n less (subst (λ (xs : List ℕ). Contains xs n) same c)
 
-      at : (place : ℕ) → place < length gates → (gate_in gates place < length net.gates) × (home_of blocks (gate_in gates place) ≡ b)
-      at place l = member (gate_in gates place) (Contains-get_or gates place 0 l)
+      at : (place : ℕ) → place < length gates → (get_or gates place 0 < length net.gates) × (home_of blocks (get_or gates place 0) ≡ b)
+      at place l = member (get_or gates place 0) (Contains-get_or gates place 0 l)
 
       near-low : (n : ℕ) → IsNearOne net gates (length gates) n → home_of blocks n ≤ b
       near-low n near = by near.near
         where
-          by : IsNear net (gate_in gates near.place) n → home_of blocks n ≤ b
+          by : IsNear net (get_or gates near.place 0) n → home_of blocks n ≤ b
           by (inl e) = let h = at near.place near.within in let s = ap (home_of blocks) e ∙ h.1 in omega (arith, s)
-          by (inr feeds) = let h = at near.place near.within in let a = are.after_reads n (gate_in gates near.place) feeds in let s = h.1 in omega (arith, a, s)
+          by (inr feeds) = let h = at near.place near.within in let a = are.after_reads n (get_or gates near.place 0) feeds in let s = h.1 in omega (arith, a, s)
 
       near-up : (m : ℕ) → IsNearOne net gates (length gates) m → (g : ℕ) → g < length net.gates → home_of blocks g ≡ b → IsUpstream net m g
       near-up m near g gl home = by near.near
         where
-          h : (gate_in gates near.place < length net.gates) × (home_of blocks (gate_in gates near.place) ≡ b)
+          h : (get_or gates near.place 0 < length net.gates) × (home_of blocks (get_or gates near.place 0) ≡ b)
           h = at near.place near.within
 
-          up : IsUpstream net (gate_in gates near.place) g
-          up = same-up net blocks are (gate_in gates near.place) g h.0 gl (h.1 ∙ sym home)
+          up : IsUpstream net (get_or gates near.place 0) g
+          up = same-up net blocks are (get_or gates near.place 0) g h.0 gl (h.1 ∙ sym home)
 
-          by : IsNear net (gate_in gates near.place) m → IsUpstream net m g
+          by : IsNear net (get_or gates near.place 0) m → IsUpstream net m g
           by (inl e) = subst (λ (k : ℕ). IsUpstream net k g) (sym e) up
-          by (inr feeds) = upstream-trans net m (gate_in gates near.place) g (inr (leads-step net m (gate_in gates near.place) feeds)) up
+          by (inr feeds) = upstream-trans net m (get_or gates near.place 0) g (inr (leads-step net m (get_or gates near.place 0) feeds)) up
 
   pub marked-all : (marks : List Bool) → AreMarkedFrom net blocks old 0 marks → AreUpstreamMarks net old marks
   marked-all marks from = record {
@@ -153,3 +156,43 @@ cone_marked net gates start marks new none adds are = grind arith
 -- one gate's
 pub cone_of_one : (net : Parts) (gate : ℕ) (marks : List Bool) → IsConeOf net (gate ∷ []) marks → (m : ℕ) → m < length net.gates → (is_marked marks m ≡ true) ↔ IsUpstream net m gate
 cone_of_one net gate marks are m less = grind arith
+
+-- ---- while marked gates are listed
+
+pub listed-skip : (marks : List Bool) (n : ℕ) (gates : List ℕ) → is_marked marks n ≡ false → ListsMarked marks n gates → ListsMarked marks (n + 1) gates
+listed-skip marks n gates unmarked are = record {
+  rise = are.rise;
+  each = λ m. (
+    λ c. let h = (are.each m).0 c in ((let l = h.0 in omega (arith, l)), h.1),
+    λ h. elim (cases_lt m n) [
+      | inl low ↦ (are.each m).1 (low, h.1)
+      | inr high ↦ absurd (let l = h.0 in let e : m ≡ n = omega (arith, l, high) in true≢false (sym h.1 ∙ ap (is_marked marks) e ∙ unmarked))
+    ],
+  );
+}
+
+pub listed-push : (marks : List Bool) (n : ℕ) (gates : List ℕ) → is_marked marks n ≡ true → ListsMarked marks n gates → ListsMarked marks (n + 1) (gates ++ n ∷ [])
+listed-push marks n gates marked are =
+    record {
+      rise = λ i j l jl. elim (cases_lt j (length gates)) [
+        | inl low ↦
+            let a = get_or_append_left gates (n ∷ []) 0 i (omega (arith, l, low)) in
+            omega (arith, are.rise i j l low, a, get_or_append_left gates (n ∷ []) 0 j low)
+        | inr high ↦
+            let at : length gates ≡ j = omega (arith, length_push gates n) in
+            let b = get_or_push gates n 0 j (omega (arith, at)) in
+            let il : i < length gates = omega (arith, l, at) in
+            let h = (are.each (get_or gates i 0)).0 (Contains-get_or gates i 0 il) in
+            omega (arith, h.0, get_or_append_left gates (n ∷ []) 0 i il, b)
+      ];
+      each = λ m. (
+        λ c. elim (Contains-push_cases gates n m c) [
+          | inl there ↦ let h = (are.each m).0 there in ((let l = h.0 in omega (arith, l)), h.1)
+          | inr e ↦ (omega (arith, e), ap (is_marked marks) (sym e) ∙ marked)
+        ],
+        λ h. elim (cases_lt m n) [
+          | inl low ↦ Contains-append_left gates (n ∷ []) m ((are.each m).1 (low, h.1))
+          | inr high ↦ (let l = h.0 in let e : n ≡ m = omega (arith, l, high) in subst (Contains (gates ++ n ∷ [])) e (Contains-push gates n))
+        ],
+      );
+    }

@@ -3,18 +3,17 @@
 ghost use Rattle.std.specs.Prelude.{◌≡◌, ◌<◌, ℕ, false, length, All, Contains, IfOk};
 ghost use Rattle.netlist.specs.Netlists.{gate_sig, IsSignal};
 ghost use Rattle.netlist.specs.Walks.{Feeds};
-ghost use Rattle.isolation.specs.Cones.{is_marked, AddMarks, AreUpstreamMarks, IsConeOf, IsNear, IsNearOne, IsWithMark};
+ghost use Rattle.loops.specs.Cones.{is_marked, AddMarks, AreUpstreamMarks, IsConeOf, IsNear, IsNearOne, IsWithMark};
 
-use crate::excerpt::gates_at;
+use crate::looped_netlist::{LoopedNetlist, gates_at};
 use cyc_base::Sig;
-use loops::LoopedNetlist;
 use netlist::Netlist;
 use std::alloc::{AllocError, Global};
 
 /// Marks the gate that drives a signal, if one does: an input or a latch has none.
 ///
 /// The condition is that the signal is the netlist's, and that there is a mark for each gate.
-pub fn mark_driver(net: &Netlist, signal: Sig, marks: &mut [bool])
+fn mark_driver(net: &Netlist, signal: Sig, marks: &mut [bool])
     requires signal { IsSignal net.now signal }
     requires width { length marks.old ≡ length net.now.gates }
     ensures { AddMarks (λ m. signal ≡ gate_sig net.now m) marks.old marks.new }

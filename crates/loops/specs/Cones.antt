@@ -4,8 +4,7 @@ use Rattle.netlist.specs.declared.parts.Parts.{Parts}
 use Rattle.netlist.specs.Walks.{Feeds}
 use Rattle.loops.specs.declared.structure.Blocks.{Blocks}
 use Rattle.loops.specs.Blocks.{home_of}
-use Rattle.isolation.specs.Excerpts.{gate_in}
-use Rattle.isolation.specs.Laws.{IsUpstream}
+use Rattle.loops.specs.Walks.{IsUpstream}
 
 -- a gate is marked
 abbrev pub is_marked : List Bool → ℕ → Bool
@@ -55,7 +54,7 @@ IsNear net gate m = (m ≡ gate) ⊎ Feeds net m gate
 pub record IsNearOne (net : Parts) (gates : List ℕ) (k m : ℕ) : Type 0 where
   pub place : ℕ
   pub within : place < k
-  pub near : IsNear net (gate_in gates place) m
+  pub near : IsNear net (slice_index_or gates place 0) m
 
 -- one of these gates is marked
 pub record HasMark (gates : List ℕ) (marks : List Bool) : Type 0 where
@@ -70,7 +69,7 @@ pub record IsWithMark (net : Parts) (gates : List ℕ) (marks : List Bool) (m : 
 
 -- the first n gates that are marked, in flat order
 pub record ListsMarked (marks : List Bool) (n : ℕ) (gates : List ℕ) : Type 0 where
-  pub rise : (i j : ℕ) → i < j → j < length gates → gate_in gates i < gate_in gates j
+  pub rise : (i j : ℕ) → i < j → j < length gates → slice_index_or gates i 0 < slice_index_or gates j 0
   pub each : (m : ℕ) → Contains gates m ↔ ((m < n) × (is_marked marks m ≡ true))
 
 -- What is marked once the blocks from place b on have been passed: with each gate of them what is on its pins.
