@@ -1,10 +1,10 @@
 use Rattle.std.proofs.Common.{None, arith}
 use Rattle.refusals.proofs.LawLemmas.{sources_determined}
 use Rattle.verdict.proofs.VerdictLemmas.{accepts-is, refused-on-care}
-use Rattle.verdict.proofs.clauses.verdict_by_invariance.Goals as goal
+use Rattle.verdict.proofs.clauses.judge_by_invariance.Goals as goal
 
 pub invariance_of-requires : goal.invariance_of-requires
-invariance_of-requires c v counts = sources_determined c.args.search.now.net c.args.search.now.care c.args.observe v c.laws.ensures.is.net c.requires.determined.number.none counts
+invariance_of-requires c v counts = sources_determined c.args.search.now.net c.args.search.now.care c.args.observe v c.laws.ensures.is.net c.requires.determined.none counts
 
 pub returns-in-Stays : goal.returns-in-Stays
 returns-in-Stays c =

@@ -1,10 +1,10 @@
 use Rattle.std.proofs.Common.{◌≡◌, length, rules, arith}
 use Rattle.verdict.proofs.Common.{IsFullFor}
 use Rattle.verdict.proofs.CauseLemmas.{out_of_nodes, below_enough}
-use Rattle.verdict.proofs.deciding.decide.Goals as goal
-use Rattle.verdict.proofs.deciding.decide.Goals.{In-Err-Full}
+use Rattle.verdict.proofs.judging.judge_anew.Goals as goal
+use Rattle.verdict.proofs.judging.judge_anew.Goals.{In-Err-Full}
 
-full : (c : In-Err-Full) → IsFullFor c.start.new.self c.decide_on.new.d c.args.net.now c.args.care.now
+full : (c : In-Err-Full) → IsFullFor c.start.new.self c.judge_from_columns.new.d c.args.question.now.net c.args.question.now.care
 full c = grind arith
 
 -- the diagrams were begun anew
