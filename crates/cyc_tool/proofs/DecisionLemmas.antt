@@ -27,18 +27,20 @@ use Rattle.unroll.specs.declared.fault.UnrollFault.TheVariants.{TooLarge, Memory
 use Rattle.loops.specs.declared.structure.Blocks.{Blocks}
 use Rattle.loops.specs.declared.structure.Cut.{Cut}
 use Rattle.loops.specs.declared.structure.SweepCounts.{SweepCounts}
-use Rattle.verdict.specs.Verdicts.{AreLoose, AreSweepsOnCare, IsVerdict}
+use Rattle.verdict.specs.Verdicts.{AreLoose, AreSweepsOnCare, IsJudgement, IsVerdict}
 use Rattle.verdict.specs.Causes.{IsOutOfNodes}
 use Rattle.verdict.specs.Enough.{IsBelowEnough}
 use Rattle.verdict.specs.declared.fault.DecideFault.{DecideFault}
 use Rattle.verdict.specs.declared.fault.DecideFault.TheVariants.{NodeLimit, Memory as WantsMemory}
+use Rattle.verdict.specs.declared.judgement.Judgement.{Judgement}
+use Rattle.verdict.specs.declared.judgement.Judgement.TheVariants as judgements
 use Rattle.verdict.specs.declared.verdict.Verdict.{Verdict}
 use Rattle.verdict.specs.declared.verdict.Verdict.TheVariants.{Accepted, Refused}
 use Rattle.cyc_tool.specs.Answer.{decided, verdict_of}
 use Rattle.cyc_tool.specs.Calls.{IsAccepted, IsMadeFor, IsToldAlone, Verdict as ByVerdict}
 use Rattle.cyc_tool.specs.Endings.{accepted_told, aiger_told, count_of_loops, loops_explained, refused_told, where_outputs}
 use Rattle.cyc_tool.specs.Plans.{Decision, Declines}
-use Rattle.cyc_tool.specs.Seen.{IsLimitOf, IsOutgrown, IsRefusalTold, IsShown, IsTellable, IsToldOf, IsToldOfGraph}
+use Rattle.cyc_tool.specs.Seen.{IsLimitOf, IsOutgrown, IsRefusalTold, IsSaid, IsShown, IsTellable, IsToldRefusal, IsToldOf, IsToldOfGraph}
 use Rattle.cyc_tool.specs.Texts.{limit_reached}
 use Rattle.cyc_tool.specs.declared.outcome.Outcome.{Outcome as Told}
 
@@ -89,18 +91,18 @@ refusal_shown net care what (Undetermined v wire) valid is =
     let known = (refusal_is_shown net care what (Undetermined v wire) valid is).1 (λ e. cc) in known.unknown
 
 -- a decision that met its limit of nodes
-at_limit : (result : Result Verdict DecideFault) (nodes limit : ℕ) → result ≡ Err (NodeLimit nodes)
+at_limit : {T : Type 0} (result : Result T DecideFault) (nodes limit : ℕ) → result ≡ Err (NodeLimit nodes)
     → IfErr result (λ fault. (fault ≡ WantsMemory) ⊎ (fault ≡ NodeLimit limit)) → NodeLimit nodes ≡ NodeLimit limit
-at_limit result nodes limit is fault =
-    let P : Result Verdict DecideFault → Type 0 = λ r. IfErr r (λ fault. (fault ≡ WantsMemory) ⊎ (fault ≡ NodeLimit limit)) in
+at_limit {T} result nodes limit is fault =
+    let P : Result T DecideFault → Type 0 = λ r. IfErr r (λ fault. (fault ≡ WantsMemory) ⊎ (fault ≡ NodeLimit limit)) in
     let cases : (NodeLimit nodes ≡ WantsMemory) ⊎ (NodeLimit nodes ≡ NodeLimit limit) = subst P is fault in
     elim cases [ inl e ↦ cc | inr e ↦ e ]
 
 nodes_are : (nodes limit : ℕ) → NodeLimit nodes ≡ NodeLimit limit → nodes ≡ limit
 nodes_are nodes limit e = cc
 
-pub limit_decides : (net : Parts) (care : CareSet) (limit : ℕ) (what : Observe) (purpose : Purpose) (arena : Arena) (end : Told)
-    (result : Result Verdict DecideFault) (fault : DecideFault) → result ≡ Err fault → IsLimitOf fault end
+pub limit_decides : {T : Type 0} (net : Parts) (care : CareSet) (limit : ℕ) (what : Observe) (purpose : Purpose) (arena : Arena) (end : Told)
+    (result : Result T DecideFault) (fault : DecideFault) → result ≡ Err fault → IsLimitOf fault end
     → IfErr result (λ fault. (fault ≡ WantsMemory) ⊎ (fault ≡ NodeLimit limit))
     → (result ≡ Err (NodeLimit limit) → IsOutOfNodes arena net care limit) → (result ≡ Err (NodeLimit limit) → IsBelowEnough net care limit)
     → IsDecided (decision_of net care limit what) purpose arena (outcome_of end)
@@ -110,12 +112,20 @@ limit_decides net care limit what purpose arena end result (NodeLimit nodes) is 
     Limit (record { cause = cause met; below = enough met }) (same ∙ ap limit_reached (nodes_are nodes limit at))
 limit_decides net care limit what purpose arena end result WantsMemory is same faults cause enough = absurd same
 
--- a verdict can be told of its netlist
+-- a refusal can be told of its netlist, and so can a judgement and a verdict
+told_refusal : (net : Parts) (care : CareSet) (what : Observe) (refused : Refusal) → IsNetlist net → refusal net care what ≡ Some refused
+    → IsToldRefusal net refused
+told_refusal net care what refused valid is = (refusal_fits net care what refused valid is, refusal_shown net care what refused valid is)
+
+pub judgement_fits : (net : Parts) (care : CareSet) (what : Observe) (judgement : Judgement) → IsNetlist net
+    → IsJudgement net care what judgement → IsSaid net judgement
+judgement_fits net care what (judgements.Accepted loose) valid is = tt
+judgement_fits net care what (judgements.Refused refused) valid is = told_refusal net care what refused valid is
+
 pub verdict_fits : (net : Parts) (blocks : Blocks) (cut : Cut) (care : CareSet) (what : Observe) (verdict : Verdict) → IsNetlist net
     → IsVerdict net blocks cut care what verdict → IsTellable net blocks verdict
 verdict_fits net blocks cut care what (Accepted counts loose) valid is = is.sweeps.width
-verdict_fits net blocks cut care what (Refused refused) valid is =
-    (refusal_fits net care what refused valid is, refusal_shown net care what refused valid is)
+verdict_fits net blocks cut care what (Refused refused) valid is = told_refusal net care what refused valid is
 
 -- what is told of an accepted netlist for each purpose
 pub judged : (net : Parts) (care : CareSet) (limit : ℕ) (what : Observe) (loose : ℕ) (given : Option ℕ) (end : Outcome)

@@ -14,7 +14,7 @@ ghost use Rattle.cyc_tool.specs.Requests.{Shows, request, shown_by};
 ghost use Rattle.cyc_tool.specs.Seen.{end_of, outcome_of, purpose_seen, stop_outcome};
 
 use crate::compared::compare_files;
-use crate::decision::{Purpose, Task, tell_decision};
+use crate::decision::{Making, Purpose, Task, Telling, tell_decision};
 use crate::outcome::{Outcome, Stop, or_stop};
 use crate::plays::{RecordedRun, known, played, probed};
 use crate::reading::{read_care, read_netlist, read_schedule_file, read_vector_file, stop_at};
@@ -220,16 +220,44 @@ fn carry_out<S: Shelf>(
     };
     match command {
         Command::Check(netlist, options) => {
-            decide_file(alloc, shelf, netlist, options, Purpose::Judge, d)
+            decide_file(
+                alloc,
+                shelf,
+                netlist,
+                options,
+                Purpose::Tell(Telling::Judge),
+                d,
+            )
         }
         Command::Rewrite(netlist, options) => {
-            decide_file(alloc, shelf, netlist, options, Purpose::Rewrite, d)
+            decide_file(
+                alloc,
+                shelf,
+                netlist,
+                options,
+                Purpose::Make(Making::Rewrite),
+                d,
+            )
         }
         Command::Aiger(netlist, options) => {
-            decide_file(alloc, shelf, netlist, options, Purpose::Aiger, d)
+            decide_file(
+                alloc,
+                shelf,
+                netlist,
+                options,
+                Purpose::Make(Making::Aiger),
+                d,
+            )
         }
         Command::Explain(netlist, options, form) => {
-            decide_file(alloc, shelf, netlist, options, Purpose::Explain(form), d)
+            decide_file(
+                alloc,
+                shelf,
+                netlist,
+                options,
+                Purpose::Make(Making::Explain(form)),
+                d,
+            )
         }
         Command::Equal(netlist, second, options) => {
             compare_files(alloc, shelf, netlist, second, options, d)
@@ -248,7 +276,14 @@ fn carry_out<S: Shelf>(
         }
         Command::Demo(cells) => demo(alloc, cells, d),
         Command::Storm(netlist, rounds, options) => {
-            decide_file(alloc, shelf, netlist, options, Purpose::Storm(rounds), d)
+            decide_file(
+                alloc,
+                shelf,
+                netlist,
+                options,
+                Purpose::Tell(Telling::Storm(rounds)),
+                d,
+            )
         }
         Command::Help => or_stop(tell_help(alloc)),
         Command::HelpOn(topic) => or_stop(tell_topic(alloc, topic)),

@@ -4,6 +4,8 @@
 #![tactic(auto)]
 
 #[cfg(test)]
+mod by_clauses;
+#[cfg(test)]
 mod clauses;
 #[cfg(test)]
 mod comparisons;
