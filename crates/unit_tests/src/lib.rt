@@ -4,6 +4,8 @@
 #![tactic(auto)]
 
 #[cfg(test)]
+mod clause_parts;
+#[cfg(test)]
 mod clauses;
 #[cfg(test)]
 mod comparisons;
