@@ -6,6 +6,8 @@
 #[cfg(test)]
 mod by_clauses;
 #[cfg(test)]
+mod clause_parts;
+#[cfg(test)]
 mod clauses;
 #[cfg(test)]
 mod comparisons;
