@@ -16,4 +16,4 @@ returns c =
       ands = (let n = c.count.ensures.count in let few = c.count.ensures.within in omega (arith, n, few));
       outputs = few_outputs net valid;
     } in
-    text_reads net built bounded
+    text_reads net built bounded c.args.encoding
