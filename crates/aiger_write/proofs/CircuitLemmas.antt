@@ -20,11 +20,10 @@ use Rattle.aig_core.specs.Graphs.{first_and}
 use Rattle.aig_core.specs.Soundness.{IsSound, IsSoundAnd}
 use Rattle.aig_core.specs.Answers.{FitsNetlist}
 use Rattle.aiger_write.specs.Circuits.{Circuit, CircuitLatch, CircuitAnd, Symbol, symbol, symbols_of, input_edge, latch_edge, and_edge, next_edge, circuit_latch, circuit_and, circuit, input_letter, latch_letter, output_letter}
-use Rattle.aiger_write.specs.Text.{numbers_line, init_words, head_text, latches_text, ands_text, names_text, symbols_text, loads_text, groups_text, groups, ascii_text, binary_text, aiger_text}
-use Rattle.aiger_write.specs.Reading.{Header, Reader, ◌>>=◌, given, each, is_lf, line, lines, header, header_of, has_room, is_literal, is_own, input_of, output_of, loading, latch_of, latch_line_of, and_of, and_line_of, places_of, symbol_line_of, symbol_lines_of, symbols, ascii, read_ascii, is_full, falling, load, differences, binary, read_binary, read}
+use Rattle.aiger_write.specs.Text.{numbers_line, init_words, head_text, latches_text, ands_text, names_text, symbols_text, loads_text, groups_text, groups, aiger_text, binary_text}
+use Rattle.aiger_write.specs.Reading.{Header, Reader, ◌>>=◌, given, each, is_lf, line, lines, header, header_of, has_room, is_literal, is_own, input_of, output_of, loading, latch_of, latch_line_of, and_of, and_line_of, places_of, symbol_line_of, symbol_lines_of, symbols, ascii, read_ascii, is_full, falling, load, differences, binary, read_binary}
 use Rattle.aiger_write.specs.Reading as reading
-use Rattle.aiger_write.specs.declared.encoding.Encoding.{Encoding}
-use Rattle.aiger_write.specs.declared.encoding.Encoding.TheVariants.{Ascii, Binary}
+use Rattle.aiger_write.proofs.TextLemmas.{few_outputs}
 use Rattle.aiger_write.proofs.ReadingLemmas.{Takes, Ends, takes_then, then_ends, takes_meaning, each_takes, each_alike, Lacks, up_to_at, decimal_lacks, number_decimal, AreSmall, line_takes, groups_take}
 
 -- the header of a graph
@@ -160,6 +159,17 @@ pub record IsBounded (net : Parts) (built : Built) : Type 0 where
   pub ands : length built.aig.ands ≤ 4000000
   pub outputs : length net.outputs ≤ 4294967295
 
+pub bounded : (net : Parts) (built : Built) (ands : ℕ) → IsNetlist net → FitsNetlist net built → IsSound built.aig
+    → built.aig.inputs + built.aig.latches ≤ 1000000000 → ands ≡ length built.aig.ands → ands ≤ 4000000 → IsBounded net built
+bounded net built ands valid fits sound columns count few = record {
+  valid = valid;
+  fits = fits;
+  sound = sound;
+  columns = columns;
+  ands = omega (arith, count, few);
+  outputs = few_outputs net valid;
+}
+
 module _ (net : Parts) (built : Built) (is : IsBounded net built) where
   abbrev h : Header
   h = header_for built
@@ -287,7 +297,7 @@ module _ (net : Parts) (built : Built) (is : IsBounded net built) where
       ap (option_and_then (λ taken. given (Some (record { most = h.most; inputs = c.inputs; latches = c.latches; outputs = c.outputs; ands = c.ands; symbols = taken.0 })) taken.1)) names_end
 
   -- the whole text
-  ascii_reads : read_ascii (ascii_text net built) ≡ Some (circuit net built)
+  pub ascii_reads : read_ascii (aiger_text net built) ≡ Some (circuit net built)
   ascii_reads =
       let names : List ℕ = names_text net in
       let ands : List ℕ = ands_text built.aig ++ names in
@@ -295,7 +305,7 @@ module _ (net : Parts) (built : Built) (is : IsBounded net built) where
       let latches : List ℕ = latches_text net built ++ outputs in
       let inputs : List ℕ = flat_map input_line (range_with_len 0 h.inputs) ++ latches in
       let c : Circuit = circuit net built in
-      let end : Ends ascii (ascii_text net built) c =
+      let end : Ends ascii (aiger_text net built) c =
       then_ends (header (codes "aag") has_room) behind_header (head_text (codes "aag ") built) inputs h c header_takes
       (then_ends (lines (input_of h) h.inputs) (behind_inputs h) (flat_map input_line (range_with_len 0 h.inputs)) latches c.inputs c inputs_take
       (then_ends (lines (latch_line_of h) h.latches) (behind_latches h c.inputs) (latches_text net built) outputs c.latches c latches_take
@@ -340,7 +350,7 @@ module _ (net : Parts) (built : Built) (is : IsBounded net built) where
       (groups_take (and.greater.0 - and.smaller.0))
       (falling_read j and (subst (λ n. slice_get built.aig.ands n ≡ Some and) (let same : i ≡ j = omega (arith, e) in same) at))))
 
-  binary_reads : read_binary (binary_text net built) ≡ Some (circuit net built)
+  pub binary_reads : read_binary (binary_text net built) ≡ Some (circuit net built)
   binary_reads =
       let names : List ℕ = names_text net in
       let ands : List ℕ = groups_text built.aig ++ names in
@@ -353,7 +363,3 @@ module _ (net : Parts) (built : Built) (is : IsBounded net built) where
       (then_ends (lines (output_of h) h.outputs) (behind_binary_outputs h c.latches) (flat_map output_line built.outputs) ands c.outputs c outputs_take
       (then_ends (each (differences h) (range_with_len 0 h.ands)) (behind_ands h c.inputs c.latches c.outputs) (groups_text built.aig) names c.ands c differences_take named))) in
       ap (option_map (λ taken. taken.0)) end
-
-  pub text_reads : (encoding : Encoding) → read encoding (aiger_text encoding net built) ≡ Some (circuit net built)
-  text_reads Ascii = ascii_reads
-  text_reads Binary = binary_reads

@@ -10,8 +10,6 @@ use Rattle.netlist.specs.declared.parts.Init.{Init}
 use Rattle.netlist.specs.declared.parts.Init.TheVariants.{Zero, One, Either}
 use Rattle.aig_core.specs.declared.edge.Edge.{Edge}
 use Rattle.aig_core.specs.Graphs.{edge}
-use Rattle.aiger_write.specs.declared.encoding.Encoding.{Encoding}
-use Rattle.aiger_write.specs.declared.encoding.Encoding.TheVariants.{Ascii, Binary}
 use Rattle.aiger_write.specs.Circuits.{Circuit, CircuitLatch, CircuitAnd, Symbol, symbol, input_edge, input_letter, latch_letter, output_letter}
 
 abbrev pub Reader : Type 0 → Type 0
@@ -227,7 +225,3 @@ binary = do
 -- what a text in the binary form says
 abbrev pub read_binary : List ℕ → Option Circuit
 read_binary text = option_map (λ taken. taken.0) (binary text)
-
-abbrev pub read : Encoding → List ℕ → Option Circuit
-read Ascii = read_ascii
-read Binary = read_binary

@@ -9,8 +9,6 @@ use Rattle.aig_core.specs.declared.edge.Edge.{Edge}
 use Rattle.aig_core.specs.declared.edge.And.{And}
 use Rattle.aig_core.specs.declared.building.Built.{Built}
 use Rattle.aig_core.specs.Graphs.{Graph}
-use Rattle.aiger_write.specs.declared.encoding.Encoding.{Encoding}
-use Rattle.aiger_write.specs.declared.encoding.Encoding.TheVariants.{Ascii, Binary}
 use Rattle.aiger_write.specs.Circuits.{input_edge, latch_edge, and_edge, next_edge, name_of}
 
 -- a line of numbers, with one blank between
@@ -90,10 +88,10 @@ loads_text net built = flat_map (λ item. load_line built item.0 item.1) (enumer
 abbrev pub groups_text : Graph → List ℕ
 groups_text g = flat_map (λ item. and_groups g item.0 item.1) (enumerate_from 0 g.ands)
 
--- The text of a netlist's graph. The clock isn't written.
+-- The texts of a netlist's graph. The clock isn't written.
 
-abbrev pub ascii_text : Parts → Built → List ℕ
-ascii_text net built =
+abbrev pub aiger_text : Parts → Built → List ℕ
+aiger_text net built =
     head_text (codes "aag ") built
     ++ (flat_map input_line (range_with_len 0 built.aig.inputs)
     ++ (latches_text net built
@@ -108,7 +106,3 @@ binary_text net built =
     ++ (flat_map output_line built.outputs
     ++ (groups_text built.aig
     ++ names_text net)))
-
-abbrev pub aiger_text : Encoding → Parts → Built → List ℕ
-aiger_text Ascii = ascii_text
-aiger_text Binary = binary_text

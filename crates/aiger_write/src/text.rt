@@ -1,18 +1,20 @@
 ghost use Rattle.cyc_io.specs.Taken.{IsAppended, sink_call};
 ghost use Rattle.aig_core.specs.Answers.{FitsNetlist};
-ghost use Rattle.aiger_write.specs.Text.{ascii_text, binary_text, aiger_text};
+ghost use Rattle.aiger_write.specs.Text.{aiger_text, binary_text};
 
 use crate::binary::{put_and_groups, put_loads};
-use crate::encoding::Encoding;
 use crate::graph::{put_ands, put_counts, put_inputs, put_latches, put_outputs};
 use crate::symbols::put_names;
 use aig_core::Built;
 use cyc_io::{Failed, Sink};
 use netlist::Netlist;
 
-fn put_ascii<K: Sink>(sink: &mut K, net: &Netlist, built: &Built) -> Result<(), Failed>
+/// Appends the graph of a netlist in the ASCII form of AIGER (version 1.9; Biere, Heljanko and Wieringa 2011), with the
+/// names of inputs, latches and outputs. The clock isn't written. It takes no memory. `Failed` comes only where the sink
+/// failed; the sink has then taken a prefix of the text.
+pub fn write<K: Sink>(net: &Netlist, built: &Built, sink: &mut K) -> Result<(), Failed>
     requires { FitsNetlist net.now built.now }
-    ensures { IsAppended (ascii_text net.now built.now) (sink_call K.put K.faults sink.old sink.new) result }
+    ensures { IsAppended (aiger_text net.now built.now) (sink_call K.put K.faults sink.old sink.new) result }
 {
     put_counts(sink, b"aag ", net, built)?;
     put_inputs(sink, &built.aig)?;
@@ -22,7 +24,8 @@ fn put_ascii<K: Sink>(sink: &mut K, net: &Netlist, built: &Built) -> Result<(), 
     put_names(sink, net)
 }
 
-fn put_binary<K: Sink>(sink: &mut K, net: &Netlist, built: &Built) -> Result<(), Failed>
+/// The same in the binary form.
+pub fn write_binary<K: Sink>(net: &Netlist, built: &Built, sink: &mut K) -> Result<(), Failed>
     requires { FitsNetlist net.now built.now }
     ensures { IsAppended (binary_text net.now built.now) (sink_call K.put K.faults sink.old sink.new) result }
 {
@@ -31,22 +34,4 @@ fn put_binary<K: Sink>(sink: &mut K, net: &Netlist, built: &Built) -> Result<(),
     put_outputs(sink, built.outputs.items())?;
     put_and_groups(sink, &built.aig)?;
     put_names(sink, net)
-}
-
-/// Appends the graph of a netlist in a form of AIGER (version 1.9; Biere, Heljanko and Wieringa 2011), with the names of
-/// inputs, latches and outputs. The clock isn't written. It takes no memory. `Failed` comes only where the sink failed;
-/// the sink has then taken a prefix of the text.
-pub fn write<K: Sink>(
-    net: &Netlist,
-    built: &Built,
-    encoding: Encoding,
-    sink: &mut K,
-) -> Result<(), Failed>
-    requires { FitsNetlist net.now built.now }
-    ensures { IsAppended (aiger_text encoding net.now built.now) (sink_call K.put K.faults sink.old sink.new) result }
-{
-    match encoding {
-        Encoding::Ascii => put_ascii(sink, net, built),
-        Encoding::Binary => put_binary(sink, net, built),
-    }
 }

@@ -225,8 +225,8 @@ fn carry_out<S: Shelf>(
         Command::Rewrite(netlist, options) => {
             decide_file(alloc, shelf, netlist, options, Purpose::Rewrite, d)
         }
-        Command::Aiger(netlist, options) => {
-            decide_file(alloc, shelf, netlist, options, Purpose::Aiger, d)
+        Command::Aiger(netlist, options, encoding) => {
+            decide_file(alloc, shelf, netlist, options, Purpose::Aiger(encoding), d)
         }
         Command::Explain(netlist, options, form) => {
             decide_file(alloc, shelf, netlist, options, Purpose::Explain(form), d)

@@ -1,5 +1,5 @@
 use Rattle.aiger_write.proofs.Common.{appended_then, appended_cut}
-use Rattle.aiger_write.proofs.text.put_binary.Goals as goal
+use Rattle.aiger_write.proofs.text.write_binary.Goals as goal
 
 pub returns-in_err-put_counts : goal.returns-in_err-put_counts
 returns-in_err-put_counts g c = appended_cut _ _ _ _ _ c.in_err-put_counts.ensures c.from_residual.ensures.0
