@@ -130,7 +130,7 @@ explains_wire out err end status (Decides decision (Explains form)) whole explai
 )
 explains_wire out err end status (Decides decision Judges) whole explained = absurd explained
 explains_wire out err end status (Decides decision Rewrites) whole explained = absurd explained
-explains_wire out err end status (Decides decision WritesGraph) whole explained = absurd explained
+explains_wire out err end status (Decides decision (WritesGraph encoding)) whole explained = absurd explained
 explains_wire out err end status (Decides decision (Demonstrates cells)) whole explained = absurd explained
 explains_wire out err end status (Decides decision (Storms rounds)) whole explained = absurd explained
 explains_wire out err end status (Compares c) whole explained = absurd explained

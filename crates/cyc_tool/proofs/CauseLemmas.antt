@@ -270,7 +270,7 @@ help_told request shelf nodes out err status runs = by_command (command_of reque
     by_command (Some Version) comes = told_by version_text comes
     by_command (Some (Check file options)) comes = tt
     by_command (Some (Rewrite file options)) comes = tt
-    by_command (Some (Aiger file options)) comes = tt
+    by_command (Some (Aiger file options encoding)) comes = tt
     by_command (Some (Explain file options form)) comes = tt
     by_command (Some (Equal file second options)) comes = tt
     by_command (Some (Flat file)) comes = tt
@@ -291,7 +291,7 @@ has_rewritten shelf nodes out end (Ends ending) done took ends = tt
 has_rewritten shelf nodes out end (Compares c) done took ends = tt
 has_rewritten shelf nodes out end (Decides decision Judges) done took ends = tt
 has_rewritten shelf nodes out end (Decides decision (Explains form)) done took ends = tt
-has_rewritten shelf nodes out end (Decides decision WritesGraph) done took ends = tt
+has_rewritten shelf nodes out end (Decides decision (WritesGraph encoding)) done took ends = tt
 has_rewritten shelf nodes out end (Decides decision (Demonstrates cells)) done took ends = tt
 has_rewritten shelf nodes out end (Decides decision (Storms rounds)) done took ends = tt
 has_rewritten shelf nodes out end (Decides decision Rewrites) done took ends = by_decision ends.1
@@ -331,7 +331,7 @@ has_graph shelf nodes out end (Decides decision (Explains form)) done took ends 
 has_graph shelf nodes out end (Decides decision Rewrites) done took ends = tt
 has_graph shelf nodes out end (Decides decision (Demonstrates cells)) done took ends = tt
 has_graph shelf nodes out end (Decides decision (Storms rounds)) done took ends = tt
-has_graph shelf nodes out end (Decides decision WritesGraph) done took ends = by_decision ends.1
+has_graph shelf nodes out end (Decides decision (WritesGraph encoding)) done took ends = by_decision ends.1
   where
     size : ℕ
     size = rewritten_size decision.net decision.care
@@ -346,23 +346,23 @@ has_graph shelf nodes out end (Decides decision WritesGraph) done took ends = by
     ands = length graph.aig.ands
 
     by_ands : size ≤ MAX_REWRITTEN_ITEMS → (fits : Bool) → nat_le ands most_ands ≡ fits
-        → end ≡ told (if fits then Prints (aiger_text other graph) else Outgrows (most_ands + 1))
-        → IsMade decision WritesGraph → HasGraph out (Decides decision WritesGraph)
+        → end ≡ told (if fits then Prints (aiger_text encoding other graph) else Outgrows (most_ands + 1))
+        → IsMade decision (WritesGraph encoding) → HasGraph out (Decides decision (WritesGraph encoding))
     by_ands small true fits same made =
         (made small (let le : ands ≤ most_ands = grind (arith, fits) in le), subst (Takes out) (ap (λ (o : Outcome). o.out) same) took)
     by_ands small false fits same made = absurd (let eight = ap status_of same in omega (arith, done, eight))
 
-    by_size : (fits : Bool) → nat_le size MAX_REWRITTEN_ITEMS ≡ fits → end ≡ told (if fits then aiger_told other graph else Outgrows size)
-        → IsMade decision WritesGraph → HasGraph out (Decides decision WritesGraph)
+    by_size : (fits : Bool) → nat_le size MAX_REWRITTEN_ITEMS ≡ fits → end ≡ told (if fits then aiger_told encoding other graph else Outgrows size)
+        → IsMade decision (WritesGraph encoding) → HasGraph out (Decides decision (WritesGraph encoding))
     by_size true fits same made = by_ands (let le : size ≤ MAX_REWRITTEN_ITEMS = grind (arith, fits) in le) (nat_le ands most_ands) refl same made
     by_size false fits same made = absurd (let eight = ap status_of same in omega (arith, done, eight))
 
-    by_verdict : (verdict : Option Refusal) → end ≡ decided decision WritesGraph verdict → IsMadeFor decision WritesGraph verdict
-        → HasGraph out (Decides decision WritesGraph)
+    by_verdict : (verdict : Option Refusal) → end ≡ decided decision (WritesGraph encoding) verdict → IsMadeFor decision (WritesGraph encoding) verdict
+        → HasGraph out (Decides decision (WritesGraph encoding))
     by_verdict None same made = by_size (nat_le size MAX_REWRITTEN_ITEMS) refl same made
     by_verdict (Some refused) same made = absurd (let one = ap status_of same in omega (arith, done, one))
 
-    by_decision : IsDecided decision WritesGraph nodes end → HasGraph out (Decides decision WritesGraph)
+    by_decision : IsDecided decision (WritesGraph encoding) nodes end → HasGraph out (Decides decision (WritesGraph encoding))
     by_decision (Verdict same made) = by_verdict (verdict_of decision) same made
     by_decision (Explained form same explained) = absurd (let one = ap status_of explained.shown.is in omega (arith, done, one))
     by_decision (Limit limited same) = absurd (let six = ap status_of same in omega (arith, done, six))
@@ -378,7 +378,7 @@ has_stormed law shelf nodes out end (Compares c) done took ends = tt
 has_stormed law shelf nodes out end (Decides decision Judges) done took ends = tt
 has_stormed law shelf nodes out end (Decides decision (Explains form)) done took ends = tt
 has_stormed law shelf nodes out end (Decides decision Rewrites) done took ends = tt
-has_stormed law shelf nodes out end (Decides decision WritesGraph) done took ends = tt
+has_stormed law shelf nodes out end (Decides decision (WritesGraph encoding)) done took ends = tt
 has_stormed law shelf nodes out end (Decides decision (Demonstrates cells)) done took ends = tt
 has_stormed law shelf nodes out end (Decides decision (Storms rounds)) done took ends = by_decision ends.1
   where
@@ -466,7 +466,7 @@ has_explained shelf nodes out err end (Ends ending) one took other ends = tt
 has_explained shelf nodes out err end (Compares c) one took other ends = tt
 has_explained shelf nodes out err end (Decides decision Judges) one took other ends = tt
 has_explained shelf nodes out err end (Decides decision Rewrites) one took other ends = tt
-has_explained shelf nodes out err end (Decides decision WritesGraph) one took other ends = tt
+has_explained shelf nodes out err end (Decides decision (WritesGraph encoding)) one took other ends = tt
 has_explained shelf nodes out err end (Decides decision (Demonstrates cells)) one took other ends = tt
 has_explained shelf nodes out err end (Decides decision (Storms rounds)) one took other ends = tt
 has_explained shelf nodes out err end (Decides decision (Explains form)) one took other ends = by_decision ends.1

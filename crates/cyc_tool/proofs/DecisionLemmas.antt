@@ -11,6 +11,7 @@ use Rattle.aig_core.specs.declared.fault.AigFault.{AigFault}
 use Rattle.aig_core.specs.declared.fault.AigFault.TheVariants.{TooLarge as ManyAnds, Memory as NoRoom}
 use Rattle.aig_core.specs.Building.{built, columns}
 use Rattle.aiger_write.specs.Text.{aiger_text}
+use Rattle.aiger_write.specs.declared.encoding.Encoding.{Encoding}
 use Rattle.care_sets.specs.Care.{CareSet}
 use Rattle.refusals.specs.Acceptance.{Accepts}
 use Rattle.refusals.specs.Refusals.{refusal}
@@ -68,7 +69,7 @@ pub refused_decides : (net : Parts) (care : CareSet) (limit : ℕ) (what : Obser
     → IsDecided (decision_of net care limit what) purpose nodes end
 refused_decides net care limit what Judges nodes end refused valid is same = alone_decides net care limit what Judges nodes end refused is tt same
 refused_decides net care limit what Rewrites nodes end refused valid is same = alone_decides net care limit what Rewrites nodes end refused is tt same
-refused_decides net care limit what WritesGraph nodes end refused valid is same = alone_decides net care limit what WritesGraph nodes end refused is tt same
+refused_decides net care limit what (WritesGraph encoding) nodes end refused valid is same = alone_decides net care limit what (WritesGraph encoding) nodes end refused is tt same
 refused_decides net care limit what (Demonstrates cells) nodes end refused valid is same = alone_decides net care limit what (Demonstrates cells) nodes end refused is tt same
 refused_decides net care limit what (Storms rounds) nodes end refused valid is same = alone_decides net care limit what (Storms rounds) nodes end refused is tt same
 refused_decides net care limit what (Explains form) nodes end (Initial q) valid is same = alone_decides net care limit what (Explains form) nodes end (Initial q) is tt same
@@ -211,50 +212,50 @@ kept_columns net other keeps few =
     omega (arith, inputs, names, own, others, few)
 
 -- a graph, or what is told in place of one
-graph_fits : (net : Parts) (graph : Built) → length graph.aig.ands ≤ most_ands → told (aiger_told net graph) ≡ told (Prints (aiger_text net graph))
-graph_fits net graph few =
+graph_fits : (encoding : Encoding) (net : Parts) (graph : Built) → length graph.aig.ands ≤ most_ands → told (aiger_told encoding net graph) ≡ told (Prints (aiger_text encoding net graph))
+graph_fits encoding net graph few =
     let within : nat_le (length graph.aig.ands) most_ands ≡ true = grind (arith, few) in
-    ap (λ (t : Bool). told (if t then Prints (aiger_text net graph) else Outgrows (most_ands + 1))) within
+    ap (λ (t : Bool). told (if t then Prints (aiger_text encoding net graph) else Outgrows (most_ands + 1))) within
 
-graph_outgrows : (net : Parts) (graph : Built) → most_ands < length graph.aig.ands → told (aiger_told net graph) ≡ told (Outgrows (most_ands + 1))
-graph_outgrows net graph many =
+graph_outgrows : (encoding : Encoding) (net : Parts) (graph : Built) → most_ands < length graph.aig.ands → told (aiger_told encoding net graph) ≡ told (Outgrows (most_ands + 1))
+graph_outgrows encoding net graph many =
     let over : nat_le (length graph.aig.ands) most_ands ≡ false = grind (arith, many) in
-    ap (λ (t : Bool). told (if t then Prints (aiger_text net graph) else Outgrows (most_ands + 1))) over
+    ap (λ (t : Bool). told (if t then Prints (aiger_text encoding net graph) else Outgrows (most_ands + 1))) over
 
-told_where : (net : Parts) (care : CareSet) (limit : ℕ) (what : Observe) (t : Bool) → nat_le (rewritten_size net care) MAX_REWRITTEN_ITEMS ≡ t
-    → told (accepted_told (decision_of net care limit what) WritesGraph)
-    ≡ told (if t then aiger_told (rewritten net care) (graph_of net care) else Outgrows (rewritten_size net care))
-told_where net care limit what t is =
-    ap (λ (t : Bool). told (if t then aiger_told (rewritten net care) (graph_of net care) else Outgrows (rewritten_size net care))) is
+told_where : (encoding : Encoding) (net : Parts) (care : CareSet) (limit : ℕ) (what : Observe) (t : Bool) → nat_le (rewritten_size net care) MAX_REWRITTEN_ITEMS ≡ t
+    → told (accepted_told (decision_of net care limit what) (WritesGraph encoding))
+    ≡ told (if t then aiger_told encoding (rewritten net care) (graph_of net care) else Outgrows (rewritten_size net care))
+told_where encoding net care limit what t is =
+    ap (λ (t : Bool). told (if t then aiger_told encoding (rewritten net care) (graph_of net care) else Outgrows (rewritten_size net care))) is
 
 -- what is told of the graph of a netlist that was made by rewriting
-pub was_graphed : (net : Parts) (care : CareSet) (limit : ℕ) (what : Observe) (other : Parts) (made : Result Built AigFault) (end : Told) → IsToldOfGraph other made end
+pub was_graphed : (encoding : Encoding) (net : Parts) (care : CareSet) (limit : ℕ) (what : Observe) (other : Parts) (made : Result Built AigFault) (end : Told) → IsToldOfGraph encoding other made end
     → IsNetlist net → Accepts net care what → rewritten_size net care ≤ 4000000 → IsRewriting net care other
     → IfOk made (λ graph. graph ≡ built other) → IfOk made (λ graph. length graph.aig.ands ≤ most_ands)
     → IfOk made (λ graph. (net : Parts) (care : CareSet) (what : Observe) → IsNetlist net → Accepts net care what → IsRewriting net care other → IsGraphing net care graph)
     → IfErr made (λ fault. fault ≡ ManyAnds → most_ands < length (built other).aig.ands)
-    → IsAccepted (decision_of net care limit what) WritesGraph (outcome_of end)
-was_graphed net care limit what other (Ok graph) end same valid accepts small rewriting is few graphing many =
+    → IsAccepted (decision_of net care limit what) (WritesGraph encoding) (outcome_of end)
+was_graphed encoding net care limit what other (Ok graph) end same valid accepts small rewriting is few graphing many =
     let own : graph ≡ graph_of net care = is ∙ ap built rewriting.is in
     record {
-      is = same ∙ sym (graph_fits other graph few) ∙ ap₂ (λ (n : Parts) (g : Built). told (aiger_told n g)) rewriting.is own
-          ∙ sym (told_where net care limit what true (is_within (rewritten_size net care) small));
+      is = same ∙ sym (graph_fits encoding other graph few) ∙ ap₂ (λ (n : Parts) (g : Built). told (aiger_told encoding n g)) rewriting.is own
+          ∙ sym (told_where encoding net care limit what true (is_within (rewritten_size net care) small));
       made = λ within fits. subst (IsGraphing net care) own (graphing net care what valid accepts rewriting);
     }
-was_graphed net care limit what other (Err ManyAnds) end same valid accepts small rewriting is few graphing many =
+was_graphed encoding net care limit what other (Err ManyAnds) end same valid accepts small rewriting is few graphing many =
     let over : most_ands < length (graph_of net care).aig.ands = subst (λ (n : Parts). most_ands < length (built n).aig.ands) rewriting.is (many refl) in
     record {
-      is = same ∙ sym (graph_outgrows (rewritten net care) (graph_of net care) over)
-          ∙ sym (told_where net care limit what true (is_within (rewritten_size net care) small));
+      is = same ∙ sym (graph_outgrows encoding (rewritten net care) (graph_of net care) over)
+          ∙ sym (told_where encoding net care limit what true (is_within (rewritten_size net care) small));
       made = λ within fits. absurd (omega (arith, over, fits));
     }
-was_graphed net care limit what other (Err NoRoom) end same valid accepts small rewriting is few graphing many = absurd same
+was_graphed encoding net care limit what other (Err NoRoom) end same valid accepts small rewriting is few graphing many = absurd same
 
 -- and of a netlist that is too large itself
-pub outgrown_graph : (net : Parts) (care : CareSet) (limit : ℕ) (what : Observe) (fault : UnrollFault) (end : Told) → IsOutgrown fault end
-    → IsUnrollFault (rewritten_size net care) fault → IsAccepted (decision_of net care limit what) WritesGraph (outcome_of end)
-outgrown_graph net care limit what (TooLarge size) end same is = record {
-  is = same ∙ ap (λ (n : ℕ). told (Outgrows n)) is.1 ∙ sym (told_where net care limit what false (is_over (rewritten_size net care) is.0));
+pub outgrown_graph : (encoding : Encoding) (net : Parts) (care : CareSet) (limit : ℕ) (what : Observe) (fault : UnrollFault) (end : Told) → IsOutgrown fault end
+    → IsUnrollFault (rewritten_size net care) fault → IsAccepted (decision_of net care limit what) (WritesGraph encoding) (outcome_of end)
+outgrown_graph encoding net care limit what (TooLarge size) end same is = record {
+  is = same ∙ ap (λ (n : ℕ). told (Outgrows n)) is.1 ∙ sym (told_where encoding net care limit what false (is_over (rewritten_size net care) is.0));
   made = λ within fits. absurd (let over = is.0 in omega (arith, over, within));
 }
-outgrown_graph net care limit what Memory end same is = absurd same
+outgrown_graph encoding net care limit what Memory end same is = absurd same

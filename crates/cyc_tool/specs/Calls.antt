@@ -99,7 +99,7 @@ abbrev pub IsMade : Decision → Purpose → Type 0
 IsMade decision Rewrites =
     rewritten_size decision.net decision.care ≤ MAX_REWRITTEN_ITEMS
     → IsRewriting decision.net decision.care (rewritten decision.net decision.care)
-IsMade decision WritesGraph =
+IsMade decision (WritesGraph encoding) =
     rewritten_size decision.net decision.care ≤ MAX_REWRITTEN_ITEMS
     → length (graph_of decision.net decision.care).aig.ands ≤ most_ands
     → IsGraphing decision.net decision.care (graph_of decision.net decision.care)
@@ -179,7 +179,7 @@ ComesTo shows (Some command) shelf nodes end = Follows (plan_of shows command) s
 abbrev pub KeepsNodes : Option Command → Arena → Arena → Type 0
 KeepsNodes (Some (Check file options)) before now = Unit {0}
 KeepsNodes (Some (Rewrite file options)) before now = Unit {0}
-KeepsNodes (Some (Aiger file options)) before now = Unit {0}
+KeepsNodes (Some (Aiger file options encoding)) before now = Unit {0}
 KeepsNodes (Some (Explain file options form)) before now = Unit {0}
 KeepsNodes (Some (Equal file second options)) before now = Unit {0}
 KeepsNodes (Some (Demo cells)) before now = Unit {0}

@@ -100,12 +100,12 @@ HasRewritten out (Decides decision Rewrites) =
     × Takes out (written (rewritten decision.net decision.care))
 HasRewritten out plan = Unit {0}
 
--- What was put on out for a graph whose status is 0: the AIGER text of the rewritten netlist's graph, whose machine has the
+-- What was put on out for a graph whose status is 0: the AIGER text, in the form that was asked for, of the rewritten netlist's graph, whose machine has the
 -- outputs and the latches of each run within care at each tick.
 abbrev pub HasGraph : SinkCall → Plan → Type 0
-HasGraph out (Decides decision WritesGraph) =
+HasGraph out (Decides decision (WritesGraph encoding)) =
     IsGraphing decision.net decision.care (graph_of decision.net decision.care)
-    × Takes out (aiger_text (rewritten decision.net decision.care) (graph_of decision.net decision.care))
+    × Takes out (aiger_text encoding (rewritten decision.net decision.care) (graph_of decision.net decision.care))
 HasGraph out plan = Unit {0}
 
 -- What was put on out for a comparison whose status is 0: that the two netlists are equal. Each run of the first within

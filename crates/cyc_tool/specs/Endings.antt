@@ -17,6 +17,7 @@ use Rattle.loops.specs.Listed.{first_gates}
 use Rattle.blif_write.specs.Written.{written}
 use Rattle.aig_core.specs.declared.building.Built.{Built}
 use Rattle.aiger_write.specs.Text.{aiger_text}
+use Rattle.aiger_write.specs.declared.encoding.Encoding.{Encoding}
 use Rattle.refusals.specs.Refusals.{loose_gates}
 use Rattle.refusals.specs.declared.observe.Observe.{Observe}
 use Rattle.refusals.specs.declared.observe.Observe.TheVariants.{All, Outputs}
@@ -53,15 +54,15 @@ rewritten_told decision =
     else Outgrows (rewritten_size decision.net decision.care)
 
 -- a graph of a netlist, unless it has too many ANDs. They aren't counted further than to the first that is too many
-abbrev pub aiger_told : Parts → Built → Ending
-aiger_told net graph =
-    if nat_le (length graph.aig.ands) most_ands then Prints (aiger_text net graph) else Outgrows (most_ands + 1)
+abbrev pub aiger_told : Encoding → Parts → Built → Ending
+aiger_told encoding net graph =
+    if nat_le (length graph.aig.ands) most_ands then Prints (aiger_text encoding net graph) else Outgrows (most_ands + 1)
 
 -- that of the rewritten netlist, unless this has too many gates and latches
-abbrev pub graph_told : Decision → Ending
-graph_told decision =
+abbrev pub graph_told : Encoding → Decision → Ending
+graph_told encoding decision =
     if nat_le (rewritten_size decision.net decision.care) MAX_REWRITTEN_ITEMS
-    then aiger_told (rewritten decision.net decision.care) (graph_of decision.net decision.care)
+    then aiger_told encoding (rewritten decision.net decision.care) (graph_of decision.net decision.care)
     else Outgrows (rewritten_size decision.net decision.care)
 
 -- the storm of a vector, unless it has too many events
@@ -93,7 +94,7 @@ wire_explained Dot net v wire why = explanation_graph net (refusal_text net (Und
 abbrev pub accepted_told : Decision → Purpose → Ending
 accepted_told decision Judges = Prints (accepted_text decision.net (count_of_loops decision.net) (loose_told decision))
 accepted_told decision Rewrites = rewritten_told decision
-accepted_told decision WritesGraph = graph_told decision
+accepted_told decision (WritesGraph encoding) = graph_told encoding decision
 accepted_told decision (Explains form) = Prints (loops_explained form decision.net decision.care (loose_told decision))
 accepted_told decision (Demonstrates cells) =
     Prints (ring_line cells decision.net (count_of_loops decision.net) (length (rewritten decision.net decision.care).gates))
@@ -102,7 +103,7 @@ accepted_told decision (Storms rounds) = Declines (accepted_text decision.net (c
 abbrev pub refused_told : Parts → Purpose → Refusal → Ending
 refused_told net Judges refused = Refuses (refusal_text net refused)
 refused_told net Rewrites refused = Declines (refusal_text net refused)
-refused_told net WritesGraph refused = Declines (refusal_text net refused)
+refused_told net (WritesGraph encoding) refused = Declines (refusal_text net refused)
 refused_told net (Explains form) refused = Refuses (refusal_shown form net refused)
 refused_told net (Demonstrates cells) refused = Refuses (refusal_text net refused)
 refused_told net (Storms rounds) refused = storm_or_refusal net rounds refused

@@ -7,6 +7,7 @@ use Rattle.aig_core.specs.declared.building.Built.{Built}
 use Rattle.aig_core.specs.declared.fault.AigFault.{AigFault}
 use Rattle.aig_core.specs.declared.fault.AigFault.TheVariants.{TooLarge as ManyAnds, Memory as NoRoom}
 use Rattle.aiger_write.specs.Text.{aiger_text}
+use Rattle.aiger_write.specs.declared.encoding.Encoding.{Encoding}
 use Rattle.blif_write.specs.Written.{written}
 use Rattle.commands.specs.Seen.{cells_seen, rounds_seen}
 use Rattle.commands.specs.declared.form.Form.{Form}
@@ -52,7 +53,7 @@ telling_seen (Storm rounds) = plans.Storms (rounds_seen rounds)
 
 abbrev pub making_seen : Making → plans.Purpose
 making_seen Rewrite = plans.Rewrites
-making_seen Aiger = plans.WritesGraph
+making_seen (Aiger encoding) = plans.WritesGraph encoding
 making_seen (Explain form) = plans.Explains form
 making_seen (Demonstrate cells) = plans.Demonstrates (cells_seen cells)
 
@@ -76,9 +77,9 @@ IsOverfull ManyAnds told = outcome_of told ≡ done (plans.Outgrows (most_ands +
 IsOverfull NoRoom told = ⊥
 
 -- what is told of the graph of a netlist: its text, or that number
-abbrev pub IsToldOfGraph : Parts → Result Built AigFault → Outcome → Type 0
-IsToldOfGraph other (Ok graph) told = outcome_of told ≡ done (plans.Prints (aiger_text other graph))
-IsToldOfGraph other (Err fault) told = IsOverfull fault told
+abbrev pub IsToldOfGraph : Encoding → Parts → Result Built AigFault → Outcome → Type 0
+IsToldOfGraph encoding other (Ok graph) told = outcome_of told ≡ done (plans.Prints (aiger_text encoding other graph))
+IsToldOfGraph encoding other (Err fault) told = IsOverfull fault told
 
 -- what is told of a refusal to explain it: a wire that is undetermined at the vector is told with why
 abbrev pub IsRefusalExplained : Form → Parts → Refusal → texts.Outcome → Type 0

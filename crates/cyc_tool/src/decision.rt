@@ -30,6 +30,7 @@ use crate::texts::{
     accepted_line, number_of_loops, on_err, on_out, tell_aiger, tell_declined, tell_limit,
     tell_netlist, tell_refused, tell_too_large,
 };
+use aiger_write::Encoding;
 use bdd_ops::Diagrams;
 use care_sets::Care;
 use commands::{Cells, Form, Rounds};
@@ -61,8 +62,8 @@ pub(crate) enum Telling {
 pub(crate) enum Making {
     // To write it without loops.
     Rewrite,
-    // To write its and-inverter graph, without loops.
-    Aiger,
+    // To write its and-inverter graph, without loops, in a form of AIGER.
+    Aiger(Encoding),
     // To show why a refused wire is undetermined, or what loops an accepted netlist has.
     Explain(Form),
     // To tell that the ring arbiter of so many cells is accepted.
@@ -171,26 +172,31 @@ fn tell_graph(
     alloc: Global,
     other: &Netlist,
     graph: &Result<Built, AigFault>,
+    encoding: Encoding,
 ) -> Result<Outcome, AllocError>
     requires { IfOk graph.now (FitsNetlist other.now) }
-    ensures { IfOk result (λ told. IsToldOfGraph other.now graph.now told) }
+    ensures { IfOk result (λ told. IsToldOfGraph encoding other.now graph.now told) }
 {
     match graph {
-        Ok(graph) => tell_aiger(alloc, other, graph),
+        Ok(graph) => tell_aiger(alloc, other, graph, encoding),
         Err(fault) => tell_overfull(alloc, fault),
     }
 }
 
 // Makes the graph of a netlist without loops, and tells what comes of it.
-fn tell_graph_of(alloc: Global, other: &Netlist) -> Result<Outcome, AllocError>
+fn tell_graph_of(
+    alloc: Global,
+    other: &Netlist,
+    encoding: Encoding,
+) -> Result<Outcome, AllocError>
     requires loop_free { IsLoopFree other.now }
     requires columns { columns other.now ≤ 1000000000 }
     ensures { IfOk result (λ told. (net : Parts) (care : CareSet) (observe : Observed) (limit : ℕ) → IsNetlist net → Accepts net care observe →
         rewritten_size_of net care ≤ 4000000 → IsRewriting net care other.now →
-        IsAccepted record { net = net; care = care; limit = limit; observe = observe } WritesGraph (outcome_of told)) }
+        IsAccepted record { net = net; care = care; limit = limit; observe = observe } (WritesGraph encoding) (outcome_of told)) }
 {
     let made = graph(alloc, other);
-    tell_graph(alloc, other, &made)
+    tell_graph(alloc, other, &made, encoding)
 }
 
 // Rewrites an accepted netlist, and tells what comes of its graph.
@@ -198,17 +204,18 @@ fn tell_graphed(
     alloc: Global,
     looped: &LoopedNetlist<'_>,
     sweeps: &SweepCounts,
+    encoding: Encoding,
 ) -> Result<Outcome, AllocError>
     requires valid { IsNetlist looped.now.net }
     requires sweeps { length sweeps.now.per_block ≡ length looped.now.blocks.list }
     requires columns { columns looped.now.net ≤ 1000000000 }
     ensures { IfOk result (λ told. (care : CareSet) (observe : Observed) (limit : ℕ) → Accepts looped.now.net care observe →
         AreSweepsOnCare looped.now.net looped.now.blocks looped.now.cut care sweeps.now →
-        IsAccepted record { net = looped.now.net; care = care; limit = limit; observe = observe } WritesGraph (outcome_of told)) }
+        IsAccepted record { net = looped.now.net; care = care; limit = limit; observe = observe } (WritesGraph encoding) (outcome_of told)) }
 {
     let rewriting = rewrite(alloc, looped, sweeps);
     match &rewriting {
-        Ok(other) => tell_graph_of(alloc, other),
+        Ok(other) => tell_graph_of(alloc, other, encoding),
         Err(fault) => tell_outgrown(alloc, fault),
     }
 }
@@ -323,7 +330,7 @@ fn tell_acceptance(
 {
     match making {
         Making::Rewrite => tell_rewritten(alloc, looped, sweeps),
-        Making::Aiger => tell_graphed(alloc, looped, sweeps),
+        Making::Aiger(encoding) => tell_graphed(alloc, looped, sweeps, encoding),
         Making::Explain(form) => {
             let number = loose_told(observe, loose);
             tell_loops_explained(alloc, looped, sweeps, number, form)
@@ -348,7 +355,7 @@ fn tell_refusal(
 {
     let net = looped.net();
     match making {
-        Making::Rewrite | Making::Aiger => tell_declined(alloc, net, refusal),
+        Making::Rewrite | Making::Aiger(_) => tell_declined(alloc, net, refusal),
         Making::Explain(form) => tell_explained(alloc, looped, refusal, form),
         Making::Demonstrate(_) => tell_refused(alloc, net, refusal),
     }

@@ -22,7 +22,7 @@ use crate::outcome::Outcome;
 use crate::plays::end_lines;
 use crate::sim_lines::simulate;
 use crate::status;
-use aiger_write::write as write_aiger;
+use aiger_write::{Encoding, write as write_aiger};
 use blif_write::write;
 use commands::{Form, Topic};
 use cyc_base::{Name, Trits};
@@ -231,13 +231,18 @@ pub(crate) fn tell_netlist(alloc: Global, net: &Netlist) -> Result<Outcome, Allo
     }
 }
 
-// A graph of a netlist as a text.
-pub(crate) fn tell_aiger(alloc: Global, net: &Netlist, graph: &Built) -> Result<Outcome, AllocError>
+// A graph of a netlist as a text, in a form of AIGER.
+pub(crate) fn tell_aiger(
+    alloc: Global,
+    net: &Netlist,
+    graph: &Built,
+    encoding: Encoding,
+) -> Result<Outcome, AllocError>
     requires { FitsNetlist net.now graph.now }
-    ensures { IfOk result (λ told. outcome_of told ≡ done (Prints (aiger_text net.now graph.now))) }
+    ensures { IfOk result (λ told. outcome_of told ≡ done (Prints (aiger_text encoding net.now graph.now))) }
 {
     let mut sink = TextSink::new(alloc);
-    match write_aiger(net, graph, &mut sink) {
+    match write_aiger(net, graph, encoding, &mut sink) {
         Ok(()) => Ok(on_out(alloc, status::DONE, sink.into_vec())),
         Err(_) => Err(AllocError),
     }

@@ -239,13 +239,13 @@ fn carry_out<S: Shelf>(
                 d,
             )
         }
-        Command::Aiger(netlist, options) => {
+        Command::Aiger(netlist, options, encoding) => {
             decide_file(
                 alloc,
                 shelf,
                 netlist,
                 options,
-                Purpose::Make(Making::Aiger),
+                Purpose::Make(Making::Aiger(encoding)),
                 d,
             )
         }
