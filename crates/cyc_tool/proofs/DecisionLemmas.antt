@@ -1,7 +1,7 @@
 -- What decisions come to.
 use Rattle.std.proofs.Common.{◌≡◌, ◌⊎◌, ◌<◌, ◌≤◌, ℕ, Bool, true, false, length, Some, None, Ok, Err, refl, sym, ap, ap₂, subst, ◌∙◌, inl, inr, arith}
 use Rattle.std.proofs.lemmas.List.{length-map}
-use Rattle.cyc_tool.proofs.Common.{nat_le, if◌then◌else◌, IfOk, Option, Arena, Parts, IsNetlist, written, IsRefusalOf, Refusal, Undetermined, Form, told, IsDecided, Explained, Limit, Prints, Outgrows, Purpose, Judges, Rewrites, WritesGraph, Explains, Demonstrates, Storms, outcome_of, Outcome}
+use Rattle.cyc_tool.proofs.Common.{nat_le, if◌then◌else◌, IfOk, Option, Arena, Parts, IsNetlist, written, IsRefusalOf, Refusal, Undetermined, Form, told, IsDecided, Limit, Prints, Outgrows, Purpose, Judges, Rewrites, WritesGraph, Explains, Demonstrates, Storms, outcome_of, Outcome}
 use Rattle.std.specs.Prelude.{◌+◌, IfErr, OnOk}
 use Rattle.std.specs.declared.result.Result.{Result}
 use Rattle.cyc_base.specs.declared.limits.TheConstants.{MAX_REWRITTEN_ITEMS}
@@ -37,9 +37,9 @@ use Rattle.verdict.specs.declared.judgement.Judgement.{Judgement}
 use Rattle.verdict.specs.declared.judgement.Judgement.TheVariants as judgements
 use Rattle.verdict.specs.declared.verdict.Verdict.{Verdict}
 use Rattle.verdict.specs.declared.verdict.Verdict.TheVariants.{Accepted, Refused}
-use Rattle.cyc_tool.specs.Answer.{decided, verdict_of}
-use Rattle.cyc_tool.specs.Calls.{IsAccepted, IsMadeFor, IsToldAlone, Verdict as ByVerdict}
-use Rattle.cyc_tool.specs.Endings.{accepted_told, aiger_told, count_of_loops, loops_explained, refused_told, where_outputs}
+use Rattle.cyc_tool.specs.Answer.{IsRefusalOutcome, IsVerdictOutcome}
+use Rattle.cyc_tool.specs.Calls.{IsAccepted, IsMadeFor, Verdict as ByVerdict}
+use Rattle.cyc_tool.specs.Endings.{accepted_told, aiger_told, count_of_loops, loops_explained, where_outputs}
 use Rattle.cyc_tool.specs.Plans.{Decision, Declines}
 use Rattle.cyc_tool.specs.Seen.{IsLimitOf, IsOutgrown, IsRefusalTold, IsSaid, IsShown, IsTellable, IsToldRefusal, IsToldOf, IsToldOfGraph}
 use Rattle.cyc_tool.specs.Texts.{limit_reached}
@@ -48,36 +48,39 @@ use Rattle.cyc_tool.specs.declared.outcome.Outcome.{Outcome as Told}
 abbrev pub decision_of : Parts → CareSet → ℕ → Observe → Decision
 decision_of net care limit what = record { net = net; care = care; limit = limit; observe = what }
 
+-- a verdict that was told, and of which so much was made
+of_verdict : (net : Parts) (care : CareSet) (limit : ℕ) (what : Observe) (purpose : Purpose) (nodes : Arena) (end : Outcome) (verdict : Option Refusal)
+    → refusal net care what ≡ verdict → IsVerdictOutcome (decision_of net care limit what) purpose verdict end
+    → IsMadeFor (decision_of net care limit what) purpose verdict → IsDecided (decision_of net care limit what) purpose nodes end
+of_verdict net care limit what purpose nodes end verdict is ends made =
+    ByVerdict (subst (λ (v : Option Refusal). IsVerdictOutcome (decision_of net care limit what) purpose v end) (sym is) ends)
+    (subst (IsMadeFor (decision_of net care limit what) purpose) (sym is) made)
+
 -- a netlist that is accepted, and one that is refused
 pub accepted_decides : (net : Parts) (care : CareSet) (limit : ℕ) (what : Observe) (purpose : Purpose) (nodes : Arena) (end : Outcome)
     → IsNetlist net → Accepts net care what → IsAccepted (decision_of net care limit what) purpose end
     → IsDecided (decision_of net care limit what) purpose nodes end
 accepted_decides net care limit what purpose nodes end valid accepts is =
-    let none : verdict_of (decision_of net care limit what) ≡ None = (accepted_without_refusal net care what valid).1 accepts in
-    ByVerdict (is.is ∙ sym (ap (decided (decision_of net care limit what) purpose) none))
-    (subst (IsMadeFor (decision_of net care limit what) purpose) (sym none) is.made)
+    of_verdict net care limit what purpose nodes end None ((accepted_without_refusal net care what valid).1 accepts) is.is is.made
 
-alone_decides : (net : Parts) (care : CareSet) (limit : ℕ) (what : Observe) (purpose : Purpose) (nodes : Arena) (end : Outcome) (refused : Refusal)
-    → refusal net care what ≡ Some refused → IsToldAlone purpose refused → end ≡ told (refused_told net purpose refused)
-    → IsDecided (decision_of net care limit what) purpose nodes end
-alone_decides net care limit what purpose nodes end refused is alone same =
-    ByVerdict (same ∙ sym (ap (decided (decision_of net care limit what) purpose) is))
-    (subst (IsMadeFor (decision_of net care limit what) purpose) (sym is) alone)
+refusal_decides : (net : Parts) (care : CareSet) (limit : ℕ) (what : Observe) (purpose : Purpose) (nodes : Arena) (end : Outcome) (refused : Refusal)
+    → refusal net care what ≡ Some refused → IsRefusalOutcome net purpose refused end → IsDecided (decision_of net care limit what) purpose nodes end
+refusal_decides net care limit what purpose nodes end refused is ends = of_verdict net care limit what purpose nodes end (Some refused) is ends tt
 
 pub refused_decides : (net : Parts) (care : CareSet) (limit : ℕ) (what : Observe) (purpose : Purpose) (nodes : Arena) (end : Outcome) (refused : Refusal)
     → IsNetlist net → refusal net care what ≡ Some refused → IsRefusalTold net purpose refused end
     → IsDecided (decision_of net care limit what) purpose nodes end
-refused_decides net care limit what Judges nodes end refused valid is same = alone_decides net care limit what Judges nodes end refused is tt same
-refused_decides net care limit what Rewrites nodes end refused valid is same = alone_decides net care limit what Rewrites nodes end refused is tt same
-refused_decides net care limit what (WritesGraph encoding) nodes end refused valid is same = alone_decides net care limit what (WritesGraph encoding) nodes end refused is tt same
-refused_decides net care limit what (Demonstrates cells) nodes end refused valid is same = alone_decides net care limit what (Demonstrates cells) nodes end refused is tt same
-refused_decides net care limit what (Storms rounds) nodes end refused valid is same = alone_decides net care limit what (Storms rounds) nodes end refused is tt same
-refused_decides net care limit what (Explains form) nodes end (Initial q) valid is same = alone_decides net care limit what (Explains form) nodes end (Initial q) is tt same
-refused_decides net care limit what (Explains form) nodes end EmptyCare valid is same = alone_decides net care limit what (Explains form) nodes end EmptyCare is tt same
-refused_decides net care limit what (Explains form) nodes end (LeavesCare v q) valid is same = alone_decides net care limit what (Explains form) nodes end (LeavesCare v q) is tt same
+refused_decides net care limit what Judges nodes end refused valid is same = refusal_decides net care limit what Judges nodes end refused is same
+refused_decides net care limit what Rewrites nodes end refused valid is same = refusal_decides net care limit what Rewrites nodes end refused is same
+refused_decides net care limit what (WritesGraph encoding) nodes end refused valid is same = refusal_decides net care limit what (WritesGraph encoding) nodes end refused is same
+refused_decides net care limit what (Demonstrates cells) nodes end refused valid is same = refusal_decides net care limit what (Demonstrates cells) nodes end refused is same
+refused_decides net care limit what (Storms rounds) nodes end refused valid is same = refusal_decides net care limit what (Storms rounds) nodes end refused is same
+refused_decides net care limit what (Explains form) nodes end (Initial q) valid is same = refusal_decides net care limit what (Explains form) nodes end (Initial q) is same
+refused_decides net care limit what (Explains form) nodes end EmptyCare valid is same = refusal_decides net care limit what (Explains form) nodes end EmptyCare is same
+refused_decides net care limit what (Explains form) nodes end (LeavesCare v q) valid is same = refusal_decides net care limit what (Explains form) nodes end (LeavesCare v q) is same
 refused_decides net care limit what (Explains form) nodes end (Undetermined v wire) valid is same =
     let known = (refusal_is_shown net care what (Undetermined v wire) valid is).1 (λ e. cc) in
-    Explained form refl (record { vector = v; wire = wire; refused = is; shown = same known.unknown })
+    refusal_decides net care limit what (Explains form) nodes end (Undetermined v wire) is (same known.unknown)
 
 pub refusal_fits : (net : Parts) (care : CareSet) (what : Observe) (refused : Refusal) → IsNetlist net → refusal net care what ≡ Some refused
     → IsRefusalOf net refused

@@ -108,10 +108,6 @@ refused_told net (Explains form) refused = Refuses (refusal_shown form net refus
 refused_told net (Demonstrates cells) refused = Refuses (refusal_text net refused)
 refused_told net (Storms rounds) refused = storm_or_refusal net rounds refused
 
-abbrev pub ending_of : Decision → Purpose → Option Refusal → Ending
-ending_of decision purpose None = accepted_told decision purpose
-ending_of decision purpose (Some refused) = refused_told decision.net purpose refused
-
 -- what is found of two netlists, which are equal or aren't
 abbrev pub found_told : Bool → List ℕ → Ending
 found_told true text = Prints text

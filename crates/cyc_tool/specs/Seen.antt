@@ -18,7 +18,6 @@ use Rattle.refusals.specs.declared.refusal.Refusal.TheVariants.{Undetermined}
 use Rattle.cyc_base.specs.declared.trit.Trit.TheVariants.{X}
 use Rattle.cyc_base.specs.Values.{bits}
 use Rattle.netlist.specs.Fixpoint.{fix, wire as wire_of}
-use Rattle.cyc_tool.specs.Calls.{IsWireExplained}
 use Rattle.cyc_tool.specs.Endings.{refused_told}
 use Rattle.unroll.specs.declared.fault.UnrollFault.{UnrollFault}
 use Rattle.unroll.specs.declared.fault.UnrollFault.TheVariants.{TooLarge, Memory as NoMemory}
@@ -31,7 +30,7 @@ use Rattle.verdict.specs.declared.judgement.Judgement.{Judgement}
 use Rattle.verdict.specs.declared.judgement.Judgement.TheVariants as judgements
 use Rattle.verdict.specs.declared.verdict.Verdict.{Verdict}
 use Rattle.verdict.specs.declared.verdict.Verdict.TheVariants.{Accepted, Refused}
-use Rattle.cyc_tool.specs.Answer.{told as done}
+use Rattle.cyc_tool.specs.Answer.{told as done, IsWireExplained}
 use Rattle.cyc_tool.specs.Plans as plans
 use Rattle.cyc_tool.specs.Texts as texts
 use Rattle.cyc_tool.specs.declared.decision.Making.{Making}

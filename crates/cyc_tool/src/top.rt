@@ -5,7 +5,7 @@ ghost use Rattle.commands.specs.Words.{command_of};
 ghost use Rattle.delay_core.specs.Changes.{changes};
 ghost use Rattle.sched_text.specs.Fitting.{FitsNetlist};
 ghost use Rattle.cyc_tool.specs.Calls.{shelf_call, sink_call, ComesTo, Follows, KeepsNodes, Tells, Runs, WriteFailed};
-ghost use Rattle.cyc_tool.specs.Causes.{GivesAnswer, HasCompared, HasExplained, HasGraph, HasRewritten, HasStormed, IsComplete, IsDoneWith, IsFaulty, IsHelpedBy, IsUnread, IsWithoutCommand, MeetsLimit, NoneFell, Reaches};
+ghost use Rattle.cyc_tool.specs.Causes.{GivesAnswer, IsComplete, IsDoneWith, IsFaulty, IsHelpedBy, IsUnread, IsWithoutCommand, MeetsLimit, NoneFell, Reaches};
 ghost use Rattle.cyc_tool.specs.Hearing.{HearCommand, HearPlay, HearRun};
 ghost use Rattle.cyc_tool.specs.Plays.{AreInputs};
 ghost use Rattle.cyc_tool.specs.Plans.{deciding, finding_loops, flattening, play_on, playing, replaying, simulating};
@@ -390,21 +390,13 @@ pub fn run<S: Shelf, O: Sink, E: Sink>(
     ensures limited { result ≡ 6
         → Reaches (MeetsLimit d.new) (request kind text words.now probes.items) (shelf_call S.files S.faults shelf.old shelf.new) }
     ensures done { result ≡ 0
-        → Reaches (IsDoneWith 0) (request kind text words.now probes.items) (shelf_call S.files S.faults shelf.old shelf.new) }
+        → Reaches (IsDoneWith (sink_call O.put O.faults out.old out.new) (sink_call E.put E.faults err.old err.new) 0)
+        (request kind text words.now probes.items) (shelf_call S.files S.faults shelf.old shelf.new) }
     ensures refused { result ≡ 1
-        → Reaches (IsDoneWith 1) (request kind text words.now probes.items) (shelf_call S.files S.faults shelf.old shelf.new) }
+        → Reaches (IsDoneWith (sink_call O.put O.faults out.old out.new) (sink_call E.put E.faults err.old err.new) 1)
+        (request kind text words.now probes.items) (shelf_call S.files S.faults shelf.old shelf.new) }
     ensures outgrown { result ≡ 8
-        → Reaches (IsDoneWith 8) (request kind text words.now probes.items) (shelf_call S.files S.faults shelf.old shelf.new) }
-    ensures stormed { result ≡ 0
-        → Reaches (HasStormed (sink_call O.put O.faults out.old out.new)) (request kind text words.now probes.items) (shelf_call S.files S.faults shelf.old shelf.new) }
-    ensures rewritten { result ≡ 0
-        → Reaches (HasRewritten (sink_call O.put O.faults out.old out.new)) (request kind text words.now probes.items) (shelf_call S.files S.faults shelf.old shelf.new) }
-    ensures graphed { result ≡ 0
-        → Reaches (HasGraph (sink_call O.put O.faults out.old out.new)) (request kind text words.now probes.items) (shelf_call S.files S.faults shelf.old shelf.new) }
-    ensures compared { result ≡ 0
-        → Reaches (HasCompared (sink_call O.put O.faults out.old out.new)) (request kind text words.now probes.items) (shelf_call S.files S.faults shelf.old shelf.new) }
-    ensures explained { result ≡ 1
-        → Reaches (HasExplained (sink_call O.put O.faults out.old out.new) (sink_call E.put E.faults err.old err.new))
+        → Reaches (IsDoneWith (sink_call O.put O.faults out.old out.new) (sink_call E.put E.faults err.old err.new) 8)
         (request kind text words.now probes.items) (shelf_call S.files S.faults shelf.old shelf.new) }
 
     // What follows where the files are told.
