@@ -5,7 +5,9 @@
   bench/gate.py WORD..        the same of the command `rt WORD..`, as `ci netlist`
   bench/gate.py --edits WORD..  and a line for each edit whose trial took ten seconds or more
   bench/gate.py --pid NUMBER  the same of a run of `rt ci` that goes already, from now on, of the text that stands here
-  bench/gate.py --way         the longest way of the first build, crate by crate, by the proofs in the table of docs/GATE.md
+  bench/gate.py --way         the longest way of the first build, crate by crate, by the proofs in the table of docs/GATE.md,
+                              where each crate that the program stands on has a figure there
+  bench/gate.py --change CRATE..  what is proved anew after a change in each of these crates until `cyc` stands again, by that table
 
 The longest way is the chain of crates, each of which stands on the one before it, whose proofs take the most together:
 however many crates are checked side by side, a first build isn't shorter. It is printed below the table of a run too.
@@ -138,11 +140,47 @@ def longest_way(minutes):
     return max(map(way_to, below), key=lambda way: way[-1][1])
 
 
+def print_recorded_way():
+    """Prints the longest way by the table, if it has a figure for each crate that the program stands on."""
+    minutes = recorded()
+    below, wanted = uses(), ["cyc"]
+    for crate in wanted:
+        wanted.extend(it for it in below[crate] if it not in wanted)
+    missing = [it for it in below if it in wanted and it not in minutes]
+    if missing:
+        sys.exit(f"no proof time in docs/GATE.md for {', '.join(missing)}: the way could lead through a crate without one")
+    print_way(minutes)
+
+
 def print_way(minutes):
     print("| on the longest way | proof | sum |\n|---|---:|---:|")
     for crate, so_far in longest_way(minutes):
         print(f"| `{crate}` | {minutes.get(crate, 0):.1f} | {so_far:.1f} |")
     print(f"\n{sum(minutes.values()):.1f} minutes in all")
+
+
+def above(crate):
+    """This crate, and those above it that the program stands on."""
+    below = uses()
+
+    @functools.cache
+    def reaches(one, other):
+        return one == other or any(reaches(it, other) for it in below[one])
+
+    return [it for it in below if reaches(it, crate) and reaches("cyc", it)]
+
+
+def print_changes(crates, minutes):
+    """How long it takes until `cyc` stands again: no less than the dearest chain of these crates, nor than a quarter of all."""
+    below = uses()
+    print("| a change in | crates proved again | processor minutes | minutes on four processors |\n|---|---:|---:|---:|")
+    for crate in crates:
+        changed = above(crate)
+        way = {}
+        for it in changed:
+            way[it] = minutes.get(it, 0) + max((way[low] for low in below[it] if low in way), default=0)
+        whole = sum(minutes.get(it, 0) for it in changed)
+        print(f"| `{crate}` | {len(changed)} | {whole:.0f} | {max(way['cyc'], whole / 4):.0f} |")
 
 
 def table(spent):
@@ -161,7 +199,10 @@ def table(spent):
 
 def main(words):
     if words == ["--way"]:
-        print_way(recorded())
+        print_recorded_way()
+        return 0
+    if words[:1] == ["--change"]:
+        print_changes(words[1:], recorded())
         return 0
     if words[:1] == ["--pid"]:
         table(watched(int(words[1]), lambda: os.path.exists(f"/proc/{words[1]}")))

@@ -6,7 +6,7 @@ pub use Rattle.care_sets.specs.Care.{CareSet}
 pub use Rattle.cyc_io.proofs.TakenLemmas.{appended_cut, appended_equal, appended_then}
 pub use Rattle.cyc_io.specs.Text.{text_bytes}
 pub use Rattle.dot_text.specs.LoopGraphs.{labelled_cluster}
-pub use Rattle.isolation.specs.Cones.{AddMarks, is_marked}
+pub use Rattle.loops.specs.Cones.{AddMarks, is_marked}
 pub use Rattle.loops.proofs.ListLemmas.{all_came, comes_at}
 pub use Rattle.loops.specs.Blocks.{AreBlocksOf}
 pub use Rattle.loops.specs.Cuts.{IsCutOf}

@@ -9,7 +9,7 @@ use Rattle.netlist.specs.Walks.{Feeds, Walk}
 use Rattle.loops.specs.Walks.{Leads, AnyGate}
 use Rattle.loops.specs.Found.{feeds, reaches}
 use Rattle.loops.proofs.Walks.{leads-step, leads-trans, split, walk_within_of}
-use Rattle.isolation.specs.Laws.{IsUpstream}
+use Rattle.loops.specs.Walks.{IsUpstream}
 
 module _ (net : Parts) where
   feeds-true : (a b : ℕ) → feeds net a b ≡ true → Feeds net a b

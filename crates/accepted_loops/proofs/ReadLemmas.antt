@@ -10,8 +10,8 @@ use Rattle.std.proofs.lemmas.List.FromFn.{get_or-range_with_len}
 use Rattle.cyc_base.specs.declared.sig.Sig.{Sig}
 use Rattle.cyc_base.proofs.TruthLemmas.{same_truth}
 use Rattle.netlist.specs.Netlists.{signal}
-use Rattle.isolation.specs.Cones.{IsConeOf}
-use Rattle.isolation.proofs.MarkLemmas.{add-none, add-same, add-both, add-one, cone_of_one}
+use Rattle.loops.specs.Cones.{IsConeOf}
+use Rattle.loops.proofs.MarkLemmas.{add-none, add-same, add-both, add-one, cone_of_one}
 use Rattle.refusals.specs.Refusals.{is_among}
 use Rattle.unroll.proofs.SizeLemmas.{one_in_range}
 use Rattle.accepted_loops.specs.Columns.{AreUpstreamOf, IsColumn, IsReadBy}

@@ -7,8 +7,8 @@ use Rattle.netlist.specs.Netlists.{gate_at, signal}
 use Rattle.loops.specs.Found.{reaches}
 use Rattle.loops.specs.Listed.{gate_numbers}
 use Rattle.loops.specs.Sweeps.{first_gate}
-use Rattle.isolation.specs.Cones.{is_marked}
-use Rattle.isolation.specs.Laws.{IsUpstream}
+use Rattle.loops.specs.Cones.{is_marked}
+use Rattle.loops.specs.Walks.{IsUpstream}
 use Rattle.refusals.specs.Refusals.{is_among}
 
 -- whether gate m is n, or a walk along pins leads from it to n

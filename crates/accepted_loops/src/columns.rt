@@ -3,12 +3,11 @@
 ghost use Rattle.std.specs.Prelude.{◌≡◌, ◌<◌, ℕ, false, length, IfOk};
 ghost use Rattle.netlist.specs.Netlists.{gate_at};
 ghost use Rattle.loops.specs.Sweeps.{first_gate};
-ghost use Rattle.isolation.specs.Cones.{is_marked, AddMarks};
+ghost use Rattle.loops.specs.Cones.{is_marked, AddMarks};
 ghost use Rattle.accepted_loops.specs.Columns.{AreColumnsRead, AreUpstreamOf, IsAmong, IsColumn, IsReadBelow, IsReadBy};
 
 use cyc_base::Sig;
-use isolation::upstream_of;
-use loops::LoopedNetlist;
+use loops::{LoopedNetlist, upstream_of};
 use netlist::Netlist;
 use std::alloc::{AllocError, Global};
 
@@ -69,7 +68,7 @@ fn mark_spoken(net: &Netlist, gate: u32, upstream: &[bool], read: &mut [bool])
 }
 
 // A mark for each column, which says whether the gate speaks of it.
-#[tactic(auto, using(isolation::proofs::MarkLemmas::unmarked))]
+#[tactic(auto, using(loops::proofs::MarkLemmas::unmarked))]
 fn marks_read(
     alloc: Global,
     net: &Netlist,

@@ -5,7 +5,7 @@ ghost use Rattle.std.specs.List.{flat_map};
 ghost use Rattle.care_sets.specs.Care.{CareSet};
 ghost use Rattle.cyc_io.specs.Taken.{IsAppended, sink_call};
 ghost use Rattle.cyc_io.specs.Text.{text_bytes};
-ghost use Rattle.isolation.specs.Cones.{is_marked};
+ghost use Rattle.loops.specs.Cones.{is_marked};
 ghost use Rattle.loops.specs.Sweeps.{first_gate};
 ghost use Rattle.loops.specs.Left.{loop_seen};
 ghost use Rattle.loops.specs.Looped.{IsLooped};

@@ -1,2 +1,4 @@
 pub mod Common
 pub mod TextLemmas
+pub mod ReadingLemmas
+pub mod CircuitLemmas

@@ -1,16 +1,15 @@
--- The ASCII form of AIGER (Biere 2006) of a netlist's and-inverter graph.
-use Rattle.std.specs.Prelude.{ℕ, ◌+◌, List, [], ◌∷◌, ◌++◌, length, map, codes, decimal, slice_index_or}
+-- The ASCII form of AIGER (version 1.9; Biere, Heljanko and Wieringa 2011) of a netlist's and-inverter graph.
+use Rattle.std.specs.Prelude.{ℕ, ◌+◌, List, [], ◌∷◌, ◌++◌, length, map, codes, decimal}
 use Rattle.std.specs.List.{flat_map, enumerate_from, range_with_len}
-use Rattle.cyc_base.specs.declared.sig.Sig.{Sig}
 use Rattle.netlist.specs.declared.parts.Init.{Init}
 use Rattle.netlist.specs.declared.parts.Init.TheVariants.{Zero, One, Either}
 use Rattle.netlist.specs.declared.parts.Latch.{Latch}
 use Rattle.netlist.specs.declared.parts.Parts.{Parts}
-use Rattle.netlist.specs.Netlists.{signal_names}
 use Rattle.aig_core.specs.declared.edge.Edge.{Edge}
 use Rattle.aig_core.specs.declared.edge.And.{And}
 use Rattle.aig_core.specs.declared.building.Built.{Built}
-use Rattle.aig_core.specs.Graphs.{Graph, first_and, edge, edge_to}
+use Rattle.aig_core.specs.Graphs.{Graph}
+use Rattle.aiger_write.specs.Circuits.{input_edge, latch_edge, and_edge, next_edge, name_of}
 
 -- a line of numbers, with one blank between
 abbrev pub numbers_line : List ℕ → List ℕ
@@ -26,7 +25,7 @@ head_text built =
     ∷ built.aig.inputs ∷ built.aig.latches ∷ length built.outputs ∷ length built.aig.ands ∷ [])
 
 abbrev pub input_line : ℕ → List ℕ
-input_line i = numbers_line ((edge_to (1 + i)).0 ∷ [])
+input_line i = numbers_line ((input_edge i).0 ∷ [])
 
 -- a latch of which nothing is said starts with 0, and one that may start with either value names itself
 abbrev pub init_words : ℕ → Init → List ℕ
@@ -34,26 +33,20 @@ init_words own Zero = []
 init_words own One = 1 ∷ []
 init_words own Either = own ∷ []
 
-abbrev pub latch_edge : Graph → ℕ → ℕ
-latch_edge g j = (edge_to (1 + g.inputs + j)).0
-
 -- the latch's edge, the edge that it loads, and what it starts with
 abbrev pub latch_line : Built → ℕ → Latch → List ℕ
 latch_line built j latch =
-    numbers_line (latch_edge built.aig j ∷ (slice_index_or built.nexts j (edge 0)).0 ∷ init_words (latch_edge built.aig j) latch.init)
+    numbers_line ((latch_edge built.aig j).0 ∷ (next_edge built j).0 ∷ init_words (latch_edge built.aig j).0 latch.init)
 
 abbrev pub output_line : Edge → List ℕ
 output_line e = numbers_line (e.0 ∷ [])
 
 abbrev pub and_line : Graph → ℕ → And → List ℕ
-and_line g i and = numbers_line ((edge_to (first_and g + i)).0 ∷ and.greater.0 ∷ and.smaller.0 ∷ [])
+and_line g i and = numbers_line ((and_edge g i).0 ∷ and.greater.0 ∷ and.smaller.0 ∷ [])
 
 -- the name of an input, a latch or an output, by its place
 abbrev pub symbol_line : List ℕ → ℕ → List ℕ → List ℕ
 symbol_line kind place name = (kind ++ decimal place) ++ (codes " " ++ (name ++ codes "\n"))
-
-abbrev pub name_of : Parts → Sig → List ℕ
-name_of net s = slice_index_or (signal_names net) s.0 []
 
 -- the symbols of these names, by their places
 abbrev pub symbols_text : List ℕ → List (List ℕ) → List ℕ

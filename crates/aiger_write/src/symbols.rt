@@ -2,7 +2,8 @@
 
 ghost use Rattle.std.specs.Prelude.{map, codes};
 ghost use Rattle.cyc_io.specs.Taken.{IsAppended, sink_call};
-ghost use Rattle.aiger_write.specs.Text.{symbol_line, symbols_text, name_of, names_text};
+ghost use Rattle.aiger_write.specs.Circuits.{name_of};
+ghost use Rattle.aiger_write.specs.Text.{symbol_line, symbols_text, names_text};
 
 use cyc_base::Sig;
 use cyc_io::{Failed, Sink, put_numbered, put_three};

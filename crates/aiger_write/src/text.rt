@@ -8,7 +8,7 @@ use aig_core::Built;
 use cyc_io::{Failed, Sink};
 use netlist::Netlist;
 
-/// Appends the graph of a netlist in the ASCII form of AIGER (Biere 2006), with the names of inputs, latches and outputs.
+/// Appends the graph of a netlist in the ASCII form of AIGER (version 1.9; Biere, Heljanko and Wieringa 2011), with the names of inputs, latches and outputs.
 /// The clock isn't written. It takes no memory. `Failed` comes only where the sink failed; the sink has then taken a
 /// prefix of the text.
 pub fn write<K: Sink>(net: &Netlist, built: &Built, sink: &mut K) -> Result<(), Failed>

@@ -2,17 +2,13 @@
 use Rattle.std.proofs.Common.{◌≡◌, ◌⊎◌, Bool, false, List, ◌++◌, map, All, Contains, sym, subst, arith}
 use Rattle.std.proofs.lemmas.List.Elements.{All-append, All-map, All-weaker, All-contains, All-contains_itself, Contains-append_left, Contains-append_right}
 use Rattle.cyc_base.proofs.ListLemmas.{Contains-map}
-use Rattle.bdd_store.specs.declared.node.Node.{Node}
-use Rattle.bdd_store.specs.Arena.{Arena, constant, complemented_if}
+use Rattle.bdd_store.specs.Arena.{Arena, constant}
 use Rattle.bdd_store.specs.Growth.{KeepsNodes}
 use Rattle.bdd_ops.specs.declared.operands.Operation.{Operation}
 use Rattle.bdd_ops.specs.declared.operands.Operation.TheVariants.{Ite}
-use Rattle.bdd_ops.specs.declared.operands.Operands.{Operands}
 use Rattle.bdd_ops.specs.declared.computed.Chosen.{Chosen}
 use Rattle.bdd_ops.specs.declared.computed.Computed.{Computed}
-use Rattle.bdd_ops.specs.Apply.{AreNodesOf, IsAnswer, IsComputed, AreComputed, computed_of}
-use Rattle.bdd_ops.specs.Standard.{IsFormOf}
-use Rattle.bdd_ops.proofs.StandardLemmas.{IsAnswer-back, StandsFor-chain}
+use Rattle.bdd_ops.specs.Apply.{IsComputed, AreComputed, computed_of}
 use Rattle.bdd_ops.proofs.ApplyLemmas.{AreNodesOf-kept, IsAnswer-kept}
 
 IsComputed-kept : {s t : Arena} (c : Computed) → KeepsNodes s t → IsComputed s c → IsComputed t c
@@ -59,11 +55,3 @@ AreComputed-choice_put s old new others c kept operation last is are = AreComput
 
 pub AreComputed-other_put : (s : Arena) (choices : List Chosen) (old new : List Computed) (c : Computed) → All (λ kept. Contains old kept ⊎ (kept ≡ c)) new → IsComputed s c → AreComputed s (map computed_of choices ++ old) → AreComputed s (map computed_of choices ++ new)
 AreComputed-other_put s choices old new c kept is are = AreComputed-parts s choices new (AreComputed-choices s choices old are) (All-put (IsComputed s) old new c kept is (AreComputed-others s choices old are))
-
--- what the table has at the form of operands answers them, under its mark
-pub IsAnswer-found : (operation : Operation) (s : Arena) (table : List Computed) (q p : Operands) (mark : Bool) (form : Operands) (n : Node) → IsFormOf operation q false p → IsFormOf operation p mark form → Contains table (record { operation = operation; operands = form; answer = n }) → AreComputed s table → IsAnswer operation s q (complemented_if mark n)
-IsAnswer-found operation s table q p mark form n simple stands has are = grind (arith, IsAnswer-back operation s q mark form n (StandsFor-chain (simple s) (stands s)), StandsFor-chain (simple s) (stands s), All-contains (IsComputed s) table)
-
--- and what decides their simple form
-pub IsAnswer-decided : (operation : Operation) (q p : Operands) (n : Node) → IsFormOf operation q false p → ((s : Arena) → AreNodesOf s p → IsAnswer operation s p n) → (s : Arena) → AreNodesOf s q → IsAnswer operation s q n
-IsAnswer-decided operation q p n simple found s nodes = IsAnswer-back operation s q false p n (simple s) (found s ((simple s).nodes nodes))

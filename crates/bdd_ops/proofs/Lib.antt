@@ -3,7 +3,6 @@ pub mod ChainLemmas
 mod ComputedLemmas
 mod LeastLemmas
 mod OperationLemmas
-mod StandardLemmas
 mod ChoiceLemmas
 pub mod PossibleLemmas
 mod ReadLemmas

@@ -7,9 +7,8 @@ use Rattle.bdd_ops.specs.declared.apply.Question.{Question}
 use Rattle.bdd_ops.specs.declared.apply.Question.TheVariants.{Low, High}
 use Rattle.bdd_ops.specs.declared.apply.Turn.TheVariants.{Ask}
 use Rattle.bdd_ops.specs.Apply.{IsBelow}
-use Rattle.bdd_ops.specs.Standard.{IsFormOf}
 use Rattle.bdd_ops.specs.Steps.{var_of, most_steps, last_vars, steps_from, steps_left}
-use Rattle.bdd_ops.specs.Turns.{WaitsFor, IsChain, asked_of, mark_of}
+use Rattle.bdd_ops.specs.Turns.{WaitsFor, IsChain, asked_of}
 use Rattle.bdd_ops.proofs.ChainLemmas.{reverse-push}
 
 most_steps-grow : (m n : ℕ) → m ≤ n → most_steps m ≤ most_steps n
@@ -36,12 +35,12 @@ module _ (operation : Operation) (s : Arena) where
   steps_from-most w = grind arith
 
   -- a question is of a variable behind those of the questions that wait
-  last_vars-fewer : (root : Operands) (ws : List Question) (q : Operands) (w : Question) (low : Operands) → IsChain operation s root ws q → IsFormOf operation q (mark_of w) (asked_of w) → WaitsFor operation s w low → s.vars - suc (var_of w) < last_vars s.vars ws
-  last_vars-fewer root [] q w low chain form waits = omega (arith, within w low waits)
-  last_vars-fewer root (u ∷ us) q w low chain form waits =
-      grind (arith, most w low waits (suc (var_of u)) ((form s).below (suc (var_of u)) (within u q chain.0) (IsBelow-waits u q chain.0)), within u q chain.0, IsBelow-waits u q chain.0, within w low waits)
+  last_vars-fewer : (root : Operands) (ws : List Question) (q : Operands) (w : Question) (low : Operands) → IsChain operation s root ws q → asked_of w ≡ q → WaitsFor operation s w low → s.vars - suc (var_of w) < last_vars s.vars ws
+  last_vars-fewer root [] q w low chain is waits = omega (arith, within w low waits)
+  last_vars-fewer root (u ∷ us) q w low chain is waits =
+      grind (arith, most w low waits (suc (var_of u)), IsBelow-waits u q chain.0, within w low waits)
 
-  pub asked-fewer : (root : Operands) (items more : List Question) (q : Operands) (w : Question) (low : Operands) → more ≡ items ++ w ∷ [] → IsChain operation s root (reverse items) q → IsFormOf operation q (mark_of w) (asked_of w) → WaitsFor operation s w low
+  pub asked-fewer : (root : Operands) (items more : List Question) (q : Operands) (w : Question) (low : Operands) → more ≡ items ++ w ∷ [] → IsChain operation s root (reverse items) q → asked_of w ≡ q → WaitsFor operation s w low
       → steps_left s.vars (reverse more) (Ask low) < steps_left s.vars (reverse items) (Ask q)
-  asked-fewer root items more q w low is chain form waits =
-      grind (arith, reverse-push items w, steps_from-most w, most_steps-twice (s.vars - suc (var_of w)) (last_vars s.vars (reverse items)) (last_vars-fewer root (reverse items) q w low chain form waits), last_vars-fewer root (reverse items) q w low chain form waits)
+  asked-fewer root items more q w low is chain asked waits =
+      grind (arith, reverse-push items w, steps_from-most w, most_steps-twice (s.vars - suc (var_of w)) (last_vars s.vars (reverse items)) (last_vars-fewer root (reverse items) q w low chain asked waits), last_vars-fewer root (reverse items) q w low chain asked waits)

@@ -3,7 +3,6 @@ pub mod Least
 pub mod Operations
 -- The code's own: what its parts say to each other.
 pub mod Apply
-pub mod Standard
 pub mod Choices
 pub mod Possible
 pub mod Steps

@@ -1,16 +1,14 @@
 //! What all operations share. Operands are answered from their cofactors, on a stack of the program's own:
 //! a recursion would go as deep as there are variables.
-ghost use Rattle.std.specs.Prelude.{◌≡◌, ◌<◌, ◌≤◌, ◌⊎◌, Bool, List, ◌∷◌, reverse, IsTrue, IfOk, OnErr, IfSome, IfErr};
+ghost use Rattle.std.specs.Prelude.{◌≡◌, ◌<◌, ◌≤◌, ◌⊎◌, Bool, List, ◌∷◌, reverse, IsTrue, IfOk, OnErr, IfSome, IfNone};
 ghost use Rattle.bdd_store.specs.Arena.{Arena, complemented, den, choice, top_of, IsNodeOf};
 ghost use Rattle.bdd_store.specs.Growth.{KeepsNodes, NewAreParts, IsRefused, IsNewFunction, IsRefusedPart};
 ghost use Rattle.bdd_ops.specs.Apply.{value, HasBranches, AreNodesOf, SomeBranching, IsAnswer, AreAnswered, AreComputed};
-ghost use Rattle.bdd_ops.specs.Standard.{IsFormOf};
 ghost use Rattle.bdd_ops.specs.Steps.{steps_waiting, steps_left};
-ghost use Rattle.bdd_ops.specs.Turns.{asked_of, mark_of, WaitsFor, IsAnswered, IsChain, IsTurn};
+ghost use Rattle.bdd_ops.specs.Turns.{asked_of, WaitsFor, IsAnswered, IsChain, IsTurn};
 
 use crate::computed::{Computed, ComputedTable};
 use crate::operands::{Operands, Operation, split};
-use crate::standard::{Standard, simplified, standard_form};
 use crate::terminal::terminal;
 use bdd_store::{Node, Store, StoreFault};
 use std::alloc::{AllocError, Global};
@@ -23,13 +21,13 @@ const FIRST_WAITING: usize = 16;
 pub enum Question {
     /// For the answer at 0. Those at 1 are asked then.
     Low {
-        asked: Standard,
+        asked: Operands,
         var: u32,
         high: Operands,
     },
     /// For the answer at 1.
     High {
-        asked: Standard,
+        asked: Operands,
         var: u32,
         low: Node,
     },
@@ -51,33 +49,26 @@ pub enum Turn {
     Answer(Node),
 }
 
-// The answer, where it takes no new node. Where it takes one, the form in which it is asked for.
-fn known(computed: &mut ComputedTable, operation: Operation, q: Operands) -> Result<Node, Standard>
+// The answer, where it is found without its cofactors'.
+fn known(computed: &mut ComputedTable, operation: Operation, q: Operands) -> Option<Node>
     ensures same { computed.new ≡ computed.old }
-    ensures found { IfOk result (λ n. (s : Arena) → AreComputed s computed.old → AreNodesOf s q → IsAnswer operation s q n) }
-    ensures form { IfErr result (λ form. IsFormOf operation q form.mark form.operands) }
-    ensures open { IfErr result (λ form. SomeBranching form.operands) }
+    ensures found { IfSome result (λ n. (s : Arena) → AreComputed s computed.old → AreNodesOf s q → IsAnswer operation s q n) }
+    ensures open { IfNone result (SomeBranching q) }
 {
-    let simple = simplified(operation, q);
-    if let Some(n) = terminal(operation, simple) {
-        return Ok(n);
-    }
-    let form = standard_form(operation, simple);
-    match computed.get(operation, form.operands) {
-        Some(n) => Ok(n.complement_if(form.mark)),
-        None => Err(form),
+    match terminal(operation, q) {
+        Some(n) => Some(n),
+        None => computed.get(operation, q),
     }
 }
 
 // Operands that no case decides wait, and their cofactors at 0 are asked first.
-fn pose(store: &Store, asked: Standard) -> (Question, Operands)
-    requires nodes { AreNodesOf store.now asked.operands }
-    requires open { SomeBranching asked.operands }
-    ensures asked { asked_of result.0 ≡ asked.operands }
-    ensures mark { mark_of result.0 ≡ asked.mark }
+fn pose(store: &Store, asked: Operands) -> (Question, Operands)
+    requires nodes { AreNodesOf store.now asked }
+    requires open { SomeBranching asked }
+    ensures asked { asked_of result.0 ≡ asked }
     ensures waits { (operation : Operation) → WaitsFor operation store.now result.0 result.1 }
 {
-    let (var, low, high) = split(store, asked.operands);
+    let (var, low, high) = split(store, asked);
     (Question::Low { asked, var, high }, low)
 }
 
@@ -96,9 +87,9 @@ fn ask(
     ensures fewer { (root : Operands) → IsChain operation store.now root (reverse waiting.old.items) q → IfOk result (λ next. steps_left store.now.vars (reverse waiting.new.items) next < steps_left store.now.vars (reverse waiting.old.items) (Turn.Ask q)) }
 {
     match known(computed, operation, q) {
-        Ok(n) => Ok(Turn::Answer(n)),
-        Err(form) => {
-            let (question, low) = pose(store, form);
+        Some(n) => Ok(Turn::Answer(n)),
+        None => {
+            let (question, low) = pose(store, q);
             waiting.push(question)?;
             Ok(Turn::Ask(low))
         }
@@ -199,7 +190,7 @@ fn resume(
     requires answer { IsAnswered operation store.old question n }
     requires computed { AreComputed store.old computed.old }
 
-    ensures ok { (root r : Operands) → IsFormOf operation r (mark_of question) (asked_of question) → IsChain operation store.new root (reverse waiting.old.items) r → IfOk result (IsTurn operation store.new root (reverse waiting.new.items)) }
+    ensures ok { (root : Operands) → IsChain operation store.new root (reverse waiting.old.items) (asked_of question) → IfOk result (IsTurn operation store.new root (reverse waiting.new.items)) }
     ensures fewer { IfOk result (λ next. steps_left store.old.vars (reverse waiting.new.items) next < steps_waiting store.old.vars (question ∷ reverse waiting.old.items)) }
     ensures computed { AreComputed store.new computed.new }
     ensures answers { store.new.answers ≡ store.old.answers }
@@ -217,13 +208,13 @@ fn resume(
         }
         Question::High { asked, var, low } => {
             let answered = Answered {
-                asked: asked.operands,
+                asked,
                 var,
                 low,
                 high: n,
             };
             let n = close(store, computed, operation, answered)?;
-            Ok(Turn::Answer(n.complement_if(asked.mark)))
+            Ok(Turn::Answer(n))
         }
     }
 }

@@ -72,8 +72,8 @@ fn hash_of(q: Operands) -> usize {
     (spread >> 42) as usize
 }
 
-/// Answers, each in the slot that its operands name, where it takes the place of the one before. They are in
-/// their standard form. Choices, which most answers are, have slots of their own.
+/// Answers, each in the slot that its operands name, where it takes the place of the one before. Choices, which most
+/// answers are, have slots of their own.
 pub struct ComputedTable {
     choices: Slots<Chosen>,
     others: Slots<Computed>,

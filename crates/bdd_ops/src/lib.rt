@@ -12,7 +12,6 @@ mod least;
 mod least_by;
 mod operands;
 mod slots;
-mod standard;
 mod terminal;
 
 pub use diagrams::Diagrams;

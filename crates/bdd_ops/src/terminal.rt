@@ -7,7 +7,7 @@ ghost use Rattle.bdd_ops.specs.Apply.{AreNodesOf, SomeBranching, IsAnswer};
 use crate::operands::{Operands, Operation};
 use bdd_store::Node;
 
-// The answer to a choice whose branches are simplified.
+// The answer to a choice.
 fn ite(q: Operands) -> Option<Node>
     ensures found { IfSome result (λ n. (s : Arena) → AreNodesOf s q → IsAnswer Operation.Ite s q n) }
     ensures open { IfNone result (IsBranching q.a) }
@@ -52,7 +52,7 @@ fn select(q: Operands) -> Option<Node>
     }
 }
 
-// The answer, where the operands, which are simplified, decide it.
+// The answer, where the operands decide it.
 pub(crate) fn terminal(operation: Operation, q: Operands) -> Option<Node>
     ensures found { IfSome result (λ n. (s : Arena) → AreNodesOf s q → IsAnswer operation s q n) }
     ensures open { IfNone result (SomeBranching q) }

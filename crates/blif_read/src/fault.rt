@@ -10,53 +10,38 @@ use thiserror::Error;
 /// fault decides, and on one line the first that its variant names. Lines are counted from 1, and the line
 /// of a fault is the first physical line of its logical line.
 #[derive(Clone, Copy, Debug, Error)]
+#[error("the text has no models")]
 pub enum BlifFault {
     /// A byte outside comments is neither blank, tab nor a printed character.
-    #[error("bad byte in line {line}")]
     BadByte { line: u64 },
     /// No model is in progress at the line, and it isn't a `.model` line.
-    #[error("line {line} outside a model")]
     OutsideModel { line: u64 },
     /// A `.model` line has other than one word behind its first.
-    #[error("bad model line {line}")]
     BadModel { line: u64 },
     /// An earlier model has the name of this `.model` line.
-    #[error("model twice in line {line}")]
     ModelTwice { line: u64 },
     /// The directive is one that the profile leaves out.
-    #[error("directive left out in line {line}")]
     LeftOut { line: u64 },
     /// The directive is unknown.
-    #[error("unknown directive in line {line}")]
     UnknownDirective { line: u64 },
     /// The last directive before a row isn't `.names`.
-    #[error("stray row in line {line}")]
     StrayRow { line: u64 },
     /// A row isn't a literal for each pin and a last word `0` or `1`.
-    #[error("bad row in line {line}")]
     BadRow { line: u64 },
     /// The last word of a row differs from that of the cover's first row.
-    #[error("mixed rows in line {line}")]
     MixedRows { line: u64 },
     /// A `.names` line has no output.
-    #[error("no output name in line {line}")]
     NoOutputName { line: u64 },
     /// A `.names` line has over 1,024 pins.
-    #[error("too many pins in line {line}")]
     TooManyPins { line: u64 },
     /// A `.latch` line has a wrong number of words, an unknown type or an unknown init.
-    #[error("bad latch line {line}")]
     BadLatch { line: u64 },
     /// A `.latch` line has one of the types `ah`, `al` and `as`.
-    #[error("level latch in line {line}")]
     LevelLatch { line: u64 },
     /// A `.subckt` line has no model, or a word without `=` or with nothing on one side of it.
-    #[error("bad subcircuit line {line}")]
     BadSubckt { line: u64 },
     /// The text has no `.model` line.
-    #[error("no model")]
     NoModel,
-    #[error("no memory")]
     Memory,
 }
 

@@ -26,4 +26,4 @@ mod words;
 
 pub use fault::BlifFault;
 pub use models::{BlifModel, GateLine, Item, LatchLine, Models, PartLine};
-pub use text::{read, read_owned};
+pub use text::read;

@@ -71,13 +71,3 @@ pub fn read(alloc: Global, bytes: &[u8]) -> Result<Models, BlifFault>
     let list = models_of(alloc, bytes)?;
     Ok(Models { list })
 }
-
-/// As `read`, of a text that nothing else needs: it is dropped once it is read.
-pub fn read_owned(alloc: Global, bytes: Vec<u8>) -> Result<Models, BlifFault>
-    ensures models { MatchResult result
-        (λ models. reads bytes.items ≡ Ok models.list)
-        (λ fault. fault ≢ Memory → reads bytes.items ≡ Err fault) }
-    ensures flat { length bytes.items ≤ 4000000000 → IfOk result (λ models. CanBeFlattened models.list) }
-{
-    read(alloc, &bytes)
-}

@@ -8,26 +8,20 @@ use thiserror::Error;
 /// Why the models of a care file can't be bound to a netlist. After `NoModels` they are looked for in this
 /// order in the assumption, and then in the invariant; but want of memory may come at any time.
 #[derive(Debug, Drop, Error)]
+#[error("the models can't be bound to the netlist")]
 pub enum CareFault {
     /// There is neither an assumption nor an invariant.
-    #[error("no care model")]
     NoModels,
     /// The model has a latch.
-    #[error("care model has a latch")]
     HasLatch { model: Name },
     /// The model has no output, or several.
-    #[error("care model needs one output")]
     NotOneOutput { model: Name },
     /// This input of the model is the first that is neither an input nor a latch of the netlist.
-    #[error("unknown care name")]
     UnknownName { name: Name },
     /// This input of the invariant is the first that is an input of the netlist.
-    #[error("not a latch")]
     NotLatch { name: Name },
     /// A walk in the model leads from a gate back to it.
-    #[error("care model has a loop")]
     Loop { model: Name },
-    #[error("no memory")]
     Memory,
 }
 

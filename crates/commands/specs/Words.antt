@@ -7,8 +7,8 @@ use Rattle.std.specs.declared.option.Option.{Option}
 use Rattle.cyc_base.specs.declared.limits.TheConstants.{MIN_NODES, MAX_NODES, MIN_RING_CELLS, MAX_RING_CELLS}
 use Rattle.refusals.specs.declared.observe.Observe.{Observe}
 use Rattle.refusals.specs.declared.observe.Observe.TheVariants as observe
-use Rattle.probes.specs.declared.kind.Kind.{Kind}
-use Rattle.probes.specs.declared.kind.Kind.TheVariants as kind
+use Rattle.commands.specs.declared.kind.Kind.{Kind}
+use Rattle.commands.specs.declared.kind.Kind.TheVariants as kind
 use Rattle.commands.specs.declared.form.Form.{Form}
 use Rattle.commands.specs.declared.form.Form.TheVariants as form
 use Rattle.commands.specs.declared.topic.Topic.{Topic}

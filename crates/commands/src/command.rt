@@ -1,9 +1,9 @@
 ghost use Rattle.std.specs.Prelude.{◌≤◌, unwrap_or};
 
 use crate::form::Form;
+use crate::kind::Kind;
 use crate::topic::Topic;
 use cyc_base::Name;
-use probes::Kind;
 use refusals::Observe;
 
 /// The options of a decision.

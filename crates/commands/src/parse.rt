@@ -6,9 +6,9 @@ ghost use Rattle.commands.specs.Words.{aiger_on as aiger_asked, cells as cells_a
 
 use crate::command::{Cells, Command, Options, Rounds};
 use crate::form::Form;
+use crate::kind::Kind;
 use crate::topic::Topic;
 use cyc_base::{MAX_NODES, MAX_RING_CELLS, MIN_NODES, MIN_RING_CELLS, Name};
-use probes::Kind;
 use refusals::Observe;
 
 /// The most rounds of a storm.

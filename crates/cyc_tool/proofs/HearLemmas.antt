@@ -3,7 +3,7 @@ use Rattle.std.proofs.Common.{◌≡◌, ℕ, Bool, false, List, length, subst, 
 use Rattle.cyc_tool.proofs.Common.{Option, Trit, Counts, Files, Parts, Schedule, ShelfCall, Plan, with_netlist, with_vectors, known, GoesOn, Shows}
 use Rattle.delay_core.specs.declared.change.Change.{Change}
 use Rattle.delay_core.specs.Changes.{changes}
-use Rattle.probes.specs.declared.kind.Kind.{Kind}
+use Rattle.commands.specs.declared.kind.Kind.{Kind}
 use Rattle.cyc_tool.specs.Hearing.{HearPlay, HearRun}
 use Rattle.cyc_tool.specs.Plans.{play_on, playing, replaying, replaying_on, with_schedule}
 use Rattle.cyc_tool.proofs.PlanLemmas.{leads_after}

@@ -3,7 +3,7 @@ use Rattle.std.proofs.Common.{◌≡◌, ℕ, Bool, false, List, length, Some, O
 use Rattle.cyc_tool.proofs.Common.{Option, Trit, Counts, Files, Schedule, Parts, ShelfCall, told, Plan, Ends, with_netlist, with_vectors, known, played, delays_text, GoesOn, StopsIn, Shows, Outcome, no_memory}
 use Rattle.delay_core.specs.declared.plan.TickEnd.{TickEnd}
 use Rattle.delay_core.specs.Changes.{changes}
-use Rattle.probes.specs.declared.kind.Kind.{Kind}
+use Rattle.commands.specs.declared.kind.Kind.{Kind}
 use Rattle.cyc_tool.specs.Plans.{play_on, playing, probed_told, run_told, replaying, replaying_on, with_schedule}
 use Rattle.cyc_tool.specs.Reading.{FollowsAlone, FollowsStillAlone}
 use Rattle.cyc_tool.proofs.PlanLemmas.{goes_on_alone, goes_on_still, still_ends, still_lacks, still_used, stops_alone}

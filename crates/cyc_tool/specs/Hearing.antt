@@ -6,7 +6,7 @@ use Rattle.delay_core.specs.declared.change.Change.{Change}
 use Rattle.delay_core.specs.declared.plan.Schedule.{Schedule}
 use Rattle.delay_core.specs.Changes.{changes}
 use Rattle.probes.specs.Hearing.{EachHearsPrefix}
-use Rattle.probes.specs.declared.kind.Kind.{Kind}
+use Rattle.commands.specs.declared.kind.Kind.{Kind}
 use Rattle.commands.specs.Words.{Command, Delays}
 use Rattle.cyc_tool.specs.Calls.{ShelfCall}
 use Rattle.cyc_tool.specs.Plans.{Plan, playing, replaying}

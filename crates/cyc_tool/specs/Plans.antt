@@ -7,8 +7,8 @@ use Rattle.cyc_base.specs.declared.trit.Trit.{Trit}
 use Rattle.netlist.specs.declared.parts.Parts.{Parts}
 use Rattle.delay_core.specs.declared.plan.Schedule.{Schedule}
 use Rattle.delay_core.specs.Changes.{changes}
-use Rattle.probes.specs.declared.kind.Kind.{Kind}
-use Rattle.probes.specs.declared.kind.Kind.TheVariants.{Vcd}
+use Rattle.commands.specs.declared.kind.Kind.{Kind}
+use Rattle.commands.specs.declared.kind.Kind.TheVariants.{Vcd}
 use Rattle.delay_core.specs.declared.change.Change.{Change}
 use Rattle.blif_write.specs.Written.{written}
 use Rattle.care_sets.specs.Care.{CareSet}

@@ -2,7 +2,7 @@
 use Rattle.std.specs.Prelude.{ℕ, List}
 use Rattle.netlist.specs.declared.parts.Parts.{Parts}
 use Rattle.delay_core.specs.declared.change.Change.{Change}
-use Rattle.probes.specs.declared.kind.Kind.{Kind}
+use Rattle.commands.specs.declared.kind.Kind.{Kind}
 use Rattle.probes.specs.Showing.{texts_of}
 
 -- what the probes of a kind show of changes of a netlist

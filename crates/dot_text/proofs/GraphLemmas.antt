@@ -1,5 +1,5 @@
 -- Wires of loops, and what their sources say of them. What is drawn, as the code sees it.
-use Rattle.std.proofs.Common.{◌≡◌, ◌<◌, ◌+◌, All, length, filter, arith, ℕ, Bool, [], List, Some, None, refl, ap, ap₂, ◌∙◌}
+use Rattle.std.proofs.Common.{◌≡◌, ◌<◌, ◌+◌, All, length, filter, arith, ℕ, Bool, [], List, Some, None, ap, ap₂, ◌∙◌}
 use Rattle.std.proofs.lemmas.List.Elements.{All-filter, All-from_get_or}
 use Rattle.std.proofs.lemmas.List.FromFn.{get_or-range_with_len, length-range_with_len}
 use Rattle.std.proofs.lemmas.List.{length-append, length-map}
@@ -17,7 +17,6 @@ use Rattle.loops.specs.Cuts.{Loops}
 use Rattle.explanations.specs.declared.explanation.Explanation.{Explanation}
 use Rattle.loops.specs.Listed.{gate_numbers}
 use Rattle.loops.specs.Sweeps.{first_gate, gate_of, in_loop_of}
-use Rattle.unroll.proofs.PinLemmas.{some_if, none_if}
 use Rattle.dot_text.specs.Dot.{wire}
 use Rattle.dot_text.specs.ExplanationGraphs.{Picture, gate_wire, needed_wire, picture_of}
 use Rattle.dot_text.specs.Marks.{AreMarksOf}
@@ -29,7 +28,7 @@ module _ (net : Parts) (loops : Loops) (gate : ℕ) (pin : Sig) where
   wire_drawn source is = grind arith
 
   pub wire_left : None ≡ (if in_loop_of net loops gate pin then Some (gate_of net pin) else None) → loop_wire net loops gate pin ≡ []
-  wire_left is = let outside = none_if (in_loop_of net loops gate pin) (gate_of net pin) None refl is in rw outside refl
+  wire_left is = grind arith
 
 -- the gates that pass a test
 pub kept_inside : (net : Parts) (p : ℕ → Bool) → All (λ n. n < length net.gates) (filter p (gate_numbers net))

@@ -4,7 +4,7 @@ use Rattle.std.specs.Prelude.{◌==◌}
 use Rattle.std.proofs.lemmas.Bool.{eqb-true, eq-eqb, or_cases, or_left, or_right}
 use Rattle.cyc_base.proofs.TruthLemmas.{same_truth}
 use Rattle.dot_text.proofs.Common.{is_marked, Parts}
-use Rattle.isolation.specs.Cones.{AddMarks}
+use Rattle.loops.specs.Cones.{AddMarks}
 use Rattle.dot_text.specs.ExplanationGraphs.{is_one_of}
 use Rattle.dot_text.specs.Marks.{AreMarksOf}
 

@@ -1,6 +1,6 @@
 -- How clauses see what is drawn.
 use Rattle.std.specs.Prelude.{◌||◌}
-use Rattle.isolation.specs.Cones.{is_marked}
+use Rattle.loops.specs.Cones.{is_marked}
 use Rattle.loops.specs.Found.{loops_of}
 use Rattle.dot_text.specs.ExplanationGraphs.{Picture}
 use Rattle.dot_text.specs.declared.drawing.Drawing.{Drawing}

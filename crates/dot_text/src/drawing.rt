@@ -2,7 +2,7 @@
 
 ghost use Rattle.std.specs.Prelude.{◌≡◌, ◌≤◌, ◌<◌, ◌+◌, ◌||◌, ℕ, false, All, IfOk, filter, length};
 ghost use Rattle.cyc_base.specs.Values.{bits};
-ghost use Rattle.isolation.specs.Cones.{is_marked};
+ghost use Rattle.loops.specs.Cones.{is_marked};
 ghost use Rattle.loops.specs.Found.{loops_of};
 ghost use Rattle.loops.specs.Listed.{gate_numbers};
 ghost use Rattle.netlist.specs.Fixpoint.{fix};
@@ -13,8 +13,7 @@ ghost use Rattle.dot_text.specs.Marks.{AreMarksOf};
 
 use cyc_base::Trit;
 use explanations::Explanation;
-use isolation::mark_all;
-use loops::LoopedNetlist;
+use loops::{LoopedNetlist, mark_all};
 use netlist::Netlist;
 use std::alloc::{AllocError, Global};
 use ternary_run::settle_at;
@@ -56,7 +55,7 @@ fn mark_alone(net: &Netlist, gates: &[u32], marks: &mut [bool])
 }
 
 // A mark for each gate, which says whether it is one of these.
-#[tactic(auto, using(isolation::proofs::MarkLemmas::unmarked))]
+#[tactic(auto, using(loops::proofs::MarkLemmas::unmarked))]
 fn marks_of(alloc: Global, net: &Netlist, gates: &[u32]) -> Result<Vec<bool>, AllocError>
     requires { All (λ gate. gate < length net.now.gates) gates.now }
     ensures { IfOk result (λ marks. AreMarksOf net.now gates.now marks.items) }

@@ -6,7 +6,7 @@ ghost use Rattle.cyc_base.specs.Values.{bits};
 ghost use Rattle.cyc_base.specs.declared.trit.Trit.TheVariants.{X};
 ghost use Rattle.cyc_io.specs.Taken.{IsAppended, sink_call};
 ghost use Rattle.cyc_io.specs.Text.{text_bytes};
-ghost use Rattle.isolation.specs.Cones.{is_marked};
+ghost use Rattle.loops.specs.Cones.{is_marked};
 ghost use Rattle.loops.specs.Found.{loops_of};
 ghost use Rattle.netlist.specs.Fixpoint.{fix, wire as value_of};
 ghost use Rattle.netlist.specs.Netlists.{IsNetlist, IsSignal, count, gate_sig, signal};

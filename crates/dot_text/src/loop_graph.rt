@@ -12,9 +12,8 @@ ghost use Rattle.dot_text.specs.LoopGraphs.{cluster_body, clusters, gate_node, l
 use crate::node::{put_node, put_quoted, put_wire};
 use cyc_base::Sig;
 use cyc_io::{Failed, Sink, put_numbered, write_whole};
-use loops::{ListedLoop, LoopedNetlist};
+use loops::{ListedLoop, LoopedNetlist, source_in_loop};
 use netlist::Netlist;
-use unroll::source_in_loop;
 
 fn put_gate<K: Sink>(sink: &mut K, net: &Netlist, gate: u32) -> Result<(), Failed>
     requires { gate < length net.now.gates }

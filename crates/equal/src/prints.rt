@@ -5,8 +5,7 @@ ghost use Rattle.netlist.specs.Netlists.{count};
 
 use crate::words::{Word, gate_word, word_at};
 use care_sets::Care;
-use isolation::gates_at;
-use loops::{Blocks, Cut, LoopedNetlist, find_blocks, find_cut};
+use loops::{Blocks, Cut, LoopedNetlist, find_blocks, find_cut, gates_at};
 use netlist::Netlist;
 use std::alloc::{AllocError, Global};
 use std::marker::Model;

@@ -73,10 +73,10 @@ pub wide-same : (net : Parts) (loops : Loops) (v u : Vectors) (s t : Arena) → 
 wide-same net loops v u s t vars same {w} wide = subst (λ (x : ℕ). IsWide x (IsWorking net loops v) w) (sym vars) (subst (λ (x : Vectors). IsWide s.vars (IsWorking net loops x) w) (sym same) wide)
 
 -- one block more, and all of them
-pub below-next : (net : Parts) (blocks : Blocks) (b : ℕ) → 4 * ((length net.gates + 1) * below_cost net blocks b) + 4 * ((length net.gates + 1) * block_cost net blocks b) ≤ 4 * ((length net.gates + 1) * below_cost net blocks (b + 1))
+pub below-next : (net : Parts) (blocks : Blocks) (b : ℕ) → 2 * ((length net.gates + 1) * below_cost net blocks b) + 2 * ((length net.gates + 1) * block_cost net blocks b) ≤ 2 * ((length net.gates + 1) * below_cost net blocks (b + 1))
 below-next net blocks b = grind (arith, total-next (home_of blocks) (cost net) b (length net.gates))
 
-pub below-all : (net : Parts) (blocks : Blocks) (b : ℕ) → 4 * ((length net.gates + 1) * below_cost net blocks b) ≤ 4 * ((length net.gates + 1) * effort net)
+pub below-all : (net : Parts) (blocks : Blocks) (b : ℕ) → 2 * ((length net.gates + 1) * below_cost net blocks b) ≤ 2 * ((length net.gates + 1) * effort net)
 below-all net blocks b =
     let most : below_cost net blocks b ≤ effort net = total-all (λ (gate : Gate). size gate.cover + 1) net.gates no_gate (λ n. ltb (home_of blocks n) b) in
     let a = mul-le-mul_left {m = below_cost net blocks b} {n = effort net} (length net.gates + 1) most in

@@ -20,13 +20,11 @@ pub use Rattle.fixpoint.specs.Counts.{AgreeOn, AreCountable, AreNodes, IsCompare
 pub use Rattle.fixpoint.specs.Kept.{AreKept, GainsRoots, HoldsRails, RootsStay, rails_under, values_under}
 pub use Rattle.fixpoint.specs.Lifting.{AreLifted, BoundsGate}
 pub use Rattle.fixpoint.specs.Orders.{AreTaken, columns_read, first_signals}
-pub use Rattle.fixpoint.specs.Plans.{AreLocalsOf}
 pub use Rattle.fixpoint.specs.Solved.{AreKeptSteps, AreStepsOf, HasEachLoopOnce, IsLoopAt, IsSolution, Vectors, last_step, loop_under, step_at, steps_under}
 pub use Rattle.fixpoint.specs.Sweeping.{AreFresh, AreKeptBelow, AreSwept, AreWires, HasSolvedTo, IsGateSet, IsSolvedBelow, IsSolvedTo, IsSweepable, after_sweeps, place_of, rails_at, rails_read, unknown, vectors}
 pub use Rattle.fixpoint.specs.Underway.{IsAtRest, IsUnderway}
 pub use Rattle.fixpoint.specs.Working.{HasLargeCover, IsGatePart, IsWorking, below_cost, block_cost, cost, effort, no_loops, order_cost, read_at_fix, total}
 pub use Rattle.fixpoint.specs.declared.kept.KeptRails.{KeptRails}
-pub use Rattle.fixpoint.specs.declared.locals.SharedDiagram.{SharedDiagram}
 pub use Rattle.fixpoint.specs.declared.solved.LoopSteps.{LoopSteps}
 pub use Rattle.fixpoint.specs.declared.solved.Solved.{Solved}
 pub use Rattle.fixpoint.specs.declared.solved.SweptLoop.{SweptLoop}

@@ -5,7 +5,6 @@ pub mod WireLemmas
 mod SweepLemmas
 pub mod CutLemmas
 mod LoopLemmas
-mod PlanLemmas
 mod BlockLemmas
 mod MinimumLemmas
 pub mod WorkLemmas

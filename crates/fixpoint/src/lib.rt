@@ -14,7 +14,6 @@ mod kept;
 pub mod laws;
 mod layout;
 mod lifting;
-mod locals;
 mod progress;
 mod solved;
 mod solving;

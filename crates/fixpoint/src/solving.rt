@@ -68,7 +68,6 @@ fn solve_and_keep(
     requires solved { HasSolvedTo looped.now d.old given.now place progress.old }
     ensures solved { OnOk result (HasSolvedTo looped.now d.new given.now (place + 1) progress.new) }
     ensures steps { IfOk result (IsKeptAt looped.now d.new (values_under d.new given.now) place) }
-    ensures places { result ≡ Err StoreFault.Full → progress.new.places.items ≡ progress.old.places.items }
     ensures roots { RootsStay d.old d.new }
     ensures adds { AddsWithin result d.old d.new (HasLargeCover looped.now.net) (IsWidth d.old.vars looped.now (values_under d.old given.now))
         (2 * ((length looped.now.net.gates + 1) * block_cost looped.now.net looped.now.blocks place)) }
@@ -78,35 +77,6 @@ fn solve_and_keep(
     let found = solve_block(alloc, d, looped, gates[0], &mut progress.wires)?;
     let first = looped.net().columns() as usize;
     Ok(keep_block(alloc, d, gates, first, progress, found)?)
-}
-
-/// Solves the block at a place and keeps it. Where it finds the store full, it takes out what no root reaches, also of
-/// what this try had made, and tries once more. Where no node was made since the last sweep of the store, the second
-/// try would be the first one again.
-fn solve_with_retry(
-    alloc: Global,
-    d: &mut Diagrams,
-    looped: &LoopedNetlist<'_>,
-    given: &[KeptRails],
-    place: usize,
-    progress: &mut Progress,
-) -> Result<Option<LoopSteps>, StoreFault>
-    requires place { place < length looped.now.blocks.list }
-    requires solved { HasSolvedTo looped.now d.old given.now place progress.old }
-    ensures solved { OnOk result (HasSolvedTo looped.now d.new given.now (place + 1) progress.new) }
-    ensures steps { IfOk result (IsKeptAt looped.now d.new (values_under d.new given.now) place) }
-    ensures roots { RootsStay d.old d.new }
-    ensures adds { AddsWithin result d.old d.new (HasLargeCover looped.now.net) (IsWidth d.old.vars looped.now (values_under d.old given.now))
-        (4 * ((length looped.now.net.gates + 1) * block_cost looped.now.net looped.now.blocks place)) }
-{
-    let may_gain = d.store().count() > progress.left;
-    match solve_and_keep(alloc, d, looped, given, place, progress) {
-        Err(StoreFault::Full) if may_gain => {
-            sweep_store(alloc, d, given, progress)?;
-            solve_and_keep(alloc, d, looped, given, place, progress)
-        }
-        result => result,
-    }
 }
 
 /// Adds what was found of a block.
@@ -133,13 +103,13 @@ fn solve_blocks(
     ensures steps { IfOk result (λ loops. All (AreKeptSteps looped.now.net looped.now.blocks looped.now.cut d.new (values_under d.new given.now)) loops.items) }
     ensures roots { RootsStay d.old d.new }
     ensures adds { AddsWithin result d.old d.new (HasLargeCover looped.now.net) (IsWidth d.old.vars looped.now (values_under d.old given.now))
-        (4 * ((length looped.now.net.gates + 1) * effort looped.now.net)) }
+        (2 * ((length looped.now.net.gates + 1) * effort looped.now.net)) }
 {
     d.store().laws();
     sweep_store(alloc, d, given, progress)?;
     let mut loops = Vec::new(alloc);
     for place in 0..looped.blocks().list.items().len() {
-        let found = solve_with_retry(alloc, d, looped, given, place, progress)?;
+        let found = solve_and_keep(alloc, d, looped, given, place, progress)?;
         sweep_if_due(alloc, d, given, progress)?;
         add_loop(&mut loops, found)?;
     }
@@ -195,8 +165,8 @@ fn solve_looped(
 /// inputs and latches. Each root of before keeps its function, after a refusal too.
 ///
 /// Before the first block and in the end it takes out what no root reaches, so that the store then holds just the
-/// entries that are reached from its roots. Between blocks it may do so too, also where a block finds the store full,
-/// which is then tried once more. So nodes of before that no root had mean nothing after the call.
+/// entries that are reached from its roots. Between blocks it may do so too. So nodes of before that no root had mean
+/// nothing after the call.
 ///
 /// For each w that is wide for the working list, it adds at most `10 * w * (gates + 2) * effort` nodes, where the
 /// effort is the sum of the covers' sizes and of one for each gate. `Full` comes only where a gate's cover has a

@@ -2,23 +2,22 @@
 
 ghost use Rattle.std.specs.Prelude.{◌≡◌, ◌<◌, ◌≤◌, ◌+◌, ◌*◌, ◌↔◌, ℕ, true, length, map, filter, take, All, Contains, IfOk, OnOk};
 ghost use Rattle.bdd_store.specs.Arena.{Arena};
-ghost use Rattle.bdd_store.specs.Growth.{KeepsNodes, GrowsWithin, NoOtherCause};
+ghost use Rattle.bdd_store.specs.Growth.{KeepsNodes, GrowsWithin};
 ghost use Rattle.dual_rail.specs.Rails.{AreRailsOf};
 ghost use Rattle.loops.specs.Blocks.{block_at, home_of};
 ghost use Rattle.loops.specs.Cuts.{is_cut};
 ghost use Rattle.loops.specs.Sweeps.{first_gate};
 ghost use Rattle.fixpoint.specs.Solved.{Vectors, IsLoopAt, AreStepsOf};
 ghost use Rattle.fixpoint.specs.Working.{IsWidth, HasLargeCover, order_cost, block_cost};
-ghost use Rattle.fixpoint.specs.Plans.{AreLocalsOf, IsPlan, IsPlanOf};
+ghost use Rattle.fixpoint.specs.Plans.{IsPlan, IsPlanOf};
 ghost use Rattle.fixpoint.specs.Underway.{IsUnderway, IsSweptOnce};
 ghost use Rattle.fixpoint.specs.Sweeping.{States, after_sweeps, rails_at, vectors, AreWires, IsSolvedBelow, AreFresh, IsSweepable, AreSwept};
 
-use crate::locals::Locals;
 use crate::solved::SweptLoop;
 use crate::wires::Wires;
 use bdd_ops::Diagrams;
 use bdd_store::StoreFault;
-use cyc_base::{Items, MAX_NODES};
+use cyc_base::Items;
 use dual_rail::Rails;
 use loops::{Cut, LoopedNetlist};
 use std::alloc::{AllocError, Global};
@@ -28,8 +27,6 @@ use std::alloc::{AllocError, Global};
 pub struct LoopPlan {
     /// Its gates, each after those that it reads and that are no cut wires.
     pub(crate) order: Items<u32>,
-    /// The diagrams of their covers.
-    pub(crate) locals: Locals,
     /// Its cut wires, in flat order.
     pub(crate) cuts: Items<u32>,
 }
@@ -57,27 +54,16 @@ fn cuts_among(alloc: Global, cut: &Cut, gates: &[u32]) -> Result<Vec<u32>, Alloc
         .collect(alloc)
 }
 
-/// The order, the diagrams and the cut wires of a loop. `Full` comes only where the cover of a gate has a size over the
-/// limit.
-fn plan_loop(
-    alloc: Global,
-    looped: &LoopedNetlist<'_>,
-    place: u32,
-    limit: u32,
-) -> Result<LoopPlan, StoreFault>
-    requires at { IsLoopAt looped.now.blocks place }
-    requires limit { limit ≤ MAX_NODES }
-    ensures plan { IfOk result (IsPlanOf looped.now place) }
-    ensures full { result ≡ Err StoreFault.Full → HasLargeCover looped.now.net limit }
+/// The order and the cut wires of a loop.
+fn plan_loop(alloc: Global, looped: &LoopedNetlist<'_>, place: u32) -> Result<LoopPlan, AllocError>
+    requires { IsLoopAt looped.now.blocks place }
+    ensures { IfOk result (IsPlanOf looped.now place) }
 {
-    let net = looped.net();
-    let cut = looped.cut();
-    let cuts = cuts_among(alloc, cut, gates_of(looped, place as usize))?;
+    let gates = gates_of(looped, place as usize);
+    let cuts = cuts_among(alloc, looped.cut(), gates)?;
     let order = looped.order_of_block(alloc, place)?;
-    let locals = Locals::of(alloc, net, &order, limit)?;
     Ok(LoopPlan {
         order: Items::of(order),
-        locals,
         cuts: Items::of(cuts),
     })
 }
@@ -101,10 +87,8 @@ impl Wires {
         d: &mut Diagrams,
         looped: &LoopedNetlist<'_>,
         order: &[u32],
-        locals: &Locals,
     ) -> Result<(), StoreFault>
         requires order { All (λ n. n < length looped.now.net.gates) order.now }
-        requires locals { AreLocalsOf looped.now.net order.now locals.now }
         requires wires { AreWires looped.now.net d.old self.old.before.items self.old.rails.items }
         ensures swept { (b : ℕ) (v : Vectors) (c : States) →
             IsSweepable looped.now d.old v c b order.now self.old.before.items self.old.rails.items →
@@ -119,11 +103,10 @@ impl Wires {
         ensures grows { (b k : ℕ) (v : Vectors) →
             IsSweepable looped.now d.old v (after_sweeps looped.now v k) b order.now self.old.before.items self.old.rails.items →
             k ≤ length (filter (is_cut looped.now.cut.wires) (block_at looped.now.blocks b).gates) →
-            GrowsWithin result d.old d.new NoOtherCause (IsWidth d.old.vars looped.now v) (2 * order_cost looped.now.net order.now) }
+            GrowsWithin result d.old d.new (HasLargeCover looped.now.net) (IsWidth d.old.vars looped.now v) (2 * order_cost looped.now.net order.now) }
     {
-        for place in 0..order.len() {
-            let diagram = locals.at(place);
-            self.set_by_diagram(alloc, d, looped, order[place], diagram)?;
+        for gate in order {
+            self.set_gate(alloc, d, looped, *gate)?;
         }
         Ok(())
     }
@@ -177,13 +160,13 @@ impl Wires {
         ensures longer { OnOk result (length steps.new.items ≡ length steps.old.items + 1) }
         ensures grows { (b : ℕ) (v : Vectors) → IsPlanOf looped.now b plan.now →
             IsUnderway looped.now d.old v b plan.now.cuts steps.old.items self.old.before.items self.old.rails.items →
-            GrowsWithin result d.old d.new NoOtherCause (IsWidth d.old.vars looped.now v) (2 * order_cost looped.now.net plan.now.order) }
+            GrowsWithin result d.old d.new (HasLargeCover looped.now.net) (IsWidth d.old.vars looped.now v) (2 * order_cost looped.now.net plan.now.order) }
     {
         let first = looped.net().columns() as usize;
         let cuts = plan.cuts.items();
         let step = step_of(alloc, cuts, &self.before)?;
         steps.push(Items::of(step))?;
-        self.sweep(alloc, d, looped, plan.order.items(), &plan.locals)?;
+        self.sweep(alloc, d, looped, plan.order.items())?;
         d.store().laws();
         if self.are_still(cuts, first) {
             return Ok(true);
@@ -212,7 +195,7 @@ pub(crate) fn solve_loop(
     ensures grows { GrowsWithin result d.old d.new (HasLargeCover looped.now.net) (IsWidth d.old.vars looped.now (vectors looped.now.net d.old wires.old.rails.items))
         (2 * ((length looped.now.net.gates + 1) * block_cost looped.now.net looped.now.blocks place)) }
 {
-    let plan = plan_loop(alloc, looped, place, d.store().limit())?;
+    let plan = plan_loop(alloc, looped, place)?;
     let mut steps = Vec::new(alloc);
     loop {
         let still = wires.sweep_once(alloc, d, looped, &plan, &mut steps)?;

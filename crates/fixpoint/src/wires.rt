@@ -62,12 +62,7 @@ pub struct Wires {
 }
 
 /// The diagram of a gate's cover. `Full` comes only where the cover has a size over the limit.
-pub(crate) fn local_of(
-    alloc: Global,
-    net: &Netlist,
-    gate: u32,
-    limit: u32,
-) -> Result<LocalDiagram, StoreFault>
+fn local_of(alloc: Global, net: &Netlist, gate: u32, limit: u32) -> Result<LocalDiagram, StoreFault>
     requires gate { gate < length net.now.gates }
     requires limit { limit ≤ MAX_NODES }
     ensures diagram { IfOk result (λ l. IsDiagramOf l (gate_at net.now gate).cover) }
@@ -194,34 +189,6 @@ impl Wires {
             .collect(alloc)
     }
 
-    /// Sets a gate to the rails of its cover on what it reads, by the cover's diagram.
-    pub(crate) fn set_by_diagram(
-        &mut self,
-        alloc: Global,
-        d: &mut Diagrams,
-        looped: &LoopedNetlist<'_>,
-        gate: u32,
-        diagram: &LocalDiagram,
-    ) -> Result<(), StoreFault>
-        requires gate { gate < length looped.now.net.gates }
-        requires diagram { IsDiagramOf diagram.now (gate_at looped.now.net gate).cover }
-        requires wires { AreWires looped.now.net d.old self.old.before.items self.old.rails.items }
-        ensures valid { IsNetlist looped.now.net }
-        ensures before { self.new.before.items ≡ self.old.before.items }
-        ensures set { OnOk result (IsGateSet looped.now.net looped.now.cut d.old d.new self.old.before.items self.old.rails.items self.new.rails.items gate) }
-        ensures grows { GrowsWithin result d.old d.new NoOtherCause
-            (BoundsEach d.old.vars (IsExtended d.old (map (rails_read looped.now.net looped.now.cut self.old.before.items self.old.rails.items) (gate_at looped.now.net gate).pins) (cover_value (gate_at looped.now.net gate).cover)))
-            (2 * size (gate_at looped.now.net gate).cover) }
-    {
-        let net = looped.net();
-        let Ok(pins) = self.pins_read(alloc, looped, net.gate(gate).pins.items()) else {
-            return Err(StoreFault::Memory);
-        };
-        let made = lift_cover(alloc, d, net, gate, diagram, &pins)?;
-        self.rails[(net.columns() + gate) as usize] = made;
-        Ok(())
-    }
-
     /// Sets a gate to the rails of its cover on what it reads.
     pub(crate) fn set_gate(
         &mut self,
@@ -240,8 +207,11 @@ impl Wires {
             (2 * size (gate_at looped.now.net gate).cover) }
     {
         let net = looped.net();
-        net.laws();
-        let diagram = local_of(alloc, net, gate, d.store().limit())?;
-        self.set_by_diagram(alloc, d, looped, gate, &diagram)
+        let Ok(pins) = self.pins_read(alloc, looped, net.gate(gate).pins.items()) else {
+            return Err(StoreFault::Memory);
+        };
+        let made = gate_rails(alloc, d, net, gate, &pins)?;
+        self.rails[(net.columns() + gate) as usize] = made;
+        Ok(())
     }
 }

@@ -18,9 +18,7 @@ pub use Rattle.fixpoint.specs.Orders.{order}
 pub use Rattle.fixpoint.specs.Solved.{Vectors}
 pub use Rattle.fixpoint.specs.Sweeping.{rails_at, unknown}
 pub use Rattle.isolation.specs.Building.{AreClosed, AreCopies, AreNumbersOf, IsLoopNetlist, name_at}
-pub use Rattle.isolation.specs.Cones.{AddMarks, AreMarkedFrom, IsNearOne}
 pub use Rattle.isolation.specs.Excerpts.{IsExcerpt, gate_in, inputs_in, origin, origins}
-pub use Rattle.isolation.specs.Laws.{IsUpstream}
 pub use Rattle.isolation.specs.Settling.{AreKnown, BoundsKnown, HasUnknownRails, IsSolvedNetlist}
 pub use Rattle.isolation.specs.Unsettled.{IsLaid}
 pub use Rattle.loops.proofs.Existence.{loops_exist}
@@ -32,6 +30,7 @@ pub use Rattle.loops.specs.Blocks.{AreBlocksOf, block_at, home_of}
 pub use Rattle.loops.specs.Cuts.{AreLoopsOf, Loops}
 pub use Rattle.loops.specs.Found.{loops_of}
 pub use Rattle.loops.specs.Sweeps.{CutsAreFixed, first_gate, gate_of, sweeps, value_in}
+pub use Rattle.loops.specs.Walks.{IsUpstream}
 pub use Rattle.loops.specs.declared.structure.Blocks.{Blocks}
 pub use Rattle.netlist.specs.Fixpoint.{fix, fix_gates, wire}
 pub use Rattle.netlist.specs.Netlists.{IsNetlist, count, gate_at, gate_sig, no_gate, signal}

@@ -9,7 +9,7 @@ use Rattle.cover_logic.proofs.ExtensionLemmas.{ext_at_bits}
 use Rattle.loops.proofs.Walks.{leads-step}
 use Rattle.isolation.specs.Excerpts.{IsRead}
 use Rattle.isolation.specs.Laws.{IsLooped, SettledWhere, SettledLoopsDetermine, UnsettledLoopsDecide}
-use Rattle.isolation.proofs.UpstreamLemmas.{upstream-trans, same-up}
+use Rattle.loops.proofs.UpstreamLemmas.{upstream-trans, same-up}
 use Rattle.isolation.proofs.ExcerptLemmas.{known_list, gates_known}
 
 module _ (net : Parts) (valid : IsNetlist net) (blocks : Blocks) (are : AreBlocksOf net blocks) (settled : ℕ → Bool) (alone : SettledWhere net blocks settled) (v : List Bool) (width : length v ≡ first_gate net) where

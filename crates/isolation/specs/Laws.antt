@@ -14,7 +14,7 @@ use Rattle.loops.specs.declared.structure.Blocks.{Blocks}
 use Rattle.loops.specs.Blocks.{AreBlocksOf, block_at, home_of}
 use Rattle.loops.specs.Cuts.{AreLoopsOf, Loops}
 use Rattle.loops.specs.Sweeps.{first_gate, value_in, sweeps as sweeps_of, CutsAreFixed, IsCountOfSweeps}
-use Rattle.loops.specs.Walks.{AnyGate, Leads}
+use Rattle.loops.specs.Walks.{IsUpstream}
 use Rattle.isolation.specs.Excerpts.{gate_in, inputs_in, AreWhole, IsExcerpt}
 use Rattle.isolation.specs.Settled.{SettleAlone, SettleInSweeps}
 use Rattle.isolation.specs.Unsettled.{IsLaid}
@@ -22,10 +22,6 @@ use Rattle.isolation.specs.Unsettled.{IsLaid}
 -- the gate is in a loop
 abbrev pub IsLooped : Blocks → ℕ → Type 0
 IsLooped blocks n = (block_at blocks (home_of blocks n)).looped ≡ true
-
--- the gate m is n, or a walk leads from it to n
-abbrev pub IsUpstream : Parts → ℕ → ℕ → Type 0
-IsUpstream net m n = (m ≡ n) ⊎ Leads net AnyGate m n
 
 -- the loops at places that pass the test are settled by themselves
 abbrev pub SettledWhere : Parts → Blocks → (ℕ → Bool) → Type 0

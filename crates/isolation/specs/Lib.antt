@@ -3,7 +3,6 @@ pub mod Excerpts
 pub mod Settled
 pub mod Unsettled
 pub mod Laws
-pub mod Cones
 pub mod Columns
 pub mod Building
 -- The code's own: what its parts say to each other.

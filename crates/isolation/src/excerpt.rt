@@ -9,22 +9,9 @@ ghost use Rattle.isolation.specs.Building.{AddWires, AreApart, AreClosed, AreCop
 
 use cyc_base::{Items, Name, Sig};
 use indexmap::IndexSet;
-use loops::LoopedNetlist;
+use loops::{LoopedNetlist, gates_at};
 use netlist::{Gate, Netlist, Parts, PartsFault};
 use std::alloc::{AllocError, Global};
-
-/// The gates of the block at this place.
-///
-/// The condition is that there is one at this place.
-pub fn gates_at<'a>(looped: &LoopedNetlist<'a>, place: usize) -> &'a [u32]
-    requires { place < length looped.now.blocks.list }
-    ensures is { result.now ≡ (block_at looped.now.blocks place).gates }
-    ensures within { All (λ n. n < length looped.now.net.gates) result.now }
-    ensures valid { IsNetlist looped.now.net }
-{
-    looped.net().laws();
-    looped.blocks().list.items()[place].gates.items()
-}
 
 /// Whether a signal is a gate of the block at this place.
 fn is_inside(looped: &LoopedNetlist<'_>, place: u32, signal: Sig) -> bool

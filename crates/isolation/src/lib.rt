@@ -7,12 +7,10 @@
 #![tactic(auto)]
 
 mod columns;
-mod cones;
 mod excerpt;
 pub mod laws;
 mod settling;
 
 pub use columns::column_rails;
-pub use cones::{mark_all, mark_driver, upstream_of};
-pub use excerpt::{gates_at, loop_netlist};
+pub use excerpt::loop_netlist;
 pub use settling::settles_alone;

@@ -21,3 +21,5 @@ pub mod OrderLemmas
 pub mod BlockLemmas
 pub mod LoopedLemmas
 pub mod ListLemmas
+pub mod UpstreamLemmas
+pub mod MarkLemmas

@@ -13,6 +13,7 @@ pub mod Searching
 pub mod Listed
 pub mod Numbered
 pub mod Left
+pub mod Cones
 -- The code's own: what its parts say to each other.
 pub mod Members
 pub mod Landmarks

@@ -13,6 +13,10 @@ pub record Leads (net : Parts) (P : ℕ → Type 0) (a b : ℕ) : Type 0 where
 abbrev pub AnyGate : ℕ → Type 0
 AnyGate n = Unit {0}
 
+-- the gate a is b, or a walk leads from it to b
+abbrev pub IsUpstream : Parts → ℕ → ℕ → Type 0
+IsUpstream net a b = (a ≡ b) ⊎ Leads net AnyGate a b
+
 -- two gates, or one twice, are in one loop: each leads to the other
 pub record SameLoop (net : Parts) (a b : ℕ) : Type 0 where
   pub there : Leads net AnyGate a b

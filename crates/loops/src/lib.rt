@@ -3,10 +3,12 @@
 //!
 //! It stands on `netlist`, for walks and the fixpoint. The layers above hand on a netlist with its blocks and its cut
 //! wires as one value, a `LoopedNetlist`: it tells which gates are in one loop, lists the loops in order (`LoopList`),
-//! and orders the gates of a loop for a sweep. The laws of sweeps are in `laws`.
+//! and orders the gates of a loop for a sweep; `upstream_of` marks what lies upstream of gates. The laws of sweeps are in
+//! `laws`.
 #![tactic(auto)]
 
 mod blocks;
+mod cones;
 mod cuts;
 mod gate_list;
 mod grouped_netlist;
@@ -23,8 +25,9 @@ mod search;
 mod structure;
 
 pub use blocks::find_blocks;
+pub use cones::{mark_all, upstream_of};
 pub use cuts::find_cut;
 pub use gate_list::{GateList, empty_lists};
 pub use loop_list::{ListedLoop, LoopList};
-pub use looped_netlist::LoopedNetlist;
+pub use looped_netlist::{LoopedNetlist, gates_at, source_in_loop};
 pub use structure::{Block, Blocks, Cut, SweepCounts};

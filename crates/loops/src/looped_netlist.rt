@@ -1,13 +1,16 @@
 //! A netlist with its blocks and its cut wires.
 
-ghost use Rattle.std.specs.Prelude.{◌≡◌, ◌<◌, length};
-ghost use Rattle.loops.specs.Blocks.{AreBlocksOf};
+ghost use Rattle.std.specs.Prelude.{◌≡◌, ◌<◌, Some, None, if◌then◌else◌, length, All, IfSome};
+ghost use Rattle.netlist.specs.Netlists.{IsNetlist, IsSignal};
+ghost use Rattle.loops.specs.Blocks.{AreBlocksOf, block_at};
 ghost use Rattle.loops.specs.Cuts.{IsCutOf};
 ghost use Rattle.loops.specs.Found.{loops_of};
 ghost use Rattle.loops.specs.Looped.{IsLooped};
+ghost use Rattle.loops.specs.Sweeps.{gate_of, in_loop_of};
 
 use crate::grouped_netlist::GroupedNetlist;
 use crate::structure::{Blocks, Cut};
+use cyc_base::Sig;
 use netlist::Netlist;
 use std::marker::Model;
 
@@ -91,4 +94,31 @@ impl<'a> LoopedNetlist<'a> {
     {
         self.grouped.are_in_one_loop(gate, other)
     }
+}
+
+/// The gates of the block at this place.
+///
+/// The condition is that there is one at this place.
+pub fn gates_at<'a>(looped: &LoopedNetlist<'a>, place: usize) -> &'a [u32]
+    requires { place < length looped.now.blocks.list }
+    ensures is { result.now ≡ (block_at looped.now.blocks place).gates }
+    ensures within { All (λ n. n < length looped.now.net.gates) result.now }
+    ensures valid { IsNetlist looped.now.net }
+{
+    looped.net().laws();
+    looped.blocks().list.items()[place].gates.items()
+}
+
+/// The gate that drives a pin of this gate, where it is in this gate's loop.
+///
+/// The condition is that the gate and the pin are the netlist's.
+pub fn source_in_loop(looped: &LoopedNetlist<'_>, gate: u32, pin: Sig) -> Option<u32>
+    requires gate { gate < length looped.now.net.gates }
+    requires pin { IsSignal looped.now.net pin }
+    ensures source { result ≡ (if in_loop_of looped.now.net (loops_of looped.now.net) gate pin then Some (gate_of looped.now.net pin) else None) }
+    ensures within { IfSome result (λ source. source < length looped.now.net.gates) }
+    ensures looped { IsLooped looped.now }
+{
+    let source = looped.net().driver(pin)?;
+    looped.are_in_one_loop(gate, source).then_some(source)
 }

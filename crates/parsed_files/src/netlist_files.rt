@@ -7,7 +7,7 @@ ghost use Rattle.parsed_files.specs.Seen.{error_seen};
 
 use crate::errors::too_long;
 use crate::fault::FileError;
-use blif_read::{BlifModel, read, read_owned};
+use blif_read::{BlifModel, read};
 use cyc_base::{MAX_FILE_BYTES, Name};
 use flatten::flatten_owned;
 use netlist::Netlist;
@@ -68,7 +68,8 @@ fn netlist_in_owned(alloc: Global, bytes: Vec<u8>) -> Result<Netlist, FileError>
     ensures latches { IfOk result (λ net. length net.latches ≤ 4000000) }
     ensures bad { IfErr result (λ error. IsErrorOf (netlist_meant bytes.items) (error_seen error)) }
 {
-    let models = read_owned(alloc, bytes)?;
+    let models = read(alloc, &bytes)?;
+    drop(bytes);
     let top = top(models.list.items()).copy()?;
     Ok(flatten_owned(alloc, models, &top)?)
 }

@@ -3,7 +3,7 @@ use Rattle.std.proofs.Common.{◌<◌, ◌+◌, ℕ, List, [], ◌∷◌, ◌++�
 use Rattle.std.proofs.lemmas.List.{append_assoc, append-nil, take_all, take_more}
 use Rattle.netlist.specs.declared.parts.Parts.{Parts}
 use Rattle.delay_core.specs.declared.change.Change.{Change}
-use Rattle.probes.specs.declared.kind.Kind.{Kind}
+use Rattle.commands.specs.declared.kind.Kind.{Kind}
 use Rattle.probes.specs.Hearing.{Hears, HearsPrefix, EachHears, EachHearsPrefix}
 use Rattle.probes.proofs.SliceLemmas.{zip_same, zip_as}
 

@@ -4,7 +4,7 @@ use Rattle.std.proofs.lemmas.List.Elements.{AllZip-get_or, length_all_zip}
 use Rattle.netlist.specs.declared.parts.Parts.{Parts}
 use Rattle.netlist.specs.Netlists.{count}
 use Rattle.delay_core.specs.declared.change.Change.{Change}
-use Rattle.probes.specs.declared.kind.Kind.{Kind}
+use Rattle.commands.specs.declared.kind.Kind.{Kind}
 use Rattle.probes.specs.Hearing.{Hears, EachHears}
 use Rattle.probes.specs.Showing.{same_kind, text_of_kind, shown_texts, texts_of}
 

@@ -4,7 +4,7 @@ use Rattle.std.specs.Prelude.{◌≡◌, ◌≢◌, ℕ, List, ◌++◌, take}
 use Rattle.std.specs.List.{AllZip}
 use Rattle.netlist.specs.declared.parts.Parts.{Parts}
 use Rattle.delay_core.specs.declared.change.Change.{Change}
-use Rattle.probes.specs.declared.kind.Kind.{Kind}
+use Rattle.commands.specs.declared.kind.Kind.{Kind}
 
 -- It is of the same kind, and makes the same text of the same changes.
 pub record IsSameProbe {P : Type 0} (kind : P → Kind) (text : P → List Change → Parts → List ℕ) (old new : P) : Type 0 where

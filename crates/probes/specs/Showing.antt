@@ -3,8 +3,8 @@ use Rattle.std.specs.Prelude.{ℕ, Bool, true, false, if◌then◌else◌, List,
 use Rattle.std.specs.List.{flat_map}
 use Rattle.netlist.specs.declared.parts.Parts.{Parts}
 use Rattle.delay_core.specs.declared.change.Change.{Change}
-use Rattle.probes.specs.declared.kind.Kind.{Kind}
-use Rattle.probes.specs.declared.kind.Kind.TheVariants.{Trace, Glitches, Last, Vcd}
+use Rattle.commands.specs.declared.kind.Kind.{Kind}
+use Rattle.commands.specs.declared.kind.Kind.TheVariants.{Trace, Glitches, Last, Vcd}
 
 -- two kinds are one
 abbrev pub same_kind : Kind → Kind → Bool

@@ -4,14 +4,14 @@ ghost use Rattle.std.specs.Prelude.{◌≡◌, ◌≢◌, ◌<◌, ◌≤◌, �
 ghost use Rattle.cyc_base.specs.declared.sig.Sig.{Sig as sig_type};
 ghost use Rattle.netlist.specs.Netlists.{count, gate_sig};
 ghost use Rattle.delay_core.specs.declared.change.Change.{Change as change_type};
-ghost use Rattle.probes.specs.declared.kind.Kind.TheVariants as kinds;
+ghost use Rattle.commands.specs.declared.kind.Kind.TheVariants as kinds;
 ghost use Rattle.probes.specs.Texts.{signal_name, last_tick, glitch_line, glitches_text};
 ghost use Rattle.probes.specs.Tables.{has_turn, IsTally};
 
 use crate::heard::Heard;
-use crate::kind::Kind;
 use crate::pieces::{put, put_name, put_number};
 use crate::probe::Probe;
+use commands::Kind;
 use cyc_base::Sig;
 use delay_core::Change;
 use netlist::Netlist;

@@ -3,14 +3,14 @@
 ghost use Rattle.std.specs.Prelude.{◌≡◌, ◌<◌, ◌≤◌, ◌+◌, ◌^◌, ◌++◌, ◌∷◌, [], All, IfOk, OnOk, OnErr, length, slice_index_or, max};
 ghost use Rattle.netlist.specs.Netlists.{count};
 ghost use Rattle.delay_core.specs.declared.change.Change.{Change as change_type};
-ghost use Rattle.probes.specs.declared.kind.Kind.TheVariants as kinds;
+ghost use Rattle.commands.specs.declared.kind.Kind.TheVariants as kinds;
 ghost use Rattle.probes.specs.Texts.{is_gate, last_tick, round_in, last_round, last_line, last_text};
 ghost use Rattle.probes.specs.Tables.{IsRoundsTable, NotesRound};
 
 use crate::heard::Heard;
-use crate::kind::Kind;
 use crate::pieces::{put, put_number};
 use crate::probe::Probe;
+use commands::Kind;
 use cyc_base::Sig;
 use delay_core::Change;
 use netlist::Netlist;

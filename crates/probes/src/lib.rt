@@ -8,7 +8,6 @@
 
 mod glitches;
 mod heard;
-mod kind;
 mod last;
 pub mod laws;
 pub mod pieces;
@@ -19,9 +18,9 @@ mod tell;
 mod told;
 mod trace;
 
+pub use commands::Kind;
 pub use glitches::Glitches;
 pub use heard::Heard;
-pub use kind::Kind;
 pub use last::LastRound;
 pub use probe::Probe;
 pub use show::show_kind;

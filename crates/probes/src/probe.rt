@@ -2,9 +2,9 @@ ghost use Rattle.std.specs.Prelude.{◌≡◌, ◌<◌, ◌++◌, ◌∷◌, [],
 ghost use Rattle.delay_core.specs.declared.change.Change.{Change as change_type};
 ghost use Rattle.netlist.specs.Netlists.{count};
 ghost use Rattle.netlist.specs.declared.parts.Parts.{Parts as parts_type};
-ghost use Rattle.probes.specs.declared.kind.Kind.{Kind as kind_type};
+ghost use Rattle.commands.specs.declared.kind.Kind.{Kind as kind_type};
 
-use crate::kind::Kind;
+use commands::Kind;
 use delay_core::Change;
 use netlist::Netlist;
 use std::alloc::{AllocError, Global};

@@ -5,9 +5,9 @@ ghost use Rattle.netlist.specs.Netlists.{count};
 ghost use Rattle.delay_core.specs.declared.change.Change.{Change as change_type};
 ghost use Rattle.probes.specs.Showing.{same_kind, text_of_kind, shown_texts};
 
-use crate::kind::Kind;
 use crate::pieces::put;
 use crate::probe::Probe;
+use commands::Kind;
 use netlist::Netlist;
 use std::alloc::{AllocError, Global};
 

@@ -8,10 +8,10 @@ ghost use Rattle.delay_core.specs.Changes.{changes};
 ghost use Rattle.probes.specs.Hearing.{EachHears, EachHearsPrefix};
 ghost use Rattle.probes.specs.Showing.{texts_of};
 
-use crate::kind::Kind;
 use crate::probe::Probe;
 use crate::show::show_kind;
 use crate::told::play_told;
+use commands::Kind;
 use cyc_base::Bits;
 use delay_core::{PlayFault, Schedule, TickEnd};
 use netlist::Netlist;

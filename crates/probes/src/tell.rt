@@ -1,8 +1,8 @@
 ghost use Rattle.std.specs.Prelude.{◌≡◌, ◌++◌, ◌∷◌, [], OnOk, OnErr};
 ghost use Rattle.probes.specs.Hearing.{Hears, HearsPrefix, EachHears, EachHearsPrefix};
 
-use crate::kind::Kind;
 use crate::probe::Probe;
+use commands::Kind;
 use delay_core::Change;
 use std::alloc::AllocError;
 

@@ -8,9 +8,9 @@ ghost use Rattle.delay_core.specs.Changes.{changes};
 ghost use Rattle.delay_core.specs.Plans.{schedule_fault, run_of, IsPlayedFairly, end_of, SettledIsTold, SettlesInTime};
 ghost use Rattle.probes.specs.Hearing.{EachHears, EachHearsPrefix};
 
-use crate::kind::Kind;
 use crate::probe::Probe;
 use crate::tell::tell;
+use commands::Kind;
 use cyc_base::Bits;
 use delay_core::{ChangeLog, PlayFault, Schedule, ScheduledRun, TickEnd, play_run};
 use netlist::Netlist;

@@ -3,13 +3,13 @@
 ghost use Rattle.std.specs.Prelude.{◌≡◌, ◌<◌, ◌++◌, ◌∷◌, [], All, IfOk, OnOk, OnErr};
 ghost use Rattle.netlist.specs.Netlists.{count};
 ghost use Rattle.delay_core.specs.declared.change.Change.{Change as change_type};
-ghost use Rattle.probes.specs.declared.kind.Kind.TheVariants as kinds;
+ghost use Rattle.commands.specs.declared.kind.Kind.TheVariants as kinds;
 ghost use Rattle.probes.specs.Texts.{value_text, change_text, trace_text};
 
 use crate::heard::Heard;
-use crate::kind::Kind;
 use crate::pieces::{put, put_name, put_number};
 use crate::probe::Probe;
+use commands::Kind;
 use delay_core::Change;
 use netlist::Netlist;
 use std::alloc::{AllocError, Global};

@@ -1,22 +1,15 @@
 // What a call tells where there is no result.
 ghost use Rattle.cyc_io.specs.Taken.{IsAppended, sink_call};
-ghost use Rattle.report.specs.Messages.{usage_text, read_failed_text, limit_text, too_large_text, no_memory_text};
+ghost use Rattle.report.specs.Messages.{read_failed_text, limit_text, too_large_text};
 
 use cyc_base::Name;
-use cyc_io::{Failed, Sink, put_number_between, put_two, write_whole};
+use cyc_io::{Failed, Sink, put_number_between, put_two};
 
 /// What words outside the grammar are told.
 pub const USAGE_TEXT: &[u8] = b"usage: cyc COMMAND FILES OPTIONS\n";
 
 /// What want of memory is told.
 pub const NO_MEMORY_TEXT: &[u8] = b"no memory\n";
-
-/// Appends what words outside the grammar are told. It takes no memory.
-pub fn put_usage<K: Sink>(sink: &mut K) -> Result<(), Failed>
-    ensures { IsAppended usage_text (sink_call K.put K.faults sink.old sink.new) result }
-{
-    write_whole(sink, USAGE_TEXT)
-}
 
 /// Appends what is told of a file that wasn't read. It takes no memory.
 pub fn put_read_failed<K: Sink>(file: &Name, sink: &mut K) -> Result<(), Failed>
@@ -37,11 +30,4 @@ pub fn put_too_large<K: Sink>(size: u64, sink: &mut K) -> Result<(), Failed>
     ensures { IsAppended (too_large_text size) (sink_call K.put K.faults sink.old sink.new) result }
 {
     put_number_between(sink, b"too large ", size, b"\n")
-}
-
-/// Appends what want of memory is told. It takes none.
-pub fn put_no_memory<K: Sink>(sink: &mut K) -> Result<(), Failed>
-    ensures { IsAppended no_memory_text (sink_call K.put K.faults sink.old sink.new) result }
-{
-    write_whole(sink, NO_MEMORY_TEXT)
 }

@@ -24,7 +24,9 @@ fn failed_reads_are_told(rt: HostRuntime) -> Result<(), Fail> {
     Ok(())
 }
 
-const ASSUME: &str = ".model assume\n.outputs ok\n.names ok\n1\n";
+const LOOP: &str = ".model m\n.inputs x\n.outputs a\n.names x a a\n1- 1\n-1 1\n.end\n";
+
+const ALWAYS_ONE: &str = ".model assume\n.inputs x\n.outputs ok\n.names x ok\n1 1\n.end\n";
 
 /// What is told where this read fails of a netlist file and then a care file, of which each takes two reads.
 fn told_of_read(read: u64) -> &'static str {
@@ -36,15 +38,15 @@ fn told_of_read(read: u64) -> &'static str {
 }
 
 fn is_read_named(alloc: Global, read: u64) -> Result<bool, AllocError> {
-    let (net, care) = (GOOD.as_bytes(), ASSUME.as_bytes());
+    let (net, care) = (LOOP.as_bytes(), ALWAYS_ONE.as_bytes());
     let seen = call(alloc, "check m.blif --care c.blif", net, care, &[read], &[])?;
     Ok(is(&seen, 4, "", told_of_read(read)))
 }
 
 fn no_read_is_left(alloc: Global) -> Result<bool, AllocError> {
-    let (net, care) = (GOOD.as_bytes(), ASSUME.as_bytes());
+    let (net, care) = (LOOP.as_bytes(), ALWAYS_ONE.as_bytes());
     let seen = call(alloc, "check m.blif --care c.blif", net, care, &[4], &[])?;
-    Ok(is(&seen, 0, ACCEPTED, ""))
+    Ok(is(&seen, 0, "accepted gates=1 loops=1 latches=0\n", ""))
 }
 
 #[test]
@@ -82,9 +84,27 @@ fn failed_writes_leave_a_part(rt: HostRuntime) -> Result<(), Fail> {
     Ok(())
 }
 
-const LOOP: &str = ".model m\n.inputs x\n.outputs a\n.names x a a\n1- 1\n-1 1\n.end\n";
+/// A netlist whose verdict takes more than one write of four bytes.
+const AND: &str = ".model n\n.inputs a b\n.outputs y\n.names a b y\n11 1\n.end\n";
 
-const ALWAYS_ONE: &str = ".model assume\n.inputs x\n.outputs ok\n.names x ok\n1 1\n.end\n";
+/// Whether out has the four bytes of the write before the one that failed.
+fn verdict_is_cut_behind_four_bytes(alloc: Global) -> Result<bool, AllocError> {
+    let seen = call(
+        alloc,
+        "check m.blif --nodes 1296",
+        AND.as_bytes(),
+        b"",
+        &[],
+        &[1],
+    )?;
+    Ok(is(&seen, 5, "acce", ""))
+}
+
+#[test]
+fn a_verdict_is_cut_behind_its_first_write(rt: HostRuntime) -> Result<(), Fail> {
+    assert!(rt; verdict_is_cut_behind_four_bytes(rt.alloc())?);
+    Ok(())
+}
 
 const REWRITTEN: &str =
     ".model m\n.inputs x\n.outputs a\n.names z~\n.names x z~ c1~a\n1- 1\n-1 1\n.names x c1~a a\n1- 1\n-1 1\n.end\n";

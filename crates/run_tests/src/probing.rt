@@ -1,6 +1,6 @@
 //! Probes that are handed in: two of one kind, none, and one that refuses.
 ghost use Rattle.std.specs.Prelude.{[]};
-ghost use Rattle.probes.specs.declared.kind.Kind.TheVariants as kinds;
+ghost use Rattle.commands.specs.declared.kind.Kind.TheVariants as kinds;
 
 use crate::calls::{add_probe, call_probed, is};
 use delay_core::Change;

@@ -6,11 +6,14 @@ ghost use Rattle.sat.specs.Decisions.{IsNext};
 
 use crate::lit::Lit;
 use crate::queue::{Queue, next_open};
-use crate::trail::{Trail, is_open, is_true, phase_of};
+use crate::trail::{NONE, Trail, is_open, is_true, phase_of};
 
 /// What the search is to do where no clause forces anything.
 #[derive(Clone, Copy)]
 pub(crate) enum Next {
+    /// An assumption is open.
+    Assume(Lit),
+    /// The assumptions are true, and a variable is open.
     Decide(Lit),
     /// An assumption is false.
     Fails(Lit),
@@ -39,12 +42,26 @@ fn next_variable(trail: &Trail, queue: &mut Queue) -> Option<Lit>
     Some(Lit::of(variable, !phase_of(trail, variable)))
 }
 
-/// The first assumption that isn't true, or else a variable that is open.
+/// A variable that is open, where the assumptions seem to be true.
+fn next_beyond(trail: &Trail, queue: &mut Queue) -> Option<Lit>
+    ensures { IfSome result (λ l. value_of trail.now.values.items l ≡ Open) }
+{
+    if trail.assumed == NONE {
+        return None;
+    }
+    next_variable(trail, queue)
+}
+
+/// The first assumption that isn't true, or else a variable that is open. Assumptions are looked at where they don't seem to
+/// be true, and where no variable is open.
 pub(crate) fn next_decision(trail: &Trail, queue: &mut Queue, assumptions: &[Lit]) -> Next
     ensures { IsNext trail.now.values.items assumptions.now result }
 {
+    if let Some(lit) = next_beyond(trail, queue) {
+        return Next::Decide(lit);
+    }
     match next_assumption(trail, assumptions) {
-        Some(lit) if is_open(trail, lit) => Next::Decide(lit),
+        Some(lit) if is_open(trail, lit) => Next::Assume(lit),
         Some(lit) => Next::Fails(lit),
         None => match next_variable(trail, queue) {
             Some(lit) => Next::Decide(lit),

@@ -9,7 +9,7 @@ use crate::merits;
 use crate::merits::{GIVEN, Merit, of_learned};
 use crate::queue::age;
 use crate::search::{Search, back_to, bump_all, glue_of, watch_clause};
-use crate::trail::{NONE, assign, level, reason_of, set_reason};
+use crate::trail::{NONE, Trail, assign, level, reason_of, set_reason, start_of};
 use crate::watches::{Pair, best_pair};
 use crate::working::Working;
 use std::alloc::AllocError;
@@ -175,6 +175,76 @@ fn fix_all(
         let lit = search.trail.lits[search.fixed];
         search.fixed += 1;
         fix_literal(database, search, working, lit)?;
+    }
+    Ok(())
+}
+
+/// A clause of its own has at most so many literals, where that isn't one of level 0.
+const MOST: usize = 8;
+
+/// Whether a literal's reason has but decisions beside it.
+fn is_own(database: &Clauses, trail: &Trail, lit: Lit, number: u32) -> bool
+    requires { number < length database.now }
+{
+    for other in database.clause(number) {
+        if other.code != lit.code && reason_of(trail, *other) != NONE {
+            return false;
+        }
+    }
+    true
+}
+
+/// The working clause becomes the reason of a literal.
+fn keep_reason(
+    database: &mut Clauses,
+    search: &mut Search,
+    working: &Working,
+    lit: Lit,
+) -> Result<(), AllocError>
+    requires { Entails database.old working.now.lits.items }
+    ensures { Extends database.old database.new }
+{
+    let number = keep(database, &working.lits)?;
+    let pair = best_pair(&search.trail, &working.lits);
+    let merit = of_learned(&search.merits, NONE);
+    watch_clause(search, number, &pair, merit)?;
+    set_reason(&mut search.trail, lit, number);
+    Ok(())
+}
+
+fn fix_implied(
+    database: &mut Clauses,
+    search: &mut Search,
+    working: &mut Working,
+    lit: Lit,
+) -> Result<(), AllocError>
+    ensures { Extends database.old database.new }
+{
+    let number = reason_of(&search.trail, lit);
+    if number >= database.len() || is_own(database, &search.trail, lit, number) {
+        return Ok(());
+    }
+    fix(database, &search.trail, working, number, lit)?;
+    if working.lits.as_slice().len() > MOST {
+        return Ok(());
+    }
+    keep_reason(database, search, working, lit)
+}
+
+/// Where the search is at the level of the assumptions, each literal that follows from them gets a clause of its own as its
+/// reason, with complements of assumptions beside it. So a conflict comes back to them by one step for each.
+#[tactic(auto, using(crate::proofs::CnfLemmas::extends_trans, crate::proofs::CnfLemmas::extends_same))]
+pub(crate) fn fix_assumed(
+    database: &mut Clauses,
+    search: &mut Search,
+    working: &mut Working,
+) -> Result<(), AllocError>
+    ensures { Extends database.old database.new }
+{
+    for place in start_of(&search.trail, 0)..search.trail.lits.as_slice().len() {
+        if let Some(lit) = search.trail.lits.as_slice().get(place).copied() {
+            fix_implied(database, search, working, lit)?;
+        }
     }
     Ok(())
 }

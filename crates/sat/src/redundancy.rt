@@ -1,7 +1,7 @@
 use crate::clauses::Clauses;
 use crate::lit::Lit;
 use crate::tables::{at, put};
-use crate::trail::{Trail, level, level_of, place_of, reason_of};
+use crate::trail::{Trail, is_implied, level, level_of, place_of, reason_of};
 use crate::working::{Working, has};
 use std::alloc::{AllocError, Global};
 
@@ -176,6 +176,22 @@ fn find(
 fn begin(redundancy: &mut Redundancy) {
     redundancy.found.clear();
     redundancy.stamp = redundancy.stamp.wrapping_add(1);
+}
+
+/// Finds the literals of the clause that became false by the assumptions, in the order of the trail.
+pub(crate) fn find_implied(
+    trail: &Trail,
+    redundancy: &mut Redundancy,
+    working: &Working,
+) -> Result<(), AllocError> {
+    begin(redundancy);
+    for lit in &working.lits {
+        if is_implied(trail, *lit) {
+            add(redundancy, trail, *lit)?;
+        }
+    }
+    redundancy.found.sort_unstable();
+    Ok(())
 }
 
 /// Finds the literals on which to resolve, in the order of the trail.

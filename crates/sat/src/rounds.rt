@@ -1,20 +1,21 @@
-ghost use Rattle.std.specs.Prelude.{◌≡◌, IfOk};
+ghost use Rattle.std.specs.Prelude.{◌≡◌, IfOk, IfSome};
 ghost use Rattle.std.specs.List.{All};
 ghost use Rattle.sat.specs.Cnf.{Entails, Extends};
-ghost use Rattle.sat.specs.Answers.{IsOutcome};
+ghost use Rattle.sat.specs.Answers.{IsVerdict};
 
 use crate::clauses::Clauses;
 use crate::engine::Engine;
+use crate::learning::fix_assumed;
 use crate::lit::Lit;
 use crate::merits::GIVEN;
 use crate::reduction::reduce;
 use crate::search::{back_to, load_clause, reload};
 use crate::steps::Verdict;
-use crate::trail::NONE;
+use crate::trail::{NONE, first_level};
 use std::alloc::{AllocError, Global};
 use std::mem;
 
-/// When the search begins again at level 0: by Knuth's reluctant doubling, after 1, 1, 2, 1, 1, 2, 4, .. units.
+/// When the search begins again: by Knuth's reluctant doubling, after 1, 1, 2, 1, 1, 2, 4, .. units.
 #[derive(Clone, Copy)]
 struct Pace {
     u: u64,
@@ -73,7 +74,7 @@ fn raise(pace: &mut Pace) {
     pace.limit = pace.limit.saturating_add(pace.limit / 10);
 }
 
-/// What a call found, and after how many conflicts. Without a verdict it met as many as were allowed.
+/// What a call found, and after how many conflicts. Without a verdict it gave up.
 #[derive(Clone, Copy)]
 pub(crate) struct Outcome {
     pub(crate) verdict: Option<Verdict>,
@@ -87,17 +88,20 @@ fn variables_of(lits: &[Lit]) -> usize {
 }
 
 impl Engine {
-    /// Begins again at level 0 where that is due, maybe with fewer learned clauses.
+    /// Begins again where that is due: with fewer learned clauses at level 0, and else where the assumptions are true.
     fn restart(&mut self, alloc: Global, pace: &mut Pace) -> Result<(), AllocError>
         ensures { Extends self.old.database self.new.database }
     {
         raise(pace);
-        let is_full = self.search.merits.passing > pace.limit;
-        if is_due(pace) || is_full {
+        let is_due = is_due(pace);
+        if self.search.merits.passing > pace.limit {
             back_to(&mut self.search, 0);
+            return reduce(alloc, &mut self.database, &mut self.search);
         }
-        if is_full {
-            reduce(alloc, &mut self.database, &mut self.search)?;
+        if is_due {
+            let level = first_level(&self.search.trail);
+            back_to(&mut self.search, level);
+            fix_assumed(&mut self.database, &mut self.search, &mut self.working)?;
         }
         Ok(())
     }
@@ -112,7 +116,7 @@ impl Engine {
     ) -> Result<Outcome, AllocError>
         requires follows { All (Entails formula.now) self.old.database }
         ensures follows { All (Entails formula.now) self.new.database }
-        ensures found { IfOk result (IsOutcome formula.now assumptions.now self.new conflicts) }
+        ensures found { IfOk result (λ found. IfSome found.verdict (IsVerdict formula.now assumptions.now self.new)) }
     {
         let mut pace = Pace::new(formula.len() as usize);
         let mut met = 0;
@@ -184,7 +188,7 @@ impl Engine {
     ) -> Result<Outcome, AllocError>
         requires follows { All (Entails formula.now) self.old.database }
         ensures follows { All (Entails formula.now) self.new.database }
-        ensures found { IfOk result (IsOutcome formula.now assumptions.now self.new conflicts) }
+        ensures found { IfOk result (λ found. IfSome found.verdict (IsVerdict formula.now assumptions.now self.new)) }
     {
         self.begin(alloc)?;
         self.add_variables(alloc, assumptions)?;

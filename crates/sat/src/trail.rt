@@ -46,6 +46,8 @@ pub(crate) struct Trail {
     /// The true literals in the order in which they were assigned, and how many there were at each decision.
     pub(crate) lits: Vec<Lit>,
     starts: Vec<u32>,
+    /// The level at which the assumptions are true, and past all levels where they aren't.
+    pub(crate) assumed: u32,
     /// How many of them have been propagated.
     pub(crate) head: usize,
 }
@@ -59,6 +61,7 @@ impl Drop for Trail {
             phases: _,
             lits: _,
             starts: _,
+            assumed: _,
             head: _,
         } = self;
     }
@@ -74,6 +77,7 @@ impl Trail {
             phases: Vec::new(alloc),
             lits: Vec::new(alloc),
             starts: Vec::new(alloc),
+            assumed: NONE,
             head: 0,
         }
     }
@@ -216,6 +220,36 @@ pub(crate) fn decide(trail: &mut Trail, lit: Lit) -> Result<(), AllocError>
     assign(trail, lit, NONE)
 }
 
+/// The assumptions are true at the present level, if they weren't before.
+pub(crate) fn note_assumed(trail: &mut Trail)
+    ensures { trail.new.values ≡ trail.old.values }
+{
+    trail.assumed = trail.assumed.min(level(trail));
+}
+
+/// The level to which a search goes back that begins again: what follows from the assumptions stands.
+pub(crate) fn first_level(trail: &Trail) -> u32 {
+    if trail.assumed == NONE {
+        0
+    } else {
+        trail.assumed
+    }
+}
+
+/// The literals that became true by the assumptions, after those of level 0.
+pub(crate) fn assumed_lits(trail: &Trail) -> &[Lit] {
+    let lits = trail.lits.as_slice();
+    let end = start_of(trail, first_level(trail)).min(lits.len());
+    let start = start_of(trail, 0).min(end);
+    &lits[start..end]
+}
+
+/// Whether a literal's variable has its value by the assumptions, and isn't one of theirs.
+pub(crate) fn is_implied(trail: &Trail, lit: Lit) -> bool {
+    let cause = cause_of(trail, lit);
+    cause.reason != NONE && 0 < cause.level && cause.level <= first_level(trail)
+}
+
 /// Takes the last literal back, if it was assigned past a place.
 pub(crate) fn take_back(trail: &mut Trail, start: usize) -> Option<Lit> {
     if trail.lits.as_slice().len() <= start {
@@ -237,5 +271,8 @@ pub(crate) fn start_of(trail: &Trail, level: u32) -> usize {
 /// Ends the levels past one whose literals have been taken back.
 pub(crate) fn close_levels(trail: &mut Trail, level: u32) {
     trail.starts.truncate(level as usize);
+    if level < trail.assumed {
+        trail.assumed = NONE;
+    }
     trail.head = trail.head.min(trail.lits.as_slice().len());
 }

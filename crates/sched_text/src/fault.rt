@@ -10,24 +10,19 @@ use thiserror::Error;
 /// Why a text holds no vectors or no schedule. A bad byte anywhere comes before all others; then the first line with
 /// a fault decides, and on one line the first in the order here. Lines are counted from 1.
 #[derive(Debug, Drop, Error)]
+#[error("the text holds no vectors or no schedule")]
 pub enum SchedFault {
     /// A byte outside comments is neither blank, tab nor a printed character, or the line isn't one that may stand
     /// there; or a line is missing where the text ends.
-    #[error("bad line {line}")]
     BadLine { line: u64 },
     /// The line has another number of values than the netlist has inputs, signals, latches or gates.
-    #[error("wrong width in line {line}")]
     WrongWidth { line: u64 },
     /// The latch, by its place among the latches, is the first whose init doesn't permit the value that it starts with.
-    #[error("start value not permitted in line {line}")]
     BadStart { line: u64, latch: u32 },
     /// No gate has the name.
-    #[error("unknown gate in line {line}")]
     UnknownGate { line: u64, name: Name },
     /// The line begins a tick over the number of vectors, or there are fewer ticks where the text ends.
-    #[error("wrong number of ticks in line {line}")]
     TickCount { line: u64 },
-    #[error("no memory")]
     Memory,
 }
 

@@ -109,6 +109,45 @@ fn nodes_are_made_once(rt: HostRuntime) -> Result<(), Fail> {
     Ok(())
 }
 
+/// Whether a store with room for one entry has it for a function and its complement: both ways are one entry, a branch that
+/// is the other's needs none, and no variable is left for a node beside.
+fn one_entry_serves_both(store: &mut Store) -> Result<bool, StoreFault> {
+    let (zero, one) = (Node::of(false), Node::of(true));
+    let Some(x) = make(store, 0, zero, one)? else {
+        return Ok(false);
+    };
+    let again = make(store, 0, zero, one)?;
+    let flipped = make(store, 0, one, zero)?;
+    let constant = make(store, 0, one, one)?;
+    Ok(
+        again == Some(x)
+            && flipped == Some(x.complement())
+            && flipped != again
+            && constant == Some(one)
+            && store.count() == 1,
+    )
+}
+
+/// Whether a store of two variables and room for one entry refuses the second variable's.
+fn second_entry_finds_no_room(store: &mut Store) -> Result<bool, StoreFault> {
+    let first = make(store, 0, Node::of(false), Node::of(true))?;
+    let second = make(store, 1, Node::of(false), Node::of(true));
+    Ok(first.is_some() && matches!(second, Err(StoreFault::Full)) && store.count() == 1)
+}
+
+#[test]
+fn small_stores_are_filled(rt: HostRuntime) -> Result<(), Fail> {
+    let mut one_variable = Store::new(rt.alloc(), 1, 1)?;
+    assert!(rt; one_entry_serves_both(&mut one_variable)?);
+    let mut two_variables = Store::new(rt.alloc(), 2, 1)?;
+    assert!(rt; second_entry_finds_no_room(&mut two_variables)?);
+    let none = Store::new(rt.alloc(), 0, 0)?;
+    assert!(rt;
+        none.count() == 0 && none.value(Node::of(true), &[]) && !none.value(Node::of(false), &[])
+    );
+    Ok(())
+}
+
 /// Takes out what roots don't reach, and gives the root's node.
 fn root_after_sweep(d: &mut Diagrams, root: &Root) -> Result<Node, AllocError>
     requires { IsSome (root_at d.old root.now.key) }

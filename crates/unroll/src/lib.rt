@@ -20,6 +20,5 @@ mod unrolling;
 pub use assembly::{copy_clock, copy_inputs};
 pub use fault::UnrollFault;
 pub use names::{copy_name, mark};
-pub use pins::source_in_loop;
 pub use sizes::unrolled_size;
 pub use unrolling::{unroll, unroll_looped};

@@ -1,17 +1,14 @@
 //! What pins read in the unrolled netlist.
 
-ghost use Rattle.std.specs.Prelude.{◌≡◌, ◌<◌, ◌≤◌, ◌+◌, Some, None, if◌then◌else◌, length, map, IfSome, IfOk};
+ghost use Rattle.std.specs.Prelude.{◌≡◌, ◌<◌, ◌≤◌, ◌+◌, if◌then◌else◌, length, map, IfOk};
 ghost use Rattle.netlist.specs.Netlists.{gate_at, IsSignal};
-ghost use Rattle.loops.specs.Found.{loops_of};
-ghost use Rattle.loops.specs.Sweeps.{gate_of, in_loop_of};
-ghost use Rattle.loops.specs.Looped.{IsLooped};
 ghost use Rattle.unroll.specs.Plans.{loops_in, net_of};
 ghost use Rattle.unroll.specs.Unrolled.{moved as moved_by};
 ghost use Rattle.unroll.specs.Tables.{at_table, copy_pin_by as pin_by_tables};
 
 use crate::plan::Plan;
 use cyc_base::Sig;
-use loops::LoopedNetlist;
+use loops::source_in_loop;
 use netlist::Netlist;
 use std::alloc::{AllocError, Global};
 
@@ -34,20 +31,6 @@ pub(crate) fn moved(net: &Netlist, by: u32, signal: Sig) -> Sig
     } else {
         Sig(signal.0 + by)
     }
-}
-
-/// The gate that drives a pin of this gate, where it is in this gate's loop.
-///
-/// The condition is that the gate and the pin are the netlist's.
-pub fn source_in_loop(looped: &LoopedNetlist<'_>, gate: u32, pin: Sig) -> Option<u32>
-    requires gate { gate < length looped.now.net.gates }
-    requires pin { IsSignal looped.now.net pin }
-    ensures source { result ≡ (if in_loop_of looped.now.net (loops_of looped.now.net) gate pin then Some (gate_of looped.now.net pin) else None) }
-    ensures within { IfSome result (λ source. source < length looped.now.net.gates) }
-    ensures looped { IsLooped looped.now }
-{
-    let source = looped.net().driver(pin)?;
-    looped.are_in_one_loop(gate, source).then_some(source)
 }
 
 /// What is read of a gate of the same loop: the copy before where it is a cut wire, else the one beside it.

@@ -3,7 +3,7 @@ use Rattle.std.proofs.Common.{◌≡◌, sym, subst}
 use mir.Syntax.{Dict}
 use denote.Param.Table.{Table, Entry}
 use denote.Param.Object.{Made, read_made}
-use Rattle.probes.specs.declared.kind.Kind.{Kind}
+use Rattle.commands.specs.declared.kind.Kind.{Kind}
 use Rattle.probes.specs.declared.probe.Probe.{Ghosts}
 use Rattle.vcd_out.specs.Kinds.{IsNewOfKind}
 

@@ -4,8 +4,8 @@ use Rattle.netlist.specs.declared.parts.Parts.{Parts}
 use Rattle.delay_core.specs.declared.change.Change.{Change}
 use Rattle.probes.specs.Showing.{texts_of}
 use Rattle.probes.specs.Texts.{trace_text, glitches_text, last_text}
-use Rattle.probes.specs.declared.kind.Kind.{Kind}
-use Rattle.probes.specs.declared.kind.Kind.TheVariants.{Trace, Glitches, Last, Vcd}
+use Rattle.commands.specs.declared.kind.Kind.{Kind}
+use Rattle.commands.specs.declared.kind.Kind.TheVariants.{Trace, Glitches, Last, Vcd}
 use Rattle.vcd_out.specs.Dumps.{vcd_text}
 
 -- what is shown of changes

@@ -4,7 +4,7 @@ ghost use Rattle.std.specs.Prelude.{◌≡◌, ◌<◌, ◌++◌, [], IfOk, OnOk
 ghost use Rattle.std.specs.List.{flat_map, range_with_len};
 ghost use Rattle.netlist.specs.Netlists.{count};
 ghost use Rattle.delay_core.specs.declared.change.Change.{Change as change_type};
-ghost use Rattle.probes.specs.declared.kind.Kind.TheVariants as kinds;
+ghost use Rattle.commands.specs.declared.kind.Kind.TheVariants as kinds;
 ghost use Rattle.vcd_out.specs.Dumps.{variable_line, head_text, value_line, time_line, timed_lines, first_changes, later_changes, vcd_text};
 
 use crate::code::put_code;

@@ -1,7 +1,7 @@
 //! Probes of all kinds together.
 
 ghost use Rattle.std.specs.Prelude.{◌≡◌, [], All, IfOk};
-ghost use Rattle.probes.specs.declared.kind.Kind.TheVariants as kinds;
+ghost use Rattle.commands.specs.declared.kind.Kind.TheVariants as kinds;
 ghost use Rattle.vcd_out.specs.Kinds.{IsNewOfKind, ShowEachKind};
 
 use probes::Probe;

@@ -35,7 +35,7 @@ pub use Rattle.fixpoint.specs.Working.{HasLargeCover, IsWorking, effort}
 pub use Rattle.isolation.proofs.ColumnLemmas.{AreColumns-kept}
 pub use Rattle.isolation.proofs.SettledLemmas.{unsettled_loops_decide}
 pub use Rattle.isolation.specs.Columns.{AreColumns}
-pub use Rattle.isolation.specs.Cones.{AddMarks, ListsMarked, is_marked}
+pub use Rattle.loops.specs.Cones.{AddMarks, ListsMarked, is_marked}
 pub use Rattle.loops.proofs.Reading.{map_agree}
 pub use Rattle.loops.proofs.Told.{gate_home, home_gate}
 pub use Rattle.loops.specs.Blocks.{AreBlocksOf, block_at, home_of}

@@ -3,8 +3,8 @@ use Rattle.std.proofs.Common.{◌≡◌, ◌⊎◌, inl, inr, ℕ, ◌+◌, ◌<
 use Rattle.verdict.proofs.Common.{cases_lt, Sig, Parts, Feeds, Blocks, AreBlocksOf, block_at, home_of, gate_home, home_gate, AddMarks, is_marked, AreFanoutMarks}
 use Rattle.netlist.specs.Walks.{Walk}
 use Rattle.loops.proofs.Walks.{leads-step}
-use Rattle.isolation.specs.Laws.{IsUpstream}
-use Rattle.isolation.proofs.UpstreamLemmas.{same-up, upstream-trans}
+use Rattle.loops.specs.Walks.{IsUpstream}
+use Rattle.loops.proofs.UpstreamLemmas.{same-up, upstream-trans}
 use Rattle.verdict.specs.Fanout.{LeadsFromMark, HasMarkedDriver, ReadsMark, IsReached, AreMarkedBefore}
 
 -- ---- what holds of the gates and pins that were passed

@@ -1,7 +1,6 @@
 -- The invariant on the next state, as a function of the decision.
 use Rattle.std.proofs.Common.{◌≡◌, inl, inr, ℕ, ◌-◌, ◌<◌, ◌≤◌, Bool, true, false, not, ◌&&◌, List, [], ◌∷◌, length, map, get_or, Option, Some, None, refl, sym, ap, ◌∙◌, arith}
-use Rattle.verdict.proofs.Common.{option_map_or, cases_lt, get_or-map, get_or_past, get_or_append_left, length-map, Node, Arena, den, nodes, Sig, Trit, X, bit, bits, IsWide, is_bit, Latch, Parts, wire, fix, fix_gates, next, IsNetlist, value_in, laid, CareModel, IsCareOf, CareSet, columns, is_one, holds_at, is_in_invariant, is_care_vector, leaves, next_state, care_vector_decides, read_by, IsOfModel, IsLaid, SaysCare, Tells, difference, HasValues}
-use Rattle.cyc_base.specs.declared.trit.Trit.TheVariants.{Zero}
+use Rattle.verdict.proofs.Common.{option_map_or, cases_lt, get_or-map, get_or_past, get_or_append_left, length-map, Node, Arena, den, nodes, Sig, Trit, X, bits, IsWide, is_bit, Latch, Parts, wire, fix, fix_gates, next, IsNetlist, value_in, laid, CareModel, IsCareOf, CareSet, columns, is_one, holds_at, is_in_invariant, is_care_vector, leaves, next_state, care_vector_decides, read_by, IsOfModel, IsLaid, SaysCare, Tells, difference, HasValues}
 use Rattle.netlist.specs.declared.parts.Init.TheVariants as inits
 use Rattle.netlist.specs.Fixpoint.{outs}
 use Rattle.netlist.proofs.FixpointLemmas.{get_or-fix, length-fix_gates}

@@ -1,10 +1,13 @@
 -- Gates that are unknown on care where no observed one is, and the sweeps of loops where there are some.
-use Rattle.std.proofs.Common.{◌≡◌, ◌≢◌, inl, inr, ℕ, ◌<◌, Bool, true, false, not, ◌↔◌, List, length, Option, refl, sym, ap, ◌∙◌, arith, Contains, true≢false}
-use Rattle.verdict.proofs.Common.{find, is_none, is_some, and_from, cases_lt, get_or_default, get_or_past, X, bits, vectors, Parts, IsNetlist, gate_sig, fix_gates, Blocks, Cut, AreBlocksOf, block_at, home_of, IsCutOf, loops_by, value_in, home_gate, is_marked, ListsMarked, unsettled_loops_decide, CareSet, columns, is_care_vector, IsCareVector, is_undetermined, is_x, none_passes, gate_wire, care_vector_is, AreFedKnown, IsLeastCount, is_unknown_at, SettleInOneSweep, AreLoopCounts, AreScattered, AreUnknownMarks, are_care_values, AreCandidates}
+use Rattle.std.proofs.Common.{◌≡◌, ◌≢◌, inl, inr, ℕ, zero, suc, ◌<◌, Bool, true, false, not, ◌↔◌, List, [], ◌∷◌, length, get_or, Option, refl, sym, ap, ◌∙◌, arith, Contains, true≢false}
+use Rattle.verdict.proofs.Common.{find, is_none, is_some, and_from, cases_lt, get_or_default, get_or_past, X, bits, vectors, Parts, IsNetlist, gate_sig, fix_gates, Blocks, Cut, AreBlocksOf, block_at, home_of, IsCutOf, loops_by, value_in, home_gate, is_marked, ListsMarked, unsettled_loops_decide, CareSet, columns, is_care_vector, IsCareVector, is_undetermined, is_x, none_passes, gate_wire, care_vector_is, AreFedKnown, IsLeastCount, is_unknown_at, SettleInOneSweep, AreLoopCounts, AreScattered, AreUnknownMarks, are_care_values, AreCandidates, AreLoose, Sig, gate_sigs}
+use Rattle.std.specs.Prelude.{filter}
 use Rattle.loops.specs.declared.structure.SweepCounts.{SweepCounts}
 use Rattle.loops.proofs.Told.{blocks_tell_loops}
 use Rattle.isolation.proofs.CountLemmas.{one_sweep_is_exact}
 use Rattle.refusals.specs.Acceptance.{SomeCareVector}
+use Rattle.refusals.proofs.LawLemmas.{is_loose}
+use Rattle.refusals.proofs.RefusalLemmas.{gate_sig_at, length-gate_sigs}
 use Rattle.clause_decision.specs.Tests.{is_unknown, TellEachUnknown}
 use Rattle.verdict.specs.Fanout.{AreReached}
 use Rattle.clause_decision.specs.Scopes.{AreKnownOnCare}
@@ -12,7 +15,7 @@ use Rattle.verdict.specs.Loose.{AreKnownAround, AreWithout, IsLoopCount}
 use Rattle.verdict.specs.Verdicts.{AreSweepsOnCare}
 use Rattle.verdict.proofs.CountLemmas.{care-values}
 use Rattle.verdict.proofs.DeterminationLemmas.{determined-around, least-count}
-use Rattle.verdict.proofs.PartLemmas.{IsKnownOnCare, known-here}
+use Rattle.verdict.proofs.PartLemmas.{IsKnownOnCare, known-here, loose-known}
 use Rattle.verdict.proofs.CandidateLemmas.{none-some}
 
 -- what a test says that isn't so
@@ -46,6 +49,25 @@ module _ (net : Parts) (valid : IsNetlist net) (blocks : Blocks) (are : AreBlock
   pub unknown-marked : AreUnknownMarks net care marks
   unknown-marked = record { width = spread.width_is; each = λ n less. by-mark n less (is_marked marks n) refl }
 
+-- a gate that is known on care isn't X at a care vector
+known-value : (net : Parts) (care : CareSet) (n : ℕ) → IsKnownOnCare net care n → (v : List Bool) → IsCareVector net care v → value_in (fix_gates net (bits v)) n ≢ X
+known-value net care n known v counts x =
+    true≢false (sym (and_from (is_care_vector net care v) (is_undetermined net (gate_sig net n) v) (care_vector_is net care v counts) (ap is_x (gate_wire net v n counts.width ∙ x))) ∙ none_passes (columns net) (is_unknown_at net care n) v known counts.width)
+
+-- where no element passes a test
+none-pass : {A : Type 0} (p : A → Bool) (xs : List A) → length (filter p xs) ≡ 0 → (k : ℕ) (d : A) → k < length xs → p (get_or xs k d) ≡ false
+none-pass p [] none k d inside = absurd (omega (arith, inside))
+none-pass p (x ∷ xs) none zero d inside = grind arith
+none-pass p (x ∷ xs) none (suc k) d inside = grind (arith, none-pass p xs)
+
+-- where no gate is loose, none is unknown at a care vector
+pub no-loose : (net : Parts) (care : CareSet) → AreLoose net care 0 → AreKnownOnCare net care
+no-loose net care none v counts n less =
+    let gate : Sig = gate_sig net n in
+    let known : is_loose net care gate ≡ false =
+    sym (ap (is_loose net care) (gate_sig_at net n gate less)) ∙ none-pass (is_loose net care) (gate_sigs net) (sym none) n gate (omega (arith, less, length-gate_sigs net)) in
+    known-value net care n (loose-known net care n known) v counts
+
 module _ (net : Parts) (care : CareSet) (marks : List Bool) (are : AreUnknownMarks net care marks) where
   -- one without a mark is known on care
   pub unmarked-known : (n : ℕ) → n < length net.gates → is_marked marks n ≡ false → IsKnownOnCare net care n
@@ -53,8 +75,7 @@ module _ (net : Parts) (care : CareSet) (marks : List Bool) (are : AreUnknownMar
 
   -- and isn't X at a care vector
   pub unmarked-value : (n : ℕ) → n < length net.gates → is_marked marks n ≡ false → (v : List Bool) → IsCareVector net care v → value_in (fix_gates net (bits v)) n ≢ X
-  unmarked-value n less isnt v counts x =
-      true≢false (sym (and_from (is_care_vector net care v) (is_undetermined net (gate_sig net n) v) (care_vector_is net care v counts) (ap is_x (gate_wire net v n counts.width ∙ x))) ∙ none_passes (columns net) (is_unknown_at net care n) v (unmarked-known n less isnt) counts.width)
+  unmarked-value n less isnt = known-value net care n (unmarked-known n less isnt)
 
   -- one with a mark isn't known
   pub marked-unknown : (n : ℕ) → n < length net.gates → is_marked marks n ≡ true → is_none (find (is_unknown_at net care n) (vectors (columns net))) ≡ false

@@ -89,6 +89,10 @@ known-here net care n inside known =
     (λ w wide. fails_after (is_care_vector net care w) (is_undetermined net (gate_sig net n) w)
     (λ counts. ap is_x (gate_wire net w n wide) ∙ known-is_x (get_or (fix_gates net (bits w)) n X) (known w (care_vector_decides net care w wide counts))))
 
+-- a gate that isn't loose is known on care
+pub loose-known : (net : Parts) (care : CareSet) (k : ℕ) → is_loose net care (gate_sig net k) ≡ false → IsKnownOnCare net care k
+loose-known net care k isnt = grind (arith, some-unknown net care (gate_sig net k))
+
 known-loose : (net : Parts) (care : CareSet) (k : ℕ) → IsKnownOnCare net care k → is_loose net care (gate_sig net k) ≡ false
 known-loose net care k known = some-unknown net care (gate_sig net k) ∙ ap (λ o. not (is_none o)) known
 

@@ -9,8 +9,8 @@ use Rattle.std.specs.Cmp.{nat_eq_equiv}
 use Rattle.std.specs.List.{list_any}
 use Rattle.loops.specs.Looped.{Looped, IsLooped}
 use Rattle.loops.proofs.Walks.{leads-step}
-use Rattle.isolation.specs.Cones.{IsConeOf}
-use Rattle.isolation.proofs.UpstreamLemmas.{upstream-trans}
+use Rattle.loops.specs.Cones.{IsConeOf}
+use Rattle.loops.proofs.UpstreamLemmas.{upstream-trans}
 use Rattle.clause_decision.specs.declared.scope.Scope.{Scope}
 use Rattle.clause_decision.specs.Loads.{HasLoads}
 use Rattle.clause_decision.specs.Scopes.{AreClosed, AreInScope, AreNeverUnknown}

@@ -1,5 +1,5 @@
 -- The least vector of a set.
-use Rattle.std.proofs.Common.{◌≡◌, ◌==◌, ℕ, Bool, true, false, if◌then◌else◌, List, [], ◌∷◌, length, Option, Some, None, refl, sym, ap, ◌∙◌, arith, true≢false}
+use Rattle.std.proofs.Common.{◌≡◌, ◌==◌, ℕ, Bool, true, false, List, [], ◌∷◌, length, Option, Some, None, refl, sym, ap, ◌∙◌, arith, true≢false}
 use Rattle.verdict.proofs.Common.{find, is_none, eqb-true, Node, Arena, den, IsNodeOf, IsLawful, IsLayout, by_variable, vectors, by_column, length-by_column, variables-back, difference, none_passes, found_wide}
 use Rattle.std.proofs.lemmas.Bool.{eq-eqb}
 use Rattle.bdd_store.specs.Arena.{constant, den_within}

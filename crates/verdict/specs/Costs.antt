@@ -25,13 +25,25 @@ leaving_cost net care = 2 * length net.latches + 2 * invariant_effort care + 1
 abbrev pub care_cost : Parts → CareSet → ℕ
 care_cost net care = 2 * length net.gates + leaving_cost net care
 
--- once the netlist is solved: these, and the sweeps that are counted
-abbrev pub solved_cost : Parts → CareSet → ℕ
-solved_cost net care = care_cost net care + 6 * length net.gates * (length net.gates + 2)
+-- the netlist solved
+abbrev pub solving_cost : Parts → ℕ
+solving_cost net = 10 * (length net.gates + 2) * effort net
 
--- the netlist solved, and then this
-abbrev pub whole_cost : Parts → CareSet → ℕ
-whole_cost net care = 10 * (length net.gates + 2) * effort net + solved_cost net care
+-- and what refuses it on the vectors of care
+abbrev pub judging_cost : Parts → CareSet → ℕ
+judging_cost net care = solving_cost net + care_cost net care
+
+-- the sweeps of its loops, once it is solved
+abbrev pub sweeps_cost : Parts → ℕ
+sweeps_cost net = 6 * length net.gates * (length net.gates + 2)
+
+-- the vectors of care alone: the invariant, and then the assumption with it
+abbrev pub set_cost : CareSet → ℕ
+set_cost care = 2 * invariant_effort care + (2 * assume_effort care + 1)
+
+-- these, the netlist solved, and the sweeps
+abbrev pub counting_cost : Parts → CareSet → ℕ
+counting_cost net care = set_cost care + (solving_cost net + sweeps_cost net)
 
 -- the whole decision: both rails of each column, whose nodes are fewer than two functions of w nodes have, and then its
 -- parts, with the fixpoint and the sweeps that are counted

@@ -11,7 +11,7 @@ use Rattle.loops.specs.Blocks.{block_at, home_of}
 use Rattle.loops.specs.Sweeps.{value_in}
 use Rattle.isolation.specs.Laws.{IsLooped}
 use Rattle.isolation.specs.Settled.{SettleInSweeps}
-use Rattle.isolation.specs.Cones.{is_marked}
+use Rattle.loops.specs.Cones.{is_marked}
 use Rattle.care_sets.specs.Care.{CareSet, IsCareVector}
 use Rattle.verdict.specs.Verdicts.{AreSweepsOnCare}
 

@@ -6,8 +6,8 @@ use Rattle.netlist.specs.Netlists.{gate_sig}
 use Rattle.netlist.specs.Walks.{Feeds}
 use Rattle.loops.specs.declared.structure.Blocks.{Blocks}
 use Rattle.loops.specs.Blocks.{home_of}
-use Rattle.isolation.specs.Cones.{is_marked}
-use Rattle.isolation.specs.Laws.{IsUpstream}
+use Rattle.loops.specs.Cones.{is_marked}
+use Rattle.loops.specs.Walks.{IsUpstream}
 
 -- the gate is marked, or a walk leads to it from a marked one
 pub record LeadsFromMark (net : Parts) (marks : List Bool) (n : ℕ) : Type 0 where

@@ -10,7 +10,7 @@ use Rattle.loops.specs.declared.structure.Cut.{Cut}
 use Rattle.loops.specs.Blocks.{block_at}
 use Rattle.loops.specs.Cuts.{loops_by}
 use Rattle.loops.specs.Sweeps.{IsCountOfSweeps, value_in}
-use Rattle.isolation.specs.Cones.{is_marked}
+use Rattle.loops.specs.Cones.{is_marked}
 use Rattle.isolation.specs.Excerpts.{gate_in}
 use Rattle.care_sets.specs.Care.{CareSet, IsCareVector}
 use Rattle.refusals.specs.Refusals.{undetermined_refusal}

@@ -9,10 +9,7 @@ use Rattle.loops.specs.Cuts.{IsCutOf}
 use Rattle.loops.specs.Looped.{Looped}
 use Rattle.care_sets.specs.Binding.{IsCareOf}
 use Rattle.care_sets.specs.Care.{CareSet}
-use Rattle.refusals.specs.declared.observe.Observe.{Observe}
-use Rattle.verdict.specs.declared.verdict.Verdict.{Verdict}
 use Rattle.verdict.specs.Determination.{SettleInOneSweep}
-use Rattle.verdict.specs.Verdicts.{IsVerdict}
 
 pub record Searched : Type 0 where
   pub net : Parts
@@ -36,7 +33,3 @@ pub record IsSearched (s : Searched) : Type 0 where
   pub care : IsCareOf s.net s.care
   pub width : length s.settled ≡ length s.blocks.list
   pub settled : SettleInOneSweep s.net s.blocks s.settled
-
--- the verdict of the netlist on the care set, where these of its signals are observed
-abbrev pub IsVerdictWith : Searched → Observe → Verdict → Type 0
-IsVerdictWith s what verdict = IsVerdict s.net s.blocks s.cut s.care what verdict

@@ -3,8 +3,8 @@ use Rattle.std.specs.Prelude.{◌≡◌, ◌<◌, ◌≤◌, ℕ, Bool, true, No
 use Rattle.netlist.specs.declared.parts.Parts.{Parts}
 use Rattle.netlist.specs.Netlists.{gate_sig}
 use Rattle.loops.specs.declared.structure.Blocks.{Blocks}
-use Rattle.isolation.specs.Cones.{is_marked}
-use Rattle.isolation.specs.Laws.{IsUpstream}
+use Rattle.loops.specs.Cones.{is_marked}
+use Rattle.loops.specs.Walks.{IsUpstream}
 use Rattle.cyc_base.specs.Vectors.{vectors}
 use Rattle.care_sets.specs.Care.{CareSet, columns}
 use Rattle.clause_decision.specs.Tests.{is_unknown_at}

@@ -24,6 +24,8 @@ use Rattle.verdict.specs.declared.gate_verdict.GateVerdict.{GateVerdict}
 use Rattle.verdict.specs.declared.gate_verdict.GateVerdict.TheVariants as gate_verdicts
 use Rattle.verdict.specs.declared.beginning.Start.{Start}
 use Rattle.verdict.specs.declared.beginning.Start.TheVariants as starts
+use Rattle.verdict.specs.declared.judgement.Judgement.{Judgement}
+use Rattle.verdict.specs.declared.judgement.Judgement.TheVariants as judgements
 use Rattle.verdict.specs.declared.verdict.Verdict.{Verdict}
 use Rattle.verdict.specs.declared.verdict.Verdict.TheVariants.{Accepted, Refused}
 use Rattle.verdict.specs.Sets.{AreFixed, Tells}
@@ -45,6 +47,11 @@ pub record AreSweepsOnCare (net : Parts) (blocks : Blocks) (cut : Cut) (care : C
 -- so many gates are unknown at some care vector
 abbrev pub AreLoose : Parts → CareSet → ℕ → Type 0
 AreLoose net care loose = loose ≡ length (loose_gates net care)
+
+-- accepted, with the number of loose gates, or refused as the definition says
+abbrev pub IsJudgement : Parts → CareSet → Observe → Judgement → Type 0
+IsJudgement net care what (judgements.Accepted loose) = Accepts net care what × AreLoose net care loose
+IsJudgement net care what (judgements.Refused r) = refusal net care what ≡ Some r
 
 -- a netlist that is accepted, with the sweeps of its loops and the number of its loose gates
 pub record IsAcceptance (net : Parts) (blocks : Blocks) (cut : Cut) (care : CareSet) (what : Observe) (counts : SweepCounts) (loose : ℕ) : Type 0 where

@@ -3,13 +3,13 @@
 ghost use Rattle.std.specs.Prelude.{◌≡◌, ◌<◌, ◌≤◌, true, not, length, map, All, IfOk};
 ghost use Rattle.loops.specs.Blocks.{block_at};
 ghost use Rattle.isolation.specs.Settled.{SettleInSweeps};
-ghost use Rattle.isolation.specs.Cones.{is_marked};
+ghost use Rattle.loops.specs.Cones.{is_marked};
 ghost use Rattle.verdict.specs.Determination.{SettleInOneSweep};
 
 use clause_decision::sweeps_at;
 use cyc_base::MAX_NODES;
-use isolation::{gates_at, settles_alone};
-use loops::{Blocks, LoopedNetlist};
+use isolation::settles_alone;
+use loops::{Blocks, LoopedNetlist, gates_at};
 use std::alloc::{AllocError, Global};
 
 /// How many times as large as a loop its netlist may be for the whole to be simulated for that loop's sake.

@@ -2,7 +2,7 @@
 
 ghost use Rattle.std.specs.Prelude.{◌≡◌, ◌+◌, ◌*◌, IfOk};
 ghost use Rattle.care_sets.specs.Care.{columns, is_care_vector};
-ghost use Rattle.verdict.specs.Costs.{assume_effort, invariant_effort, start_cost};
+ghost use Rattle.verdict.specs.Costs.{assume_effort, invariant_effort, set_cost, start_cost};
 ghost use Rattle.verdict.specs.Enough.{GrowsInDecision};
 ghost use Rattle.isolation.specs.Columns.{AreColumns};
 ghost use Rattle.fixpoint.specs.Orders.{order as order_of};
@@ -61,6 +61,22 @@ fn care_on(
 {
     let allowed = assume_on(alloc, d, question.care(), rails)?;
     d.and(inside, allowed)
+}
+
+/// The vectors of care, whatever the initial states are.
+pub(crate) fn all_care_on(
+    alloc: Global,
+    d: &mut Diagrams,
+    question: &Question<'_>,
+    rails: &[Rails],
+) -> Result<Node, StoreFault>
+    requires vars { d.old.vars ≡ columns question.now.net }
+    requires columns { AreColumns d.old (order_of question.now.net) rails.now }
+    ensures told { IfOk result (λ set. Tells question.now.net d.new set (is_care_vector question.now.net question.now.care)) }
+    ensures grows { GrowsInDecision result d.old d.new question.now.net question.now.care (set_cost question.now.care) }
+{
+    let inside = inside_on(alloc, d, question, rails)?;
+    care_on(alloc, d, question, inside, rails)
 }
 
 /// The vectors of care, or the refusal of an initial state or of an empty care set.

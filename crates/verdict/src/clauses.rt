@@ -3,29 +3,26 @@
 
 ghost use Rattle.std.specs.Prelude.{◌≡◌, ◌<◌, Some, None, length, IfOk, IfSome};
 ghost use Rattle.care_sets.specs.Binding.{IsCareOf};
-ghost use Rattle.refusals.specs.Refusals.{empty_refusal, initial_refusal};
+ghost use Rattle.refusals.specs.Refusals.{initial_refusal};
 ghost use Rattle.clause_decision.specs.Tests.{TellsFirstUnknown};
-ghost use Rattle.verdict.specs.Determination.{AreDeterminedOnCare, IsOpen};
-ghost use Rattle.verdict.specs.Loose.{AreUnknownMarks};
+ghost use Rattle.verdict.specs.Loose.{AreUnknownMarks, IsLooseNumber};
 ghost use Rattle.verdict.specs.Scopes.{AreOpenGates, IsBeginning, MayGoOn};
-ghost use Rattle.verdict.specs.Determinacy.{AreDetermined, IsDeterminacy};
-ghost use Rattle.verdict.specs.Questions.{IsVerdictOf};
-ghost use Rattle.verdict.specs.Searches.{IsVerdictWith};
+ghost use Rattle.verdict.specs.Determinacy.{IsDeterminacy};
+ghost use Rattle.verdict.specs.Questions.{AreSettledMarks, IsJudged, IsJudgementOf};
+ghost use Rattle.verdict.specs.Verdicts.{IsJudgement};
 
 use crate::alone::{open_gates, settled_loops};
-use crate::counts::sweeps_on_care;
 use crate::invariance::{Invariance, invariance_of};
-use crate::loose::Unknown;
+use crate::judged::Judged;
+use crate::judgement::Judgement;
 use crate::question::Question;
 use crate::scopes::marked_places;
 use crate::search::Search;
 use crate::undetermined::{first_of, unknown_refusal};
 use crate::unknown::{loose_number, unknown_gates};
-use crate::verdict::Verdict;
 use care_sets::Care;
 use clause_decision::{First, Found, is_possible, least_outside};
 use cyc_base::Bits;
-use loops::SweepCounts;
 use netlist::Netlist;
 use refusals::{Observe, Refusal};
 use std::alloc::{AllocError, Global};
@@ -79,25 +76,12 @@ fn begin(alloc: Global, net: &Netlist, care: &Care, conflicts: u64) -> Result<Be
 /// Whether the observed gates of a netlist are determined on care.
 #[derive(Drop)]
 pub enum Determinacy {
-    /// No observed one is unknown at any care vector, and so many others are. The loops need so many sweeps.
-    Determined { sweeps: SweepCounts, loose: u32 },
+    /// No observed one is unknown at any care vector, and so many others are.
+    Determined { loose: u32 },
     /// The first observed one that is unknown refuses the netlist.
     Refused(Refusal),
-    /// The solver gave up, or unknown gates that aren't observed feed a loop.
+    /// The solver gave up.
     Undecided,
-}
-
-/// Where the gates of loops that aren't settled are all known on care, all gates are determined: the loops' sweeps are counted.
-fn determinacy_of_known(alloc: Global, search: &Search<'_>) -> Result<Determinacy, AllocError>
-    requires some { empty_refusal search.now.net search.now.care ≡ None }
-    requires known { AreDeterminedOnCare search.now.net search.now.care (IsOpen search.now.net search.now.blocks search.now.settled) }
-    ensures { (what : Observe) → IfOk result (IsDeterminacy search.now what) }
-{
-    search.laws();
-    match sweeps_on_care(alloc, search, Unknown::Nowhere)? {
-        Some(sweeps) => Ok(Determinacy::Determined { sweeps, loose: 0 }),
-        None => Ok(Determinacy::Undecided),
-    }
 }
 
 /// Whether the gates are determined where these are unknown at some care vector.
@@ -107,15 +91,11 @@ fn determinacy_with_loose(
     observe: Observe,
     unknown: &[bool],
 ) -> Result<Determinacy, AllocError>
-    requires some { empty_refusal search.now.net search.now.care ≡ None }
-    requires unknown { AreUnknownMarks search.now.net search.now.care unknown.now }
+    requires { AreUnknownMarks search.now.net search.now.care unknown.now }
     ensures { IfOk result (IsDeterminacy search.now observe) }
 {
-    let Some(loose) = loose_number(alloc, search.net(), search.care(), observe, unknown)? else {
-        return Ok(Determinacy::Undecided);
-    };
-    match sweeps_on_care(alloc, search, Unknown::Marked(unknown))? {
-        Some(sweeps) => Ok(Determinacy::Determined { sweeps, loose }),
+    match loose_number(alloc, search.net(), search.care(), observe, unknown)? {
+        Some(loose) => Ok(Determinacy::Determined { loose }),
         None => Ok(Determinacy::Undecided),
     }
 }
@@ -126,7 +106,6 @@ fn determinacy_of_loose(
     search: &Search<'_>,
     observe: Observe,
 ) -> Result<Determinacy, AllocError>
-    requires { empty_refusal search.now.net search.now.care ≡ None }
     ensures { IfOk result (IsDeterminacy search.now observe) }
 {
     match unknown_gates(alloc, search)? {
@@ -142,8 +121,7 @@ fn determinacy_of_observed(
     observe: Observe,
     unknown: u32,
 ) -> Result<Determinacy, AllocError>
-    requires some { empty_refusal search.now.net search.now.care ≡ None }
-    requires unknown { unknown < length search.now.net.gates }
+    requires { unknown < length search.now.net.gates }
     ensures { IfOk result (IsDeterminacy search.now observe) }
 {
     if let Some(refusal) = unknown_refusal(alloc, search, observe, unknown)? {
@@ -155,7 +133,8 @@ fn determinacy_of_observed(
     }
 }
 
-/// Whether the gates are determined where the first gate that is unknown in these loops was looked for.
+/// Whether the gates are determined where the first gate that is unknown in these loops was looked for: all gates are where
+/// none of these is unknown.
 fn determinacy_at(
     alloc: Global,
     search: &Search<'_>,
@@ -163,14 +142,14 @@ fn determinacy_at(
     gates: &[u32],
     first: First,
 ) -> Result<Determinacy, AllocError>
-    requires some { empty_refusal search.now.net search.now.care ≡ None }
     requires gates { AreOpenGates search.now.net search.now.blocks search.now.settled gates.now }
     requires first { TellsFirstUnknown search.now.net search.now.care gates.now first }
     ensures { IfOk result (IsDeterminacy search.now observe) }
 {
+    search.laws();
     match first {
         First::At(place) => determinacy_of_observed(alloc, search, observe, gates[place]),
-        First::Nowhere => determinacy_of_known(alloc, search),
+        First::Nowhere => Ok(Determinacy::Determined { loose: 0 }),
         First::Unknown => Ok(Determinacy::Undecided),
     }
 }
@@ -189,7 +168,6 @@ fn determinacy_on_care(
     search: &Search<'_>,
     observe: Observe,
 ) -> Result<Determinacy, AllocError>
-    requires { empty_refusal search.now.net search.now.care ≡ None }
     ensures { IfOk result (IsDeterminacy search.now observe) }
 {
     let gates = gates_open(alloc, search)?;
@@ -197,70 +175,88 @@ fn determinacy_on_care(
     determinacy_at(alloc, search, observe, &gates, first)
 }
 
-/// The verdict where no observed gate is unknown on care, so that next states decide.
-fn verdict_by_invariance(
+/// The judgement where no observed gate is unknown on care, so that next states decide.
+fn judge_by_invariance(
     alloc: Global,
     search: &Search<'_>,
     observe: Observe,
-    sweeps: SweepCounts,
     loose: u32,
-) -> Result<Option<Verdict>, AllocError>
+) -> Result<Option<Judgement>, AllocError>
     requires begins { MayGoOn search.now.net search.now.care }
-    requires determined { AreDetermined search.now.net search.now.blocks search.now.cut search.now.care observe sweeps loose }
-    ensures { IfOk result (λ found. IfSome found (IsVerdictWith search.now observe)) }
+    requires determined { IsLooseNumber search.now.net search.now.care observe loose }
+    ensures { IfOk result (λ found. IfSome found (IsJudgement search.now.net search.now.care observe)) }
 {
     search.laws();
     match invariance_of(alloc, search)? {
-        Invariance::Stays => Ok(Some(Verdict::Accepted { sweeps, loose })),
-        Invariance::Leaves(refusal) => Ok(Some(Verdict::Refused(refusal))),
+        Invariance::Stays => Ok(Some(Judgement::Accepted { loose })),
+        Invariance::Leaves(refusal) => Ok(Some(Judgement::Refused(refusal))),
         Invariance::Undecided => Ok(None),
     }
 }
 
-/// The verdict where neither the initial states nor the care set refuse the netlist, by searches.
+/// The judgement where neither the initial states nor the care set refuse the netlist, by searches.
 fn judge_by(
     alloc: Global,
     search: &Search<'_>,
     observe: Observe,
-) -> Result<Option<Verdict>, AllocError>
+) -> Result<Option<Judgement>, AllocError>
     requires { MayGoOn search.now.net search.now.care }
-    ensures { IfOk result (λ found. IfSome found (IsVerdictWith search.now observe)) }
+    ensures { IfOk result (λ found. IfSome found (IsJudgement search.now.net search.now.care observe)) }
 {
     match determinacy_on_care(alloc, search, observe)? {
-        Determinacy::Determined { sweeps, loose } => {
-            verdict_by_invariance(alloc, search, observe, sweeps, loose)
-        }
-        Determinacy::Refused(refusal) => Ok(Some(Verdict::Refused(refusal))),
+        Determinacy::Determined { loose } => judge_by_invariance(alloc, search, observe, loose),
+        Determinacy::Refused(refusal) => Ok(Some(Judgement::Refused(refusal))),
         Determinacy::Undecided => Ok(None),
     }
 }
 
-/// The verdict where neither the initial states nor the care set refuse the netlist.
+/// The same, where these marks are those of settled loops.
+fn judge_with(
+    alloc: Global,
+    question: &Question<'_>,
+    settled: &[bool],
+    conflicts: u64,
+) -> Result<Option<Judgement>, AllocError>
+    requires begins { MayGoOn question.now.net question.now.care }
+    requires settled { AreSettledMarks question.now settled.now }
+    ensures { IfOk result (λ found. IfSome found (IsJudgementOf question.now)) }
+{
+    let search = Search::new(question.looped(), question.care(), settled, conflicts);
+    judge_by(alloc, &search, question.observe())
+}
+
+/// The judgement where neither the initial states nor the care set refuse the netlist.
 fn judge_gates(
     alloc: Global,
     question: &Question<'_>,
     conflicts: u64,
-) -> Result<Option<Verdict>, AllocError>
+) -> Result<Option<Judged>, AllocError>
     requires { MayGoOn question.now.net question.now.care }
-    ensures { IfOk result (λ found. IfSome found (IsVerdictOf question.now)) }
+    ensures { IfOk result (λ found. IfSome found (IsJudged question.now)) }
 {
-    let looped = question.looped();
-    let settled = settled_loops(alloc, looped, LOOP_NODES)?;
-    let search = Search::new(looped, question.care(), &settled, conflicts);
-    judge_by(alloc, &search, question.observe())
+    let settled = settled_loops(alloc, question.looped(), LOOP_NODES)?;
+    match judge_with(alloc, question, &settled, conflicts)? {
+        Some(judgement) => Ok(Some(Judged {
+            judgement,
+            settled: Some(settled),
+        })),
+        None => Ok(None),
+    }
 }
 
-/// The verdict by clauses, or none where the solver gave up in a search after so many conflicts, or where unknown gates that
-/// aren't observed feed a loop.
-pub(crate) fn verdict_by_clauses(
+/// The judgement by clauses, or none where the solver gave up in a search after so many conflicts.
+pub(crate) fn judge_by_clauses(
     alloc: Global,
     question: &Question<'_>,
     conflicts: u64,
-) -> Result<Option<Verdict>, AllocError>
-    ensures { IfOk result (λ found. IfSome found (IsVerdictOf question.now)) }
+) -> Result<Option<Judged>, AllocError>
+    ensures { IfOk result (λ found. IfSome found (IsJudged question.now)) }
 {
     match begin(alloc, question.net(), question.care(), conflicts)? {
-        Beginning::Refused(refusal) => Ok(Some(Verdict::Refused(refusal))),
+        Beginning::Refused(refusal) => Ok(Some(Judged {
+            judgement: Judgement::Refused(refusal),
+            settled: None,
+        })),
         Beginning::Care => judge_gates(alloc, question, conflicts),
         Beginning::Undecided => Ok(None),
     }

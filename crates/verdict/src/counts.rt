@@ -15,8 +15,7 @@ use crate::scopes::scope_of;
 use crate::search::Search;
 use clause_decision::{sweeps_fed_known, sweeps_needed};
 use cyc_base::Items;
-use isolation::gates_at;
-use loops::SweepCounts;
+use loops::{SweepCounts, gates_at};
 use std::alloc::{AllocError, Global};
 
 /// The sweeps that the loop at this place needs on care, asked of the clauses of its gates and all upstream of them. There

@@ -1,19 +1,19 @@
-//! The decision: by clauses, else by diagrams.
+//! The decision: the judgement, and then the sweeps of loops.
 
 ghost use Rattle.std.specs.Prelude.{◌≡◌, ◌≤◌, ◌⊎◌, IfOk, IfErr, IfSome};
 ghost use Rattle.care_sets.specs.Binding.{IsCareOf};
-ghost use Rattle.care_sets.specs.Care.{columns};
 ghost use Rattle.loops.specs.Blocks.{AreBlocksOf};
 ghost use Rattle.loops.specs.Cuts.{IsCutOf};
 ghost use Rattle.verdict.specs.Causes.{IsOutOfNodes};
-ghost use Rattle.verdict.specs.Enough.{IsFullFor, IsBelowEnough};
-ghost use Rattle.verdict.specs.Questions.{IsVerdictOf};
+ghost use Rattle.verdict.specs.Enough.{IsBelowEnough};
+ghost use Rattle.verdict.specs.Questions.{AreCountsOf, AreSettledMarks, IsJudged, IsJudgementOf, IsVerdictOf};
 ghost use Rattle.verdict.specs.Verdicts.{IsVerdict};
 
-use crate::clauses::verdict_by_clauses;
-use crate::diagrams::{judge, verdict_by_diagrams};
+use crate::counting::{count_from_columns, counts_by_clauses, counts_by_diagrams};
 use crate::fault::DecideFault;
-use crate::fitting::{fit_all, limit_of};
+use crate::judged::Judged;
+use crate::judgement::Judgement;
+use crate::judging::{FEW_CONFLICTS, FEW_NODES, MANY_CONFLICTS, judge_anew};
 use crate::question::Question;
 use crate::verdict::Verdict;
 use bdd_ops::Diagrams;
@@ -21,76 +21,140 @@ use bdd_store::StoreFault;
 use care_sets::Care;
 use cyc_base::MAX_NODES;
 use fixpoint::order;
-use isolation::column_rails;
-use loops::{Blocks, Cut, LoopedNetlist};
+use loops::{Blocks, Cut, LoopedNetlist, SweepCounts};
 use netlist::Netlist;
 use refusals::Observe;
 use std::alloc::{AllocError, Global};
 
-/// How many conflicts a search may meet in the first try by clauses, and in the second.
-const FEW_CONFLICTS: u64 = 20_000;
-
-const MANY_CONFLICTS: u64 = 2_000_000;
-
-/// How many nodes the diagrams may have between these.
-const FEW_NODES: u32 = 200_000;
-
-/// What is tried before the handed-in diagrams are filled: clauses for a while, diagrams for a while, and clauses for
-/// long. A direction that is chosen by a parity, once as a chain and once as a tree, is quick for diagrams and endless for
-/// clauses; a multiplier in a loop is the other way round.
-fn early_verdict(
+/// The sweeps of an accepted netlist that clauses judged: by clauses for a while, by diagrams of so many nodes, and by
+/// clauses for long.
+fn counts_in_turn(
     alloc: Global,
     question: &Question<'_>,
-    limit: u32,
-) -> Result<Option<Verdict>, AllocError>
-    requires { limit ≤ MAX_NODES }
-    ensures { IfOk result (λ found. IfSome found (IsVerdictOf question.now)) }
+    loose: u32,
+    settled: &[bool],
+    few: u32,
+) -> Result<Option<SweepCounts>, AllocError>
+    requires accepted { IsJudgementOf question.now (Judgement.Accepted loose) }
+    requires settled { AreSettledMarks question.now settled.now }
+    requires few { few ≤ MAX_NODES }
+    ensures { IfOk result (λ found. IfSome found (AreCountsOf question.now)) }
 {
-    if let Some(verdict) = verdict_by_clauses(alloc, question, FEW_CONFLICTS)? {
-        return Ok(Some(verdict));
+    if let Some(counts) = counts_by_clauses(alloc, question, loose, settled, FEW_CONFLICTS)? {
+        return Ok(Some(counts));
     }
-    let few = limit.min(FEW_NODES);
-    if let Some(verdict) = verdict_by_diagrams(alloc, question, few)? {
-        return Ok(Some(verdict));
+    if let Some(counts) = counts_by_diagrams(alloc, question, few)? {
+        return Ok(Some(counts));
     }
-    verdict_by_clauses(alloc, question, MANY_CONFLICTS)
+    counts_by_clauses(alloc, question, loose, settled, MANY_CONFLICTS)
 }
 
-/// The verdict, on diagrams that have a variable for each column and no nodes. Where the columns don't fit, or a cover
-/// of the netlist or of a care model, nothing else is tried.
-fn decide_on(
+/// What is tried before the handed-in diagrams are filled. Where diagrams judged the netlist, as there are no marks of settled
+/// loops, clauses aren't asked: they gave up on less.
+fn early_counts(
+    alloc: Global,
+    question: &Question<'_>,
+    loose: u32,
+    settled: &Option<Vec<bool>>,
+    limit: u32,
+) -> Result<Option<SweepCounts>, AllocError>
+    requires accepted { IsJudgementOf question.now (Judgement.Accepted loose) }
+    requires settled { IfSome settled.now (λ marks. AreSettledMarks question.now marks.items) }
+    requires limit { limit ≤ MAX_NODES }
+    ensures { IfOk result (λ found. IfSome found (AreCountsOf question.now)) }
+{
+    let few = limit.min(FEW_NODES);
+    match settled {
+        Some(settled) => counts_in_turn(alloc, question, loose, settled, few),
+        None => counts_by_diagrams(alloc, question, few),
+    }
+}
+
+/// The sweeps by diagrams that are started anew.
+fn count_anew(
     alloc: Global,
     d: &mut Diagrams,
     question: &Question<'_>,
-) -> Result<Verdict, StoreFault>
-    requires { d.old.vars ≡ columns question.now.net }
-    ensures verdict { IfOk result (IsVerdictOf question.now) }
-    ensures full { result ≡ Err StoreFault.Full → IsFullFor d.old d.new question.now.net question.now.care }
+    limit: u32,
+) -> Result<SweepCounts, DecideFault>
+    requires { limit ≤ MAX_NODES }
+    ensures counts { IfOk result (AreCountsOf question.now) }
+    ensures fault { IfErr result (λ fault. (fault ≡ DecideFault.Memory) ⊎ (fault ≡ DecideFault.NodeLimit limit)) }
+    ensures cause { result ≡ Err (DecideFault.NodeLimit limit) → IsOutOfNodes d.new question.now.net question.now.care limit }
+    ensures enough { result ≡ Err (DecideFault.NodeLimit limit) → IsBelowEnough question.now.net question.now.care limit }
 {
-    let rails = column_rails(alloc, d, question.order())?;
-    let limit = limit_of(d);
-    fit_all(alloc, question.net(), question.care(), limit)?;
-    match early_verdict(alloc, question, limit)? {
-        Some(verdict) => Ok(verdict),
-        None => judge(alloc, d, question, &rails),
+    if d.start(question.net().columns(), limit).is_err() {
+        return Err(DecideFault::Memory);
+    }
+    match count_from_columns(alloc, d, question) {
+        Ok(counts) => Ok(counts),
+        Err(StoreFault::Full) => Err(DecideFault::NodeLimit { nodes: limit }),
+        Err(StoreFault::Memory) => Err(DecideFault::Memory),
     }
 }
 
-/// Decides a netlist on a care set, by ternary simulation of all care vectors at once (Malik 1994; Shiple, Berry
-/// and Touati 1996). It starts the diagrams anew, with a variable for each column and the limit. The columns are laid
-/// on the variables in the order in which gates first read them (`fixpoint::order`). Least states and vectors are
-/// least by column all the same.
+/// The sweeps of an accepted netlist.
+fn count(
+    alloc: Global,
+    d: &mut Diagrams,
+    question: &Question<'_>,
+    loose: u32,
+    settled: &Option<Vec<bool>>,
+    limit: u32,
+) -> Result<SweepCounts, DecideFault>
+    requires accepted { IsJudgementOf question.now (Judgement.Accepted loose) }
+    requires settled { IfSome settled.now (λ marks. AreSettledMarks question.now marks.items) }
+    requires limit { limit ≤ MAX_NODES }
+    ensures counts { IfOk result (AreCountsOf question.now) }
+    ensures fault { IfErr result (λ fault. (fault ≡ DecideFault.Memory) ⊎ (fault ≡ DecideFault.NodeLimit limit)) }
+    ensures cause { result ≡ Err (DecideFault.NodeLimit limit) → IsOutOfNodes d.new question.now.net question.now.care limit }
+    ensures enough { result ≡ Err (DecideFault.NodeLimit limit) → IsBelowEnough question.now.net question.now.care limit }
+{
+    match early_counts(alloc, question, loose, settled, limit) {
+        Ok(Some(counts)) => Ok(counts),
+        Ok(None) => count_anew(alloc, d, question, limit),
+        Err(AllocError) => Err(DecideFault::Memory),
+    }
+}
+
+/// The verdict of a netlist that was judged.
+fn verdict_of(
+    alloc: Global,
+    d: &mut Diagrams,
+    question: &Question<'_>,
+    judged: Judged,
+    limit: u32,
+) -> Result<Verdict, DecideFault>
+    requires judged { IsJudged question.now judged }
+    requires limit { limit ≤ MAX_NODES }
+    ensures verdict { IfOk result (IsVerdictOf question.now) }
+    ensures fault { IfErr result (λ fault. (fault ≡ DecideFault.Memory) ⊎ (fault ≡ DecideFault.NodeLimit limit)) }
+    ensures cause { result ≡ Err (DecideFault.NodeLimit limit) → IsOutOfNodes d.new question.now.net question.now.care limit }
+    ensures enough { result ≡ Err (DecideFault.NodeLimit limit) → IsBelowEnough question.now.net question.now.care limit }
+{
+    let Judged { judgement, settled } = judged;
+    match judgement {
+        Judgement::Accepted { loose } => {
+            match count(alloc, d, question, loose, &settled, limit) {
+                Ok(sweeps) => Ok(Verdict::Accepted { sweeps, loose }),
+                Err(fault) => Err(fault),
+            }
+        }
+        Judgement::Refused(refusal) => Ok(Verdict::Refused(refusal)),
+    }
+}
+
+/// Decides a netlist on a care set: judges it, and finds the sweeps that each loop needs on care where it is accepted. It
+/// starts the diagrams anew, once or twice, as `judge` does.
 ///
-/// The answer is `Accepted` exactly where each permitted initial state is in the invariant, a care vector exists,
-/// and on every care vector each observed signal is determined and the next state is in the invariant; then with the
-/// number of sweeps that each loop needs on care, and the number of gates that are unknown at some care vector. Else
-/// it is the refusal of the first of these parts that fails, with its least state or vector.
+/// The answer is `Accepted` exactly where `judge` says so, then with the number of sweeps that each loop needs on care, and
+/// the number of gates that are unknown at some care vector. Else it is the refusal that `judge` answers.
 ///
 /// `NodeLimit` carries the limit, and comes only where the diagrams have the netlist's columns as variables and this
 /// limit, and hold as many nodes as the call ends, or a cover of the netlist or of a care model has more. It never
 /// comes at a limit of at least `16 * w * (G + 2) * (E + V + 4)` (`enough`), for each w that is wide for the functions
-/// of the decision, laid on the variables in that order: G are the gates of the netlist and of both care models, E is
-/// their effort, and V is the number of columns. Nothing more is said of the diagrams after the call.
+/// of the decision, laid on the variables in the order of `fixpoint::order`: G are the gates of the netlist and of both
+/// care models, E is their effort, and V is the number of columns. Nothing more is said of the diagrams after the call.
 ///
 /// The condition is that blocks, cut and care are the netlist's, and that the limit is at most 50,000,000.
 pub fn decide(
@@ -115,14 +179,10 @@ pub fn decide(
     let Ok(order) = order(alloc, net) else {
         return Err(DecideFault::Memory);
     };
-    if d.start(net.columns(), limit).is_err() {
-        return Err(DecideFault::Memory);
-    }
     let looped = LoopedNetlist::new(net, blocks, cut);
     let question = Question::new(&looped, care, observe, &order);
-    match decide_on(alloc, d, &question) {
-        Ok(verdict) => Ok(verdict),
-        Err(StoreFault::Full) => Err(DecideFault::NodeLimit { nodes: limit }),
-        Err(StoreFault::Memory) => Err(DecideFault::Memory),
+    match judge_anew(alloc, d, &question, limit) {
+        Ok(judged) => verdict_of(alloc, d, &question, judged, limit),
+        Err(fault) => Err(fault),
     }
 }

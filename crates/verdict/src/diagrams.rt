@@ -3,25 +3,23 @@
 ghost use Rattle.std.specs.Prelude.{◌≡◌, ◌≤◌, ◌+◌, IfOk, IfSome};
 ghost use Rattle.care_sets.specs.Care.{columns, is_care_vector};
 ghost use Rattle.fixpoint.specs.Orders.{order as order_of};
-ghost use Rattle.verdict.specs.Costs.{care_cost, solved_cost, start_cost, whole_cost};
+ghost use Rattle.verdict.specs.Costs.{care_cost, judging_cost, solving_cost, start_cost};
 ghost use Rattle.verdict.specs.Enough.{AddsInDecision, GrowsInDecision};
 ghost use Rattle.verdict.specs.Sets.{AreFixed, Tells};
 ghost use Rattle.isolation.specs.Columns.{AreColumns};
 ghost use Rattle.verdict.specs.Verdicts.{refusal_on_care, IsCareStart, IsGateVerdict, IsSolvedWhole};
-ghost use Rattle.verdict.specs.Questions.{IsVerdictOf};
+ghost use Rattle.verdict.specs.Questions.{IsJudgementOf};
 
 use crate::beginning::{Start, begin};
 use crate::gate_verdict::GateVerdict;
+use crate::judgement::Judgement;
 use crate::question::Question;
 use crate::refusing::{leaves, verdict_of_gates};
 use crate::solving::{Fixpoint, solve_beside};
-use crate::verdict::Verdict;
 use bdd_ops::Diagrams;
 use bdd_store::{Node, StoreFault};
 use cyc_base::MAX_NODES;
 use dual_rail::Rails;
-use fixpoint::laws::solutions;
-use fixpoint::sweeps;
 use isolation::column_rails;
 use std::alloc::{AllocError, Global};
 
@@ -51,35 +49,48 @@ fn verdict_on_care(
     }
 }
 
-/// The verdict of a solved netlist, beside which its care vectors are kept.
+/// The judgement of a solved netlist, beside which its care vectors are kept.
 fn judge_solved(
     alloc: Global,
     d: &mut Diagrams,
     question: &Question<'_>,
     found: &Fixpoint,
-) -> Result<Verdict, StoreFault>
-    requires solved { IsSolvedWhole question.now.net question.now.blocks question.now.cut d.old found.now }
+) -> Result<Judgement, StoreFault>
+    requires vars { d.old.vars ≡ columns question.now.net }
+    requires fixed { AreFixed question.now.net d.old found.now.rails }
     requires start { IsCareStart question.now.net question.now.care d.old found.now.set }
-    ensures verdict { IfOk result (IsVerdictOf question.now) }
-    ensures grows { GrowsInDecision result d.old d.new question.now.net question.now.care (solved_cost question.now.net question.now.care) }
+    ensures judgement { IfOk result (IsJudgementOf question.now) }
+    ensures grows { GrowsInDecision result d.old d.new question.now.net question.now.care (care_cost question.now.net question.now.care) }
 {
-    solutions();
-    d.store().laws();
-    let blocks = question.blocks();
-    let gates = verdict_on_care(alloc, d, question, found)?;
-    let loose = match gates {
-        GateVerdict::Determined { loose } => loose,
-        GateVerdict::Refused(refusal) => return Ok(Verdict::Refused(refusal)),
-    };
-    d.store().laws();
-    let counts = sweeps(alloc, d, &found.solved, blocks, found.set)?;
-    Ok(Verdict::Accepted {
-        sweeps: counts,
-        loose,
-    })
+    question.laws();
+    match verdict_on_care(alloc, d, question, found)? {
+        GateVerdict::Determined { loose } => Ok(Judgement::Accepted { loose }),
+        GateVerdict::Refused(refusal) => Ok(Judgement::Refused(refusal)),
+    }
 }
 
-/// The verdict by all gates of the netlist, which is solved here on these rails of its columns. `set` are the vectors of
+/// The netlist solved on these rails of its columns, beside the vectors of care.
+pub(crate) fn solve_whole(
+    alloc: Global,
+    d: &mut Diagrams,
+    question: &Question<'_>,
+    rails: &[Rails],
+    set: Node,
+) -> Result<Fixpoint, StoreFault>
+    requires vars { d.old.vars ≡ columns question.now.net }
+    requires columns { AreColumns d.old (order_of question.now.net) rails.now }
+    requires set { Tells question.now.net d.old set (is_care_vector question.now.net question.now.care) }
+    ensures solved { IfOk result (IsSolvedWhole question.now.net question.now.blocks question.now.cut d.new) }
+    ensures set { IfOk result (λ found. Tells question.now.net d.new found.set (is_care_vector question.now.net question.now.care)) }
+    ensures vars { d.new.vars ≡ d.old.vars }
+    ensures limit { d.new.limit ≡ d.old.limit }
+    ensures adds { AddsInDecision result d.old d.new question.now.net question.now.care (solving_cost question.now.net) }
+{
+    d.store().laws();
+    solve_beside(alloc, d, question.looped(), rails, set)
+}
+
+/// The judgement by all gates of the netlist, which is solved here on these rails of its columns. `set` are the vectors of
 /// care.
 fn judge_whole(
     alloc: Global,
@@ -87,67 +98,65 @@ fn judge_whole(
     question: &Question<'_>,
     rails: &[Rails],
     set: Node,
-) -> Result<Verdict, StoreFault>
+) -> Result<Judgement, StoreFault>
     requires vars { d.old.vars ≡ columns question.now.net }
     requires columns { AreColumns d.old (order_of question.now.net) rails.now }
     requires start { IsCareStart question.now.net question.now.care d.old set }
-    ensures verdict { IfOk result (IsVerdictOf question.now) }
+    ensures judgement { IfOk result (IsJudgementOf question.now) }
     ensures vars { d.new.vars ≡ d.old.vars }
     ensures limit { d.new.limit ≡ d.old.limit }
-    ensures adds { AddsInDecision result d.old d.new question.now.net question.now.care (whole_cost question.now.net question.now.care) }
+    ensures adds { AddsInDecision result d.old d.new question.now.net question.now.care (judging_cost question.now.net question.now.care) }
 {
-    d.store().laws();
-    let looped = question.looped();
-    let found = solve_beside(alloc, d, looped, rails, set)?;
+    let found = solve_whole(alloc, d, question, rails, set)?;
     judge_solved(alloc, d, question, &found)
 }
 
-/// The verdict by diagrams, which have a variable for each column. These are the rails of the columns.
-pub(crate) fn judge(
+/// The judgement by diagrams, which have a variable for each column. These are the rails of the columns.
+pub(crate) fn judge_on(
     alloc: Global,
     d: &mut Diagrams,
     question: &Question<'_>,
     rails: &[Rails],
-) -> Result<Verdict, StoreFault>
+) -> Result<Judgement, StoreFault>
     requires vars { d.old.vars ≡ columns question.now.net }
     requires columns { AreColumns d.old (order_of question.now.net) rails.now }
-    ensures verdict { IfOk result (IsVerdictOf question.now) }
+    ensures judgement { IfOk result (IsJudgementOf question.now) }
     ensures vars { d.new.vars ≡ d.old.vars }
     ensures limit { d.new.limit ≡ d.old.limit }
-    ensures adds { AddsInDecision result d.old d.new question.now.net question.now.care (start_cost question.now.net question.now.care + whole_cost question.now.net question.now.care) }
+    ensures adds { AddsInDecision result d.old d.new question.now.net question.now.care (start_cost question.now.net question.now.care + judging_cost question.now.net question.now.care) }
 {
     match begin(alloc, d, question, rails)? {
         Start::Care(set) => judge_whole(alloc, d, question, rails, set),
-        Start::Refused(refusal) => Ok(Verdict::Refused(refusal)),
+        Start::Refused(refusal) => Ok(Judgement::Refused(refusal)),
     }
 }
 
-/// The verdict by diagrams that have a variable for each column and no nodes.
+/// The judgement by diagrams that have a variable for each column and no nodes.
 fn judge_from_columns(
     alloc: Global,
     d: &mut Diagrams,
     question: &Question<'_>,
-) -> Result<Verdict, StoreFault>
+) -> Result<Judgement, StoreFault>
     requires { d.old.vars ≡ columns question.now.net }
-    ensures { IfOk result (IsVerdictOf question.now) }
+    ensures { IfOk result (IsJudgementOf question.now) }
 {
     let rails = column_rails(alloc, d, question.order())?;
-    judge(alloc, d, question, &rails)
+    judge_on(alloc, d, question, &rails)
 }
 
-/// The verdict by diagrams of their own, of at most so many nodes, or none where these don't do.
-pub(crate) fn verdict_by_diagrams(
+/// The judgement by diagrams of their own, of at most so many nodes, or none where these don't do.
+pub(crate) fn judge_by_diagrams(
     alloc: Global,
     question: &Question<'_>,
     limit: u32,
-) -> Result<Option<Verdict>, AllocError>
+) -> Result<Option<Judgement>, AllocError>
     requires { limit ≤ MAX_NODES }
-    ensures { IfOk result (λ found. IfSome found (IsVerdictOf question.now)) }
+    ensures { IfOk result (λ found. IfSome found (IsJudgementOf question.now)) }
 {
     let net = question.net();
     let mut d = Diagrams::new(alloc, net.columns(), limit)?;
     match judge_from_columns(alloc, &mut d, question) {
-        Ok(verdict) => Ok(Some(verdict)),
+        Ok(judgement) => Ok(Some(judgement)),
         Err(StoreFault::Full) => Ok(None),
         Err(StoreFault::Memory) => Err(AllocError),
     }

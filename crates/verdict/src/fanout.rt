@@ -2,14 +2,13 @@
 
 ghost use Rattle.std.specs.Prelude.{◌≡◌, ◌↔◌, ◌<◌, true, length, All, IfOk};
 ghost use Rattle.netlist.specs.Netlists.{IsSignal};
-ghost use Rattle.isolation.specs.Cones.{AddMarks};
+ghost use Rattle.loops.specs.Cones.{AddMarks};
 ghost use Rattle.verdict.specs.Fanout.{AreFanoutMarks, AreReached, HasMarkedDriver, IsReached, ReadsMark};
 ghost use Rattle.verdict.specs.Loose.{AreCandidates};
 
 use crate::alone::open_gates;
 use cyc_base::Sig;
-use isolation::{gates_at, mark_all};
-use loops::LoopedNetlist;
+use loops::{LoopedNetlist, gates_at, mark_all};
 use netlist::Netlist;
 use std::alloc::{AllocError, Global};
 

@@ -7,7 +7,7 @@ ghost use Rattle.verdict.specs.Loose.{AreKnownAround, AreUnknown, AreWithout};
 
 use crate::fanout::are_reached;
 use crate::search::Search;
-use isolation::gates_at;
+use loops::gates_at;
 use std::alloc::{AllocError, Global};
 
 /// The gates that are unknown at some care vector.

@@ -56,6 +56,13 @@ impl<'a> Question<'a> {
         }
     }
 
+    /// What holds of each question.
+    pub(crate) fn laws(&self)
+        ensures { IsAsked self.now }
+    {
+        let _ = &self.looped;
+    }
+
     /// The netlist with its loops.
     pub(crate) fn looped(&self) -> &'a LoopedNetlist<'a>
         ensures looped { result.now ≡ looped_in self.now }

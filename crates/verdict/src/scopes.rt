@@ -2,7 +2,7 @@
 
 ghost use Rattle.std.specs.Prelude.{◌≡◌, ◌<◌, ◌≤◌, not, length, map, All, IfOk};
 ghost use Rattle.care_sets.specs.Binding.{IsCareOf};
-ghost use Rattle.isolation.specs.Cones.{ListsMarked};
+ghost use Rattle.loops.specs.Cones.{ListsMarked};
 ghost use Rattle.clause_decision.specs.Scopes.{AreInScope, AreNeverUnknown, IsScopeOf};
 ghost use Rattle.verdict.specs.Determination.{SettleInOneSweep};
 ghost use Rattle.verdict.specs.Scopes.{AreDrivers};
@@ -12,8 +12,7 @@ use crate::search::Search;
 use care_sets::Care;
 use clause_decision::Scope;
 use cyc_base::Items;
-use isolation::upstream_of;
-use loops::LoopedNetlist;
+use loops::{LoopedNetlist, upstream_of};
 use netlist::Netlist;
 use std::alloc::{AllocError, Global};
 

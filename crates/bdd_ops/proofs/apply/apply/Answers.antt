@@ -28,5 +28,5 @@ loop-turn-preserved c =
       answers = c.resume.ensures.answers ∙ c.loop-turn.invariant.answers;
       computed = c.resume.ensures.computed;
       parts = NewAreParts-taken c.args.operation c.loop-turn.store c.resume.new.store c.args.root c.loop-turn.waiting.items c.pop.new.self.items c.in-Some.question c.in-Answer.n c.resume.ensures.keeps c.in-Some.ensures.items turn c.args.store.now c.laws.ensures c.requires.nodes c.loop-turn.invariant.keeps c.loop-turn.invariant.parts c.resume.ensures.parts;
-      turn = c.in_ok-turn-in-Answer.ensures.ok c.args.root behind.0 behind.1 behind.2;
+      turn = c.in_ok-turn-in-Answer.ensures.ok c.args.root behind;
     }

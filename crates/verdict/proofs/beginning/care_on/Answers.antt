@@ -1,5 +1,5 @@
 use Rattle.std.proofs.Common.{◌≡◌, ◌∙◌, refl, ◌*◌, List, Bool, length, sym, arith}
-use Rattle.verdict.proofs.Common.{within_only, within_one, within_then, within_moved, within_more, within_refused, conjunction, columns, is_care_vector, assume_effort, GrowsInDecision, SaysCare, laid, order, values_of}
+use Rattle.verdict.proofs.Common.{within_only, within_one, within_then, within_moved, within_more, within_refused, conjunction, is_care_vector, assume_effort, GrowsInDecision, SaysCare, laid, order, values_of}
 use Rattle.dual_rail.proofs.WidthLemmas.{wide-one}
 use Rattle.verdict.proofs.DecisionLemmas.{decision_list, decision-wide, wide-kept}
 use Rattle.verdict.proofs.MadeLemmas.{made-listed}

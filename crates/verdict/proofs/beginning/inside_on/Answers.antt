@@ -1,5 +1,5 @@
 use Rattle.std.proofs.Common.{◌≡◌, ◌∙◌, ◌-◌, List, Bool, length, take, drop, ap, arith}
-use Rattle.verdict.proofs.Common.{length-drop, within_moved, Rails, values_of, bits, columns, state_of, laid, order}
+use Rattle.verdict.proofs.Common.{length-drop, within_moved, Rails, values_of, bits, state_of, laid, order}
 use Rattle.std.proofs.lemmas.List.{take_rest}
 use Rattle.verdict.proofs.DecisionLemmas.{decision_list, decision-wide}
 use Rattle.verdict.proofs.PartLemmas.{IfOk-both, invariant-reads}

@@ -1,9 +1,11 @@
-use Rattle.std.proofs.Common.{arith}
 use Rattle.verdict.proofs.CandidateLemmas.{open-known}
+use Rattle.verdict.proofs.DeterminationLemmas.{determination-loose, none-undetermined, open-determine}
 use Rattle.verdict.proofs.clauses.determinacy_at.Goals as goal
 
-pub determinacy_of_known-requires-clause-known : goal.determinacy_of_known-requires-clause-known
-determinacy_of_known-requires-clause-known c = grind (arith, open-known c.args.search.now.net c.args.search.now.blocks c.args.search.now.care c.args.search.now.settled c.args.gates.now c.requires.gates)
-
 pub returns-in-Nowhere : goal.returns-in-Nowhere
-returns-in-Nowhere c = c.determinacy_of_known.ensures c.args.observe
+returns-in-Nowhere c =
+    let s = c.args.search.now in
+    let is = c.laws.ensures.is in
+    let none = rw c.in-Nowhere.is at c.requires.first in
+    let all = open-determine s.net is.net s.blocks is.blocks s.care s.settled is.settled (open-known s.net s.blocks s.care s.settled c.args.gates.now c.requires.gates none) in
+    record { none = none-undetermined s.net s.care c.args.observe all; number = determination-loose s.net s.care all }

@@ -1,6 +1,6 @@
 use Rattle.std.proofs.Common.{◌+◌, ◌∙◌, subst, sym, ap}
 use Rattle.verdict.proofs.Common.{ListsMarked}
-use Rattle.isolation.proofs.ConeLemmas.{listed-skip, listed-push}
+use Rattle.loops.proofs.MarkLemmas.{listed-skip, listed-push}
 use Rattle.verdict.proofs.scopes.marked_places.Goals as goal
 use Rattle.verdict.proofs.scopes.marked_places.Goals.{then-marks-place+in_ok-push, else-marks-place}
 

@@ -1,5 +1,5 @@
 use Rattle.std.proofs.Common.{◌*◌, ◌≤◌, ◌≡◌, ◌∙◌, ◌+◌, ℕ, List, [], ◌∷◌, ◌++◌, length, map, filter, subst, sym, ap, ap₂, arith, true≢false}
-use Rattle.fixpoint.proofs.Common.{GrowsWithin, NoOtherCause, IsLawful, within_refused, within_answered, IsWide, Rails, block_at, is_cut, loops_by, first_gate, Vectors, rails_at, AreWires, IsSweepable, after_sweeps, IsUnderway, IsWorking, order_cost}
+use Rattle.fixpoint.proofs.Common.{HasLargeCover, GrowsWithin, IsLawful, within_refused, within_answered, IsWide, Rails, block_at, is_cut, loops_by, first_gate, Vectors, rails_at, AreWires, IsSweepable, after_sweeps, IsUnderway, IsWorking, order_cost}
 use Rattle.fixpoint.specs.Plans.{IsPlanOf}
 use Rattle.fixpoint.proofs.LoopLemmas.{at-rest, underway-next}
 use Rattle.fixpoint.proofs.wires.Wires.sweep_once.Goals as goal
@@ -15,10 +15,10 @@ ready c b v plan under = grind arith
 
 -- what it costs
 swept-once : (c : After-sweep) (b : ℕ) (v : Vectors) → IsPlanOf c.args.looped.now b c.args.plan.now → Underway c b v
-    → GrowsWithin c.sweep.result c.args.d.now c.sweep.new.d NoOtherCause (IsWide c.args.d.now.vars (IsWorking c.args.looped.now.net (loops_by c.args.looped.now.blocks c.args.looped.now.cut) v)) (2 * order_cost c.args.looped.now.net c.args.plan.now.order)
+    → GrowsWithin c.sweep.result c.args.d.now c.sweep.new.d (HasLargeCover c.args.looped.now.net) (IsWide c.args.d.now.vars (IsWorking c.args.looped.now.net (loops_by c.args.looped.now.blocks c.args.looped.now.cut) v)) (2 * order_cost c.args.looped.now.net c.args.plan.now.order)
 swept-once c b v plan under =
     let few : length c.args.steps.now.items ≤ length (filter (is_cut c.args.looped.now.cut.wires) (block_at c.args.looped.now.blocks b).gates) = omega (arith, under.few, ap length plan.cuts) in
-    subst (λ (ns : List ℕ). GrowsWithin c.sweep.result c.args.d.now c.sweep.new.d NoOtherCause (IsWide c.args.d.now.vars (IsWorking c.args.looped.now.net (loops_by c.args.looped.now.blocks c.args.looped.now.cut) v)) (2 * order_cost c.args.looped.now.net ns)) c.items.ensures
+    subst (λ (ns : List ℕ). GrowsWithin c.sweep.result c.args.d.now c.sweep.new.d (HasLargeCover c.args.looped.now.net) (IsWide c.args.d.now.vars (IsWorking c.args.looped.now.net (loops_by c.args.looped.now.blocks c.args.looped.now.cut) v)) (2 * order_cost c.args.looped.now.net ns)) c.items.ensures
     (c.sweep.ensures.grows b (length c.args.steps.now.items) v (ready c b v plan under) few)
 
 pub returns-in_err-sweep-clause-grows : goal.returns-in_err-sweep-clause-grows

@@ -8,9 +8,9 @@ use Rattle.sat.proofs.solver.Solver.solve.Goals as goal
 
 pub returns-in_ok-self-inside-in-Some-Refuted-clause-answer : goal.returns-in_ok-self-inside-in-Some-Refuted-clause-answer
 returns-in_ok-self-inside-in-Some-Refuted-clause-answer c =
-    let refutes = refutes_of c.self.inside.formula c.args.assumptions.now c.look.new.self c.in_ok-found.found.verdict c.in-Some-Refuted.field-0 c.in_ok-found.ensures.found.verdict c.in-Some-Refuted.is (rw c.in-Some-Refuted.is at c.in-Some-Refuted.field-0-is) in
+    let refutes = refutes_of c.self.inside.formula c.args.assumptions.now c.look.new.self c.in_ok-found.found.verdict c.in-Some-Refuted.field-0 c.in_ok-found.ensures.found c.in-Some-Refuted.is (rw c.in-Some-Refuted.is at c.in-Some-Refuted.field-0-is) in
     refuted c.self.inside.formula c.look.new.self.working.lits.items c.args.assumptions.now refutes.entailed refutes.assumed
 
 pub returns-in_ok-self-inside-in-Some-Refuted-clause-core : goal.returns-in_ok-self-inside-in-Some-Refuted-clause-core
 returns-in_ok-self-inside-in-Some-Refuted-clause-core c =
-    grind (arith, refutes_of c.self.inside.formula c.args.assumptions.now c.look.new.self c.in_ok-found.found.verdict c.in-Some-Refuted.field-0 c.in_ok-found.ensures.found.verdict c.in-Some-Refuted.is, core_of c.self.inside.formula c.args.assumptions.now c.look.new.self.working.lits.items)
+    grind (arith, refutes_of c.self.inside.formula c.args.assumptions.now c.look.new.self c.in_ok-found.found.verdict c.in-Some-Refuted.field-0 c.in_ok-found.ensures.found c.in-Some-Refuted.is, core_of c.self.inside.formula c.args.assumptions.now c.look.new.self.working.lits.items)

@@ -1,6 +1,0 @@
-use Rattle.isolation.proofs.Common.{AddMarks}
-use Rattle.isolation.proofs.MarkLemmas.{IsAmongFirst}
-use Rattle.isolation.proofs.cones.mark_all.Given as goal
-
-abbrev pub invariant-loop-gate : goal.invariant-loop-gate
-invariant-loop-gate l = AddMarks (IsAmongFirst l.gates l.gate-index) l.fn.marks l.marks

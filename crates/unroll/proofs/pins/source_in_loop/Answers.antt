@@ -1,5 +1,0 @@
-use Rattle.std.proofs.Common.{arith}
-use Rattle.unroll.proofs.pins.source_in_loop.Goals as goal
-
-pub returns-clause-source : goal.returns-clause-source
-returns-clause-source c = grind arith

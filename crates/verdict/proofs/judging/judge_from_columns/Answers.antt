@@ -1,0 +1,31 @@
+use Rattle.std.proofs.Common.{arith}
+use Rattle.verdict.proofs.Common.{adds_refused, adds_then, AddsInDecision}
+use Rattle.verdict.proofs.CauseLemmas.{full_for}
+use Rattle.verdict.proofs.PartLemmas.{order-layout}
+use Rattle.verdict.proofs.judging.judge_from_columns.Goals as goal
+use Rattle.verdict.proofs.judging.judge_from_columns.Goals.{After-column_rails}
+
+pub column_rails-requires : goal.column_rails-requires
+column_rails-requires c = order-layout c.args.question.now.net c.args.d.now.vars c.order.result.now c.requires c.order.ensures
+
+-- ---- what it does to the diagrams
+
+after-columns : (c : After-column_rails) → AddsInDecision c.column_rails.result c.args.d.now c.column_rails.new.d c.args.question.now.net c.args.question.now.care 2
+after-columns c = grind arith
+
+-- ---- why it ends without a verdict
+
+pub returns-in_err-rails-clause-full : goal.returns-in_err-rails-clause-full
+returns-in_err-rails-clause-full g = grind arith
+
+-- a cover is too large
+pub returns-in_err-fit_all-clause-full : goal.returns-in_err-fit_all-clause-full
+returns-in_err-fit_all-clause-full g is_full = grind arith
+
+-- the diagrams are filled
+pub returns-in_err-judge_on-in-None-clause-full : goal.returns-in_err-judge_on-in-None-clause-full
+returns-in_err-judge_on-in-None-clause-full g =
+    let c : After-column_rails = (goal.at.returns-in_err-judge_on-in-None-clause-full g).After-column_rails in
+    let keeps = c.column_rails.ensures.grows.keeps in
+    let adds = adds_refused g.in_err-judge_on-in-None.was g.from_residual-in_err-judge_on-in-None.ensures.1 g.judge_on.ensures.adds in
+    grind (arith, After-column_rails, full_for, adds_then keeps.limit (after-columns c) adds, after-columns c, adds)
