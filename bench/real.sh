@@ -21,13 +21,22 @@ sources() {
         "$dir"/*icestorm*/{examples,icefuzz/tests} -name '*.v' 2>/dev/null | sort
 }
 
+# The netlist of a design, of the module that is named behind the two files where one is.
+convert() {
+    timeout 300 "$top/recipes/to_blif.sh" --sv -o "$2" "$1" ${3:+"$3"} >/dev/null || { rm -f "$2"; return 1; }
+}
+
 if [ ! -d "$dir/netlists" ]; then
     [ -n "$(sources)" ] || (cd "$dir" && apt-get source -qq yosys fpga-icestorm >/dev/null 2>&1)
     mkdir "$dir/netlists"
     sources | while read -r design; do
         name=${design#"$dir"/}
         blif=$dir/netlists/$(echo "${name%.v}" | tr / _).blif
-        timeout 300 "$top/recipes/to_blif.sh" --sv -o "$blif" "$design" >/dev/null 2>&1 || rm -f "$blif"
+        convert "$design" "$blif" 2>"$dir/fault" && continue
+        # Of several modules that no other one has in it, each one by itself.
+        for module in $(sed -n 's/^to_blif: more than one module is in no other one: \(.*\) - .*/\1/p' "$dir/fault"); do
+            convert "$design" "${blif%.blif}_$module.blif" "$module" 2>/dev/null || true
+        done
     done
 fi
 

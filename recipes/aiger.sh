@@ -10,6 +10,9 @@
 set -eu -o pipefail
 top=$(cd "$(dirname "$0")/.." && pwd)
 cyc=${CYC:-$top/cyc}
+for it in yosys berkeley-abc; do
+    command -v "$it" >/dev/null || { echo "$(basename "$0"): $it isn't installed" >&2; exit 1; }
+done
 dir=$(mktemp -d)
 trap 'rm -rf "$dir"' EXIT
 
@@ -25,7 +28,7 @@ compare() {
 whole() {
     local name=$1
     shift
-    "$cyc" rewrite "$@" >"$dir/open.blif" 2>/dev/null || return 0
+    "$cyc" rewrite "$@" >"$dir/open.blif" 2>"$dir/told" || { [ $? -eq 1 ] && return 0; cat "$dir/told"; exit 1; }
     "$cyc" aiger "$@" >"$dir/open.aag"
     "$cyc" aiger "$@" --binary >"$dir/open.aig"
     yosys -q -p "read_aiger $dir/open.aag"
@@ -38,18 +41,19 @@ for file in "$top"/examples/*.blif; do
     if [ -f "$care" ]; then whole "$(basename "$file")" "$file" --care "$care"; else whole "$(basename "$file")" "$file"; fi
 done
 
-for file in "$top"/examples/verilog/*.v; do
-    name=$(basename "$file" .v) care=${file%.v}.care.v inits=()
+for file in "$top"/examples/verilog/*.v "$top"/examples/verilog/*.sv; do
+    name=$(basename "$file") care=${file%.*}.care.v
+    read -r -a options < <(sed -n 's/^\/\/ options: //p' "$file") || true
     case $name in
-    *.care | latch) continue ;;
-    round_robin) inits=(--init "pointer=4'b0001") ;;
+    *.care.v | latch.v) continue ;;
+    round_robin.v) options=(--init "pointer=4'b0001") ;;
     esac
-    "$top/recipes/to_blif.sh" -o "$dir/loop.blif" ${inits[@]+"${inits[@]}"} "$file"
+    "$top/recipes/to_blif.sh" -o "$dir/loop.blif" ${options[@]+"${options[@]}"} "$file"
     if [ -f "$care" ]; then
         "$top/recipes/to_blif.sh" --care -o "$dir/loop.care" "$care"
-        whole "$name.v" "$dir/loop.blif" --care "$dir/loop.care"
+        whole "$name" "$dir/loop.blif" --care "$dir/loop.care"
     else
-        whole "$name.v" "$dir/loop.blif"
+        whole "$name" "$dir/loop.blif"
     fi
 done
 

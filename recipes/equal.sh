@@ -10,12 +10,14 @@
 set -eu -o pipefail
 top=$(cd "$(dirname "$0")/.." && pwd)
 cyc=${CYC:-$top/cyc}
+command -v berkeley-abc >/dev/null || { echo "equal.sh: berkeley-abc isn't installed" >&2; exit 1; }
 dir=$(mktemp -d)
 trap 'rm -rf "$dir"' EXIT
 
 # Runs a command, its output into a file, and keeps its time in milliseconds.
 timed() {
-    local told=$1 start=$(date +%s%N)
+    local told=$1 start
+    start=$(date +%s%N)
     shift
     "$@" >"$told" 2>&1 || true
     ms=$((($(date +%s%N) - start) / 1000000))
@@ -54,11 +56,15 @@ pair() {
     local name=$1 wanted=$2 other=$3 open=$4
     shift 4
     timed "$dir/told" "$cyc" equal "$file" "$other" "$@"
-    local told="$(cut -c 1-60 "$dir/told") in $ms ms"
+    local told
+    told="$(cut -c 1-60 "$dir/told") in $ms ms"
     said="abc not asked"
     [ ! -s "$open" ] || abc_says "$dir/open.blif" "$open"
     echo "$(basename "$file" .blif) and $name: $told; $said"
-    [ "$(head -c 6 "$dir/told")" = "$wanted" ] || [ "$wanted" = other ] && [ "$(cat "$dir/told")" != equal ] || [ "$wanted" = "$(cat "$dir/told")" ]
+    case $wanted in
+    other) [ "$(cat "$dir/told")" != equal ] ;;
+    *) [ "$(cat "$dir/told")" = "$wanted" ] ;;
+    esac
 }
 
 whole() {

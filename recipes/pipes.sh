@@ -3,12 +3,14 @@
 # and vectors. Each answer is compared with that for the files.
 #
 #   recipes/pipes.sh
+#
+# CYC=PROGRAM in the environment takes that program in place of ./cyc.
 set -eu -o pipefail
 top=$(cd "$(dirname "$0")/.." && pwd)
 cd "$top/examples"
 dir=$(mktemp -d)
 trap 'rm -rf "$dir"' EXIT
-cyc=$top/cyc
+cyc=${CYC:-$top/cyc}
 
 # The answer of a call, with its status.
 answer() {
@@ -25,13 +27,13 @@ same() {
 }
 
 for file in *.blif; do
-    same "$(cat "$file" | answer check /dev/stdin)" check "$file"
+    same "$(answer check /dev/stdin < <(cat "$file"))" check "$file"
 done
-same "$(cat shared_units.blif | answer rewrite -)" rewrite shared_units.blif
+same "$(answer rewrite - < <(cat shared_units.blif))" rewrite shared_units.blif
 same "$(answer check - <token_ring_4.blif)" check token_ring_4.blif
-same "$(cat token_ring_4.care | answer check token_ring_4.blif --care -)" check token_ring_4.blif --care token_ring_4.care
+same "$(answer check token_ring_4.blif --care - < <(cat token_ring_4.care))" check token_ring_4.blif --care token_ring_4.care
 same "$(answer check <(cat token_ring_4.blif) --care <(cat token_ring_4.care))" check token_ring_4.blif --care token_ring_4.care
-same "$(cat shared_units.vectors | answer delays shared_units.blif - <(cat shared_units.schedule) --probe trace)" \
+same "$(answer delays shared_units.blif - <(cat shared_units.schedule) --probe trace < <(cat shared_units.vectors))" \
     delays shared_units.blif shared_units.vectors shared_units.schedule --probe trace
 
 mkfifo "$dir/pipe"

@@ -9,6 +9,7 @@
 set -eu -o pipefail
 top=$(cd "$(dirname "$0")/.." && pwd)
 cyc=${CYC:-$top/cyc}
+command -v vcd2fst >/dev/null || { echo "storms.sh: the package gtkwave isn't installed, whose vcd2fst and fst2vcd are run at the end" >&2; exit 1; }
 dir=$(mktemp -d)
 trap 'rm -rf "$dir"' EXIT
 rounds=20
