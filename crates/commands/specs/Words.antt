@@ -9,8 +9,8 @@ use Rattle.refusals.specs.declared.observe.Observe.{Observe}
 use Rattle.refusals.specs.declared.observe.Observe.TheVariants as observe
 use Rattle.commands.specs.declared.kind.Kind.{Kind}
 use Rattle.commands.specs.declared.kind.Kind.TheVariants as kind
-use Rattle.aiger_write.specs.declared.encoding.Encoding.{Encoding}
-use Rattle.aiger_write.specs.declared.encoding.Encoding.TheVariants as encoding
+use Rattle.commands.specs.declared.encoding.Encoding.{Encoding}
+use Rattle.commands.specs.declared.encoding.Encoding.TheVariants as encoding
 use Rattle.commands.specs.declared.form.Form.{Form}
 use Rattle.commands.specs.declared.form.Form.TheVariants as form
 use Rattle.commands.specs.declared.topic.Topic.{Topic}

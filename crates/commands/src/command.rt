@@ -1,9 +1,9 @@
 ghost use Rattle.std.specs.Prelude.{◌≤◌, unwrap_or};
 
+use crate::encoding::Encoding;
 use crate::form::Form;
 use crate::kind::Kind;
 use crate::topic::Topic;
-use aiger_write::Encoding;
 use cyc_base::Name;
 use refusals::Observe;
 

@@ -1,13 +1,12 @@
 -- The cause of each status of a run.
 use Rattle.std.proofs.Common.{◌≡◌, ◌≢◌, ◌≤◌, ◌⊎◌, ℕ, Bool, true, false, List, [], ◌∷◌, Some, None, refl, sym, ap, subst, ◌∙◌, inl, inr, arith}
 use Rattle.cyc_tool.proofs.Common.{nat_le, if◌then◌else◌, Option, Arena, Parts, IsNetlist, written, IsRefusalOf, Refusal, Undetermined, told, ShelfCall, AreGiven, EndsAt, rest_of, ComesTo, Follows, IsDecided, IsCompared, Limit, Found, Unfinished, Runs, Ending, Prints, Outgrows, Purpose, Judges, Rewrites, WritesGraph, Explains, Demonstrates, Storms, Plan, Reads, Faulty, WantsMemory, Ends, Decides, Compares, plan_of, Outcome, no_memory, Form, Command}
-use Rattle.aiger_write.specs.declared.encoding.Encoding.{Encoding}
+use Rattle.commands.specs.declared.encoding.Encoding.{Encoding}
 use Rattle.std.specs.Prelude.{◌+◌, IsSomeAnd, length}
 use Rattle.std.proofs.lemmas.Option.{none-some}
 use Rattle.accepted_runs.proofs.HarmlessLemmas.{accepted_is_harmless}
 use Rattle.cyc_base.specs.declared.limits.TheConstants.{MAX_REWRITTEN_ITEMS}
 use Rattle.aig_core.specs.declared.building.Built.{Built}
-use Rattle.aiger_write.specs.Text.{aiger_text}
 use Rattle.rewriting.specs.Graphs.{graph_of, most_ands}
 use Rattle.rewriting.specs.Rewriting.{rewritten, rewritten_size}
 use Rattle.refusals.specs.Refusals.{Proves}
@@ -24,7 +23,7 @@ use Rattle.equality.specs.Told.{is_equal}
 use Rattle.cyc_tool.specs.Answer.{verdict_of, IsRefusalOutcome, IsVerdictOutcome}
 use Rattle.cyc_tool.specs.Calls.{SinkCall, WriteFailed, Takes, IsMadeFor, Verdict, IsTold, Tells}
 use Rattle.cyc_tool.specs.Causes.{IsHelped, IsHelpedBy, IsWithoutCommand, Leads, Reaches, IsFaulty, IsUnread, MeetsLimit, IsVerdict, IsStormed, HasMade, AreToldEqual, IsDoneWith}
-use Rattle.cyc_tool.specs.Endings.{accepted_told, aiger_told, comparison_told, found_told, refused_told}
+use Rattle.cyc_tool.specs.Endings.{accepted_told, aiger_told, comparison_told, found_told, graph_text, refused_told}
 use Rattle.cyc_tool.specs.Storms.{events_of, events_told, storm_text}
 use Rattle.cyc_tool.specs.Plans.{PrintsBeside, Refuses, Declines, Decision, Comparison}
 use Rattle.cyc_tool.specs.Requests.{Request}
@@ -133,7 +132,7 @@ module _ (out : SinkCall) (end : Outcome) (took : Takes out end.out) (done : end
       ands = length graph.aig.ands
 
       by_ands : size ≤ MAX_REWRITTEN_ITEMS → (fits : Bool) → nat_le ands most_ands ≡ fits
-          → end ≡ told (if fits then Prints (aiger_text encoding other graph) else Outgrows (most_ands + 1)) → HasMade decision (WritesGraph encoding) out
+          → end ≡ told (if fits then Prints (graph_text encoding other graph) else Outgrows (most_ands + 1)) → HasMade decision (WritesGraph encoding) out
       by_ands small true fits same = (made small (let le : ands ≤ most_ands = grind (arith, fits) in le), out_is _ same)
       by_ands small false fits same = not_eight (ap status_of same)
 

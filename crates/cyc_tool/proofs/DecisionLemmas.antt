@@ -10,8 +10,7 @@ use Rattle.aig_core.specs.declared.building.Built.{Built}
 use Rattle.aig_core.specs.declared.fault.AigFault.{AigFault}
 use Rattle.aig_core.specs.declared.fault.AigFault.TheVariants.{TooLarge as ManyAnds, Memory as NoRoom}
 use Rattle.aig_core.specs.Building.{built, columns}
-use Rattle.aiger_write.specs.Text.{aiger_text}
-use Rattle.aiger_write.specs.declared.encoding.Encoding.{Encoding}
+use Rattle.commands.specs.declared.encoding.Encoding.{Encoding}
 use Rattle.care_sets.specs.Care.{CareSet}
 use Rattle.refusals.specs.Acceptance.{Accepts}
 use Rattle.refusals.specs.Refusals.{refusal}
@@ -39,7 +38,7 @@ use Rattle.verdict.specs.declared.verdict.Verdict.{Verdict}
 use Rattle.verdict.specs.declared.verdict.Verdict.TheVariants.{Accepted, Refused}
 use Rattle.cyc_tool.specs.Answer.{IsRefusalOutcome, IsVerdictOutcome}
 use Rattle.cyc_tool.specs.Calls.{IsAccepted, IsMadeFor, Verdict as ByVerdict}
-use Rattle.cyc_tool.specs.Endings.{accepted_told, aiger_told, count_of_loops, loops_explained, where_outputs}
+use Rattle.cyc_tool.specs.Endings.{accepted_told, aiger_told, count_of_loops, graph_text, loops_explained, where_outputs}
 use Rattle.cyc_tool.specs.Plans.{Decision, Declines}
 use Rattle.cyc_tool.specs.Seen.{IsLimitOf, IsOutgrown, IsRefusalTold, IsSaid, IsShown, IsTellable, IsToldRefusal, IsToldOf, IsToldOfGraph}
 use Rattle.cyc_tool.specs.Texts.{limit_reached}
@@ -215,15 +214,15 @@ kept_columns net other keeps few =
     omega (arith, inputs, names, own, others, few)
 
 -- a graph, or what is told in place of one
-graph_fits : (encoding : Encoding) (net : Parts) (graph : Built) → length graph.aig.ands ≤ most_ands → told (aiger_told encoding net graph) ≡ told (Prints (aiger_text encoding net graph))
+graph_fits : (encoding : Encoding) (net : Parts) (graph : Built) → length graph.aig.ands ≤ most_ands → told (aiger_told encoding net graph) ≡ told (Prints (graph_text encoding net graph))
 graph_fits encoding net graph few =
     let within : nat_le (length graph.aig.ands) most_ands ≡ true = grind (arith, few) in
-    ap (λ (t : Bool). told (if t then Prints (aiger_text encoding net graph) else Outgrows (most_ands + 1))) within
+    ap (λ (t : Bool). told (if t then Prints (graph_text encoding net graph) else Outgrows (most_ands + 1))) within
 
 graph_outgrows : (encoding : Encoding) (net : Parts) (graph : Built) → most_ands < length graph.aig.ands → told (aiger_told encoding net graph) ≡ told (Outgrows (most_ands + 1))
 graph_outgrows encoding net graph many =
     let over : nat_le (length graph.aig.ands) most_ands ≡ false = grind (arith, many) in
-    ap (λ (t : Bool). told (if t then Prints (aiger_text encoding net graph) else Outgrows (most_ands + 1))) over
+    ap (λ (t : Bool). told (if t then Prints (graph_text encoding net graph) else Outgrows (most_ands + 1))) over
 
 told_where : (encoding : Encoding) (net : Parts) (care : CareSet) (limit : ℕ) (what : Observe) (t : Bool) → nat_le (rewritten_size net care) MAX_REWRITTEN_ITEMS ≡ t
     → told (accepted_told (decision_of net care limit what) (WritesGraph encoding))

@@ -14,7 +14,6 @@ use Rattle.cyc_base.specs.declared.sig.Sig.{Sig}
 use Rattle.storm.specs.Laws.{PlaysAsStorm}
 use Rattle.storm.specs.Storms.{storm_of}
 use Rattle.cyc_tool.specs.Storms.{storm_text}
-use Rattle.aiger_write.specs.Text.{aiger_text}
 use Rattle.equal.specs.Matching.{unmatched}
 use Rattle.equal.specs.Rebound.{IsEnoughForBoth, IsLimited as IsComparisonLimited}
 use Rattle.equality.specs.Runs.{RunAlike}
@@ -23,7 +22,7 @@ use Rattle.rewriting.specs.Graphs.{graph_of, IsGraphing}
 use Rattle.rewriting.specs.Rewriting.{rewritten, IsRewriting}
 use Rattle.cyc_tool.specs.Answer.{told, verdict_of, IsVerdictOutcome, compared, IsAnswer}
 use Rattle.cyc_tool.specs.Calls.{ShelfCall, SinkCall, ReadFailed, WriteFailed, Takes, AreGiven, rest_of, IsLimited, IsTold}
-use Rattle.cyc_tool.specs.Endings.{accepted_told}
+use Rattle.cyc_tool.specs.Endings.{accepted_told, graph_text}
 use Rattle.cyc_tool.specs.Plans.{Decision, Purpose, Rewrites, WritesGraph, Storms, Comparison, Plan, Reads, Faulty, Ends, Decides, Compares, plan_of}
 use Rattle.cyc_tool.specs.Requests.{Request}
 use Rattle.cyc_tool.specs.Texts.{Outcome, no_memory}
@@ -106,7 +105,7 @@ HasMade decision Rewrites out =
     × Takes out (written (rewritten decision.net decision.care))
 HasMade decision (WritesGraph encoding) out =
     IsGraphing decision.net decision.care (graph_of decision.net decision.care)
-    × Takes out (aiger_text encoding (rewritten decision.net decision.care) (graph_of decision.net decision.care))
+    × Takes out (graph_text encoding (rewritten decision.net decision.care) (graph_of decision.net decision.care))
 HasMade decision (Storms rounds) out = IsStormed decision rounds out
 HasMade decision purpose out = Takes out (told (accepted_told decision purpose)).out
 

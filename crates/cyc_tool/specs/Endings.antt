@@ -16,8 +16,9 @@ use Rattle.netlist.specs.declared.parts.Parts.{Parts}
 use Rattle.loops.specs.Listed.{first_gates}
 use Rattle.blif_write.specs.Written.{written}
 use Rattle.aig_core.specs.declared.building.Built.{Built}
-use Rattle.aiger_write.specs.Text.{aiger_text}
-use Rattle.aiger_write.specs.declared.encoding.Encoding.{Encoding}
+use Rattle.aiger_write.specs.Text.{aiger_text, binary_text}
+use Rattle.commands.specs.declared.encoding.Encoding.{Encoding}
+use Rattle.commands.specs.declared.encoding.Encoding.TheVariants.{Ascii, Binary}
 use Rattle.refusals.specs.Refusals.{loose_gates}
 use Rattle.refusals.specs.declared.observe.Observe.{Observe}
 use Rattle.refusals.specs.declared.observe.Observe.TheVariants.{All, Outputs}
@@ -53,10 +54,15 @@ rewritten_told decision =
     then Prints (written (rewritten decision.net decision.care))
     else Outgrows (rewritten_size decision.net decision.care)
 
+-- the text of a netlist's graph, in a form of AIGER
+abbrev pub graph_text : Encoding → Parts → Built → List ℕ
+graph_text Ascii = aiger_text
+graph_text Binary = binary_text
+
 -- a graph of a netlist, unless it has too many ANDs. They aren't counted further than to the first that is too many
 abbrev pub aiger_told : Encoding → Parts → Built → Ending
 aiger_told encoding net graph =
-    if nat_le (length graph.aig.ands) most_ands then Prints (aiger_text encoding net graph) else Outgrows (most_ands + 1)
+    if nat_le (length graph.aig.ands) most_ands then Prints (graph_text encoding net graph) else Outgrows (most_ands + 1)
 
 -- that of the rewritten netlist, unless this has too many gates and latches
 abbrev pub graph_told : Encoding → Decision → Ending

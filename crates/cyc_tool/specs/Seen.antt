@@ -6,8 +6,7 @@ use Rattle.netlist.specs.declared.parts.Parts.{Parts}
 use Rattle.aig_core.specs.declared.building.Built.{Built}
 use Rattle.aig_core.specs.declared.fault.AigFault.{AigFault}
 use Rattle.aig_core.specs.declared.fault.AigFault.TheVariants.{TooLarge as ManyAnds, Memory as NoRoom}
-use Rattle.aiger_write.specs.Text.{aiger_text}
-use Rattle.aiger_write.specs.declared.encoding.Encoding.{Encoding}
+use Rattle.commands.specs.declared.encoding.Encoding.{Encoding}
 use Rattle.blif_write.specs.Written.{written}
 use Rattle.commands.specs.Seen.{cells_seen, rounds_seen}
 use Rattle.commands.specs.declared.form.Form.{Form}
@@ -18,7 +17,7 @@ use Rattle.refusals.specs.declared.refusal.Refusal.TheVariants.{Undetermined}
 use Rattle.cyc_base.specs.declared.trit.Trit.TheVariants.{X}
 use Rattle.cyc_base.specs.Values.{bits}
 use Rattle.netlist.specs.Fixpoint.{fix, wire as wire_of}
-use Rattle.cyc_tool.specs.Endings.{refused_told}
+use Rattle.cyc_tool.specs.Endings.{graph_text, refused_told}
 use Rattle.unroll.specs.declared.fault.UnrollFault.{UnrollFault}
 use Rattle.unroll.specs.declared.fault.UnrollFault.TheVariants.{TooLarge, Memory as NoMemory}
 use Rattle.rewriting.specs.Graphs.{most_ands}
@@ -77,7 +76,7 @@ IsOverfull NoRoom told = ⊥
 
 -- what is told of the graph of a netlist: its text, or that number
 abbrev pub IsToldOfGraph : Encoding → Parts → Result Built AigFault → Outcome → Type 0
-IsToldOfGraph encoding other (Ok graph) told = outcome_of told ≡ done (plans.Prints (aiger_text encoding other graph))
+IsToldOfGraph encoding other (Ok graph) told = outcome_of told ≡ done (plans.Prints (graph_text encoding other graph))
 IsToldOfGraph encoding other (Err fault) told = IsOverfull fault told
 
 -- what is told of a refusal to explain it: a wire that is undetermined at the vector is told with why

@@ -30,10 +30,9 @@ use crate::texts::{
     accepted_line, number_of_loops, on_err, on_out, tell_aiger, tell_declined, tell_limit,
     tell_netlist, tell_refused, tell_too_large,
 };
-use aiger_write::Encoding;
 use bdd_ops::Diagrams;
 use care_sets::Care;
-use commands::{Cells, Form, Rounds};
+use commands::{Cells, Encoding, Form, Rounds};
 use cyc_io::TextSink;
 use fixpoint::SweepCounts;
 use loops::{LoopedNetlist, find_blocks, find_cut};
@@ -184,11 +183,7 @@ fn tell_graph(
 }
 
 // Makes the graph of a netlist without loops, and tells what comes of it.
-fn tell_graph_of(
-    alloc: Global,
-    other: &Netlist,
-    encoding: Encoding,
-) -> Result<Outcome, AllocError>
+fn tell_graph_of(alloc: Global, other: &Netlist, encoding: Encoding) -> Result<Outcome, AllocError>
     requires loop_free { IsLoopFree other.now }
     requires columns { columns other.now ≤ 1000000000 }
     ensures { IfOk result (λ told. (net : Parts) (care : CareSet) (observe : Observed) (limit : ℕ) → IsNetlist net → Accepts net care observe →

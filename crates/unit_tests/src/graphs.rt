@@ -4,7 +4,7 @@ ghost use Rattle.aig_core.specs.Answers.{FitsNetlist};
 
 use crate::texts::net_of;
 use aig_core::{Built, build};
-use aiger_write::{Encoding, write};
+use aiger_write::{write, write_binary};
 use cyc_io::TextSink;
 use netlist::Netlist;
 use std::alloc::Global;
@@ -53,37 +53,29 @@ fn ascii(number: u32) -> &'static [u8] {
     }
 }
 
-fn written(
-    alloc: Global,
-    net: &Netlist,
-    built: &Built,
-    encoding: Encoding,
-) -> Result<Vec<u8>, Fail>
+fn texts_are(alloc: Global, net: &Netlist, built: &Built, number: u32) -> Result<bool, Fail>
     requires { FitsNetlist net.now built.now }
 {
-    let mut sink = TextSink::new(alloc);
-    match write(net, built, encoding, &mut sink) {
-        Ok(()) => Ok(sink.into_vec()),
-        Err(_) => Err(Fail::from("a text is not written")),
+    let mut lines = TextSink::new(alloc);
+    let mut bytes = TextSink::new(alloc);
+    if write(net, built, &mut lines).is_err() || write_binary(net, built, &mut bytes).is_err() {
+        return Err(Fail::from("a text is not written"));
     }
-}
-
-fn written_of(alloc: Global, net: &Netlist, encoding: Encoding) -> Result<Vec<u8>, Fail> {
-    if net.inputs() > 2 || net.latches() > 2 {
-        return Err(Fail::from("many columns"));
-    }
-    match build(alloc, net) {
-        Ok(Some(built)) => written(alloc, net, &built, encoding),
-        Ok(None) => Ok(Vec::new(alloc)),
-        Err(_) => Err(Fail::from("a graph is not built")),
-    }
+    let lines = lines.into_vec();
+    let bytes = bytes.into_vec();
+    Ok(lines.as_slice() == ascii(number) && bytes.as_slice() == binary(number))
 }
 
 fn is_written(alloc: Global, number: u32) -> Result<bool, Fail> {
     let net = net_of(alloc, text(number))?;
-    let lines = written_of(alloc, &net, Encoding::Ascii)?;
-    let bytes = written_of(alloc, &net, Encoding::Binary)?;
-    Ok(lines.as_slice() == ascii(number) && bytes.as_slice() == binary(number))
+    if net.inputs() > 2 || net.latches() > 2 {
+        return Err(Fail::from("many columns"));
+    }
+    match build(alloc, &net) {
+        Ok(Some(built)) => texts_are(alloc, &net, &built, number),
+        Ok(None) => Ok(ascii(number).is_empty()),
+        Err(_) => Err(Fail::from("a graph is not built")),
+    }
 }
 
 #[test]
