@@ -15,6 +15,7 @@
   grid N SEED         sums of two over the nodes of a grid of N by N, one of which is odd: no
   loops FAMILY:N      some gate of the netlist of this family and size (`bench/families.py`) is unknown at some care
                       vector; wires that no loop drives have one variable, the others three: they are 1, 0, known
+  loops FILE.blif     the same of a netlist in BLIF: one model of .names and latches, a line for each, and no care set
 """
 import itertools
 import random
@@ -270,9 +271,29 @@ def add_loops(f, true, gates, rails):
     f.add(*(-rails[gate][2] for gate in rest))
 
 
-def loops(f, size, seed):
+class Text:
+    """A netlist that a file has."""
+
+    def __init__(self, name):
+        with open(name) as file:
+            self.lines = file.read()
+        words = [line.split() for line in self.lines.split("\n")]
+        self.columns = [w for line in words if line[:1] == [".inputs"] for w in line[1:]]
+        self.columns += [line[2] for line in words if line[:1] == [".latch"]]
+
+    def text(self):
+        return self.lines
+
+
+def netlist_and_care(size):
+    if size.endswith(".blif"):
+        return Text(size), None
     name, number = size.split(":")
-    netlist, care = families.FAMILIES[name][0](int(number))
+    return families.FAMILIES[name][0](int(number))
+
+
+def loops(f, size, seed):
+    netlist, care = netlist_and_care(size)
     gates, columns, _ = netlist_of(netlist)
     true = f.new()
     f.add(true)

@@ -1,8 +1,8 @@
 #!/usr/bin/env bash
-# Solves formulas, twenty that the solver was tuned on and then 28 that were chosen before any of them was timed, by
-# `benchmarks sat` and, where they are installed, by `minisat` and `cadical`, and prints the user seconds of each, the
-# best of three runs (or of as many as the first word says), and the ratio to minisat's.
-# Each has 60 seconds. The last formulas are the questions of netlists with loops.
+# Solves formulas by `benchmarks sat` and, where they are installed, by `minisat` and `cadical`, and prints the user seconds
+# of each, the best of three runs (or of as many as the first word says), and the ratio to minisat's. Each has 60 seconds.
+# Twenty are those that the solver was tuned on, 28 were chosen before any of them was timed, and in two more a random
+# formula is a loop's select. `loops` are the questions of netlists.
 set -u
 top=$(cd "$(dirname "$0")/.." && pwd) || exit 1
 runs=${1:-3}
@@ -90,4 +90,6 @@ loops both_selects:32
 loops three_units:16
 loops equal_words:64
 loops reader_before:16
+loops formula_select:150
+loops formula_select:200
 FORMULAS
