@@ -15,8 +15,7 @@
   grid N SEED         sums of two over the nodes of a grid of N by N, one of which is odd: no
   loops FAMILY:N      some gate of the netlist of this family and size (`bench/families.py`) is unknown at some care
                       vector; wires that no loop drives have one variable, the others three: they are 1, 0, known
-  loops FILE          the same of a netlist in BLIF: one model of .names and latches, a line for each, and no care set
-  asked FAMILY:N      as loops, with what is asked as assumptions: a line "a" of literals before the 0
+  loops FILE.blif     the same of a netlist in BLIF: one model of .names and latches, a line for each, and no care set
 """
 import itertools
 import random
@@ -28,7 +27,6 @@ import families
 class Formula:
     def __init__(self):
         self.variables, self.clauses = 0, []
-        self.assumed = None
 
     def new(self):
         self.variables += 1
@@ -39,13 +37,6 @@ class Formula:
 
     def add(self, *clause):
         self.clauses.append(clause)
-
-    def ask(self, literal):
-        """What is asked is a clause, or an assumption where there is a list of these."""
-        if self.assumed is None:
-            self.add(literal)
-        else:
-            self.assumed.append(literal)
 
     def both(self, a, b):
         x = self.new()
@@ -67,10 +58,7 @@ class Formula:
 
     def text(self):
         lines = [f"p cnf {self.variables} {len(self.clauses)}"]
-        lines += [" ".join(map(str, [*c, 0])) for c in self.clauses]
-        if self.assumed is not None:
-            lines.append(" ".join(map(str, ["a", *self.assumed, 0])))
-        return "\n".join(lines) + "\n"
+        return "\n".join(lines + [" ".join(map(str, [*c, 0])) for c in self.clauses]) + "\n"
 
 
 def pigeons(f, n, seed):
@@ -280,9 +268,7 @@ def add_loops(f, true, gates, rails):
     for gate in rest:
         pins, rows = gates[gate]
         add_gate(f, true, [rails[p] for p in pins], rows, rails[gate])
-    unknown = f.new()
-    f.add(-unknown, *(-rails[gate][2] for gate in rest))
-    f.ask(unknown)
+    f.add(*(-rails[gate][2] for gate in rest))
 
 
 class Text:
@@ -316,14 +302,9 @@ def loops(f, size, seed):
         cared, _, allowed = netlist_of(care)
         within = {column: rails[column] for column in care.columns}
         add_known(f, true, cared, within)
-        f.ask(within[allowed][0])
+        f.add(within[allowed][0])
     add_known(f, true, gates, rails)
     add_loops(f, true, gates, rails)
-
-
-def asked(f, size, seed):
-    f.assumed = []
-    loops(f, size, seed)
 
 
 FAMILIES = {
@@ -338,13 +319,12 @@ FAMILIES = {
     "queens": queens,
     "grid": grid,
     "loops": loops,
-    "asked": asked,
 }
 
 
 def main(name, size, seed="1"):
     formula = Formula()
-    FAMILIES[name](formula, size if name in ("loops", "asked") else int(size), int(seed))
+    FAMILIES[name](formula, size if name == "loops" else int(size), int(seed))
     sys.stdout.write(formula.text())
 
 
