@@ -124,6 +124,7 @@ else
     families three_units 8 three_units 32 four_units 8 four_units 32
     families multiplied_select 8 multiplied_select 16 looped_multiplier 8 looped_multiplier 16 looped_multiplier 32
     families equal_words 8 equal_words 32 equal_words 64 equal_pairs 8 equal_pairs 64
+    families formula_select 150 formula_select 200
     families lock 40 parity 16 parity 40 decoded_selects 8 decoded_selects 32
     families allocator 4 allocator 8 bus 8 bus 16 mesh 4 mesh 8 wide_multiplexers 16 wide_multiplexers 80
     families enable_last 26 enable_last 60 enable_last 400 enable_first 26 enable_first 60 enable_first 400

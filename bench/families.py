@@ -23,6 +23,7 @@ Two units share a loop where each may be fed by the other's output and a select 
   looped_multiplier N  a multiplier of N bits and an adder that share a loop
   equal_words N        a loop closed where a = b, and b = c, and not a = c, for words of N bits
   equal_pairs N        a loop closed where a = b and b = c
+  formula_select N     a loop closed where a formula of 4.6 N random clauses of three literals holds: nowhere
   lock N               a gate that reads itself where a key of N bits is the right one
   decoded_selects N    N adders of eight bits around a ring; a word that is decoded says which comes first
   wide_multiplexers N  N multiplexers of 18 inputs in a line; each reads its data or a neighbour, all from one side
@@ -474,6 +475,22 @@ def equal_pairs(n):
     return closed_by(
         "equal_pairs", [*a, *b, *c], lambda m: (add_equal(m, "ab", a, b), add_equal(m, "bc", b, c))
     )
+
+
+@family()
+def formula_select(n):
+    """No such formula of 150, 175, 200 or 225 variables holds anywhere."""
+    choose = random.Random(n)
+    variables = numbered("v", n)
+
+    def add_formula(m):
+        for i in range(int(4.6 * n)):
+            rows = ["-" * k + choose.choice("01") + "-" * (2 - k) + " 1" for k in range(3)]
+            clause = m.gate(rows, f"c{i}", *choose.sample(variables, 3))
+            m.gate(*((AND, f"h{i}", f"h{i - 1}", clause) if i else (COPY, "h0", clause)))
+        return f"h{i}", f"h{i}"
+
+    return closed_by("formula_select", variables, add_formula)
 
 
 def right_key(n):

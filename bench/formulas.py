@@ -15,6 +15,8 @@
   grid N SEED         sums of two over the nodes of a grid of N by N, one of which is odd: no
   loops FAMILY:N      some gate of the netlist of this family and size (`bench/families.py`) is unknown at some care
                       vector; wires that no loop drives have one variable, the others three: they are 1, 0, known
+  loops FILE          the same of a netlist in BLIF: one model of .names and latches, a line for each, and no care set
+  asked FAMILY:N      as loops, with what is asked as assumptions: a line "a" of literals before the 0
 """
 import itertools
 import random
@@ -26,6 +28,7 @@ import families
 class Formula:
     def __init__(self):
         self.variables, self.clauses = 0, []
+        self.assumed = None
 
     def new(self):
         self.variables += 1
@@ -36,6 +39,13 @@ class Formula:
 
     def add(self, *clause):
         self.clauses.append(clause)
+
+    def ask(self, literal):
+        """What is asked is a clause, or an assumption where there is a list of these."""
+        if self.assumed is None:
+            self.add(literal)
+        else:
+            self.assumed.append(literal)
 
     def both(self, a, b):
         x = self.new()
@@ -57,7 +67,10 @@ class Formula:
 
     def text(self):
         lines = [f"p cnf {self.variables} {len(self.clauses)}"]
-        return "\n".join(lines + [" ".join(map(str, [*c, 0])) for c in self.clauses]) + "\n"
+        lines += [" ".join(map(str, [*c, 0])) for c in self.clauses]
+        if self.assumed is not None:
+            lines.append(" ".join(map(str, ["a", *self.assumed, 0])))
+        return "\n".join(lines) + "\n"
 
 
 def pigeons(f, n, seed):
@@ -267,12 +280,34 @@ def add_loops(f, true, gates, rails):
     for gate in rest:
         pins, rows = gates[gate]
         add_gate(f, true, [rails[p] for p in pins], rows, rails[gate])
-    f.add(*(-rails[gate][2] for gate in rest))
+    unknown = f.new()
+    f.add(-unknown, *(-rails[gate][2] for gate in rest))
+    f.ask(unknown)
+
+
+class Text:
+    """A netlist that a file has."""
+
+    def __init__(self, name):
+        with open(name) as file:
+            self.lines = file.read()
+        words = [line.split() for line in self.lines.split("\n")]
+        self.columns = [w for line in words if line[:1] == [".inputs"] for w in line[1:]]
+        self.columns += [line[2] for line in words if line[:1] == [".latch"]]
+
+    def text(self):
+        return self.lines
+
+
+def netlist_and_care(size):
+    if size.endswith(".blif"):
+        return Text(size), None
+    name, number = size.split(":")
+    return families.FAMILIES[name][0](int(number))
 
 
 def loops(f, size, seed):
-    name, number = size.split(":")
-    netlist, care = families.FAMILIES[name][0](int(number))
+    netlist, care = netlist_and_care(size)
     gates, columns, _ = netlist_of(netlist)
     true = f.new()
     f.add(true)
@@ -281,9 +316,14 @@ def loops(f, size, seed):
         cared, _, allowed = netlist_of(care)
         within = {column: rails[column] for column in care.columns}
         add_known(f, true, cared, within)
-        f.add(within[allowed][0])
+        f.ask(within[allowed][0])
     add_known(f, true, gates, rails)
     add_loops(f, true, gates, rails)
+
+
+def asked(f, size, seed):
+    f.assumed = []
+    loops(f, size, seed)
 
 
 FAMILIES = {
@@ -298,12 +338,13 @@ FAMILIES = {
     "queens": queens,
     "grid": grid,
     "loops": loops,
+    "asked": asked,
 }
 
 
 def main(name, size, seed="1"):
     formula = Formula()
-    FAMILIES[name](formula, size if name == "loops" else int(size), int(seed))
+    FAMILIES[name](formula, size if name in ("loops", "asked") else int(size), int(seed))
     sys.stdout.write(formula.text())
 
 

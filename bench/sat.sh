@@ -1,5 +1,6 @@
 #!/usr/bin/env bash
-# Solves formulas, twenty that the solver was tuned on and then 28 that were chosen before any of them was timed, by
+# Solves formulas, twenty that the solver was tuned on, then 28 that were chosen before any of them was timed, and then
+# eight where a random formula is a loop's select or what is asked is an assumption, by
 # `benchmarks sat` and, where they are installed, by `minisat` and `cadical`, and prints the user seconds of each, the
 # best of three runs (or of as many as the first word says), and the ratio to minisat's.
 # Each has 60 seconds. The last formulas are the questions of netlists with loops.
@@ -25,13 +26,14 @@ time_of() {
     echo "$best"
 }
 
-# The formula goes to minisat as a file, since it reads none from standard input.
+# The formula goes to minisat as a file, since it reads none from standard input. An assumption is a clause for it.
 by_minisat() {
-    if command -v minisat >/dev/null; then time_of minisat -verb=0 "$dir/formula"; else echo -; fi
+    sed 's/^a //' "$dir/formula" >"$dir/clauses"
+    if command -v minisat >/dev/null; then time_of minisat -verb=0 "$dir/clauses"; else echo -; fi
 }
 
 by_cadical() {
-    if command -v cadical >/dev/null; then time_of cadical -q; else echo -; fi
+    if command -v cadical >/dev/null; then time_of cadical -q "$dir/clauses"; else echo -; fi
 }
 
 printf '%-28s %9s %9s %9s %7s\n' formula benchmarks minisat cadical ratio
@@ -90,4 +92,12 @@ loops both_selects:32
 loops three_units:16
 loops equal_words:64
 loops reader_before:16
+loops formula_select:150
+asked formula_select:150
+asked formula_select:175
+asked formula_select:200
+asked formula_select:225
+asked mesh:24
+asked four_units:32
+asked decoded_selects:40
 FORMULAS

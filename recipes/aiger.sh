@@ -1,7 +1,8 @@
 #!/usr/bin/env bash
-# Each accepted example and each accepted design of examples/verilog through `cyc aiger` into Yosys and abc: Yosys reads the
-# graph, and abc finds it equal to what `cyc rewrite` writes. Then a design with a loop goes into abc's model checker `pdr`,
-# which proves that no two cells are acknowledged at once, and finds that the third one may be.
+# Each accepted example and each accepted design of examples/verilog through `cyc aiger` into abc, which reads the binary
+# form of the graph and finds it equal to what `cyc rewrite` writes; Yosys reads the ASCII form. Then a design with a loop
+# goes into abc's model checker `pdr`, which proves that no two cells are acknowledged at once, and finds that the third one
+# may be.
 #
 #   recipes/aiger.sh     (needs yosys and berkeley-abc)
 #
@@ -14,11 +15,6 @@ for it in yosys berkeley-abc; do
 done
 dir=$(mktemp -d)
 trap 'rm -rf "$dir"' EXIT
-
-# The binary form of a graph, which abc reads. Yosys adds a clock of its own, which is no input of the netlist.
-to_binary() {
-    yosys -q -p "read_aiger -clk_name aiger_clock $1; delete -port w:aiger_clock; write_aiger -symbols $2"
-}
 
 # Has abc compare the graph with the netlist: step by step over all states where there are latches.
 compare() {
@@ -34,8 +30,8 @@ whole() {
     shift
     "$cyc" rewrite "$@" >"$dir/open.blif" 2>"$dir/told" || { [ $? -eq 1 ] && return 0; cat "$dir/told"; exit 1; }
     "$cyc" aiger "$@" >"$dir/open.aag"
-    to_binary "$dir/open.aag" "$dir/open.aig"
-    berkeley-abc -q "&r $dir/open.aig; &ps" >/dev/null
+    "$cyc" aiger "$@" --binary >"$dir/open.aig"
+    yosys -q -p "read_aiger $dir/open.aag"
     compare "$name"
     echo "$name: $(head -n 1 "$dir/open.aag"), read by Yosys, equal in abc"
 }
@@ -64,12 +60,11 @@ done
 "$top/recipes/to_blif.sh" -o "$dir/loop.blif" "$top/recipes/two_grants.v" "$top/examples/verilog/token_ring.v" two_grants
 "$top/recipes/to_blif.sh" --care -o "$dir/loop.care" "$top/recipes/two_grants.care.v"
 "$cyc" check "$dir/loop.blif" --care "$dir/loop.care"
-"$cyc" aiger "$dir/loop.blif" --care "$dir/loop.care" >"$dir/open.aag"
-to_binary "$dir/open.aag" "$dir/open.aig"
+"$cyc" aiger "$dir/loop.blif" --care "$dir/loop.care" --binary >"$dir/open.aig"
 
 # What pdr says of one output, from the start state on.
 model_check() {
-    berkeley-abc -q "read $dir/open.aig; strash; zero; cone -s -O $1; pdr" | sed -n 's/^Property proved.*/proved/p; s/.*was asserted in frame \([0-9]*\).*/happens in tick \1/p'
+    berkeley-abc -q "read_aiger $dir/open.aig; strash; zero; cone -s -O $1; pdr" | sed -n 's/^Property proved.*/proved/p; s/.*was asserted in frame \([0-9]*\).*/happens in tick \1/p'
 }
 
 echo "two at once: $(model_check 0)"

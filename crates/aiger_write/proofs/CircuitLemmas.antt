@@ -1,6 +1,6 @@
 -- The text of a graph is read as its circuit.
-use Rattle.std.proofs.Common.{◌≡◌, ℕ, zero, suc, ◌+◌, ◌*◌, ◌%◌, ◌^◌, ◌<◌, ◌≤◌, true, false, ◌==◌, ◌&&◌, nat_le, List, [], ◌∷◌, ◌++◌, length, map, All, Some, option_map, option_and_then, get_or, map-id, eq-eqb, ne_eqb, le-leb, lt-ltb, refl, ap, sym, ◌∙◌, subst, append_assoc, append-nil, arith}
-use Rattle.aiger_write.proofs.Common.{codes, decimal, flat_map, enumerate_from, range_with_len, And, Latch, edge, input_line, latch_line, output_line, and_line, symbol_line, name_of, length-map}
+use Rattle.std.proofs.Common.{◌≡◌, ℕ, zero, suc, ◌+◌, ◌-◌, ◌*◌, ◌%◌, ◌^◌, ◌<◌, ◌≤◌, Bool, true, false, ◌==◌, ◌&&◌, nat_le, List, [], ◌∷◌, ◌++◌, length, map, All, Some, option_map, option_and_then, slice_get, get_or, map-id, eq-eqb, ne_eqb, le-leb, lt-ltb, refl, ap, ap₂, sym, ◌∙◌, subst, append_assoc, append-nil, arith}
+use Rattle.aiger_write.proofs.Common.{codes, decimal, flat_map, enumerate_from, range_with_len, And, Latch, edge, input_line, latch_line, output_line, and_line, load_line, and_groups, symbol_line, name_of, length-map}
 use Rattle.std.specs.List.{slice_split}
 use Rattle.std.proofs.lemmas.Bool.{and_from}
 use Rattle.std.proofs.lemmas.List.FromFn.{length-range_with_len, get_or-range_with_len}
@@ -20,9 +20,11 @@ use Rattle.aig_core.specs.Graphs.{first_and}
 use Rattle.aig_core.specs.Soundness.{IsSound, IsSoundAnd}
 use Rattle.aig_core.specs.Answers.{FitsNetlist}
 use Rattle.aiger_write.specs.Circuits.{Circuit, CircuitLatch, CircuitAnd, Symbol, symbol, symbols_of, input_edge, latch_edge, and_edge, next_edge, circuit_latch, circuit_and, circuit, input_letter, latch_letter, output_letter}
-use Rattle.aiger_write.specs.Text.{init_words, head_text, latches_text, ands_text, names_text, symbols_text, aiger_text}
-use Rattle.aiger_write.specs.Reading.{Header, Reader, ◌>>=◌, given, is_lf, line, lines, header, header_of, has_room, is_literal, is_own, input_of, output_of, loading, latch_of, latch_line_of, and_of, and_line_of, places_of, symbol_line_of, symbol_lines_of, symbols, ascii, read_ascii}
-use Rattle.aiger_write.proofs.ReadingLemmas.{Takes, Ends, then_ends, each_takes, each_alike, Lacks, up_to_at, decimal_lacks, number_decimal, AreSmall, line_takes}
+use Rattle.aiger_write.specs.Text.{numbers_line, init_words, head_text, latches_text, ands_text, names_text, symbols_text, loads_text, groups_text, groups, aiger_text, binary_text}
+use Rattle.aiger_write.specs.Reading.{Header, Reader, ◌>>=◌, given, each, is_lf, line, lines, header, header_of, has_room, is_literal, is_own, input_of, output_of, loading, latch_of, latch_line_of, and_of, and_line_of, places_of, symbol_line_of, symbol_lines_of, symbols, ascii, read_ascii, is_full, falling, load, differences, binary, read_binary}
+use Rattle.aiger_write.specs.Reading as reading
+use Rattle.aiger_write.proofs.TextLemmas.{few_outputs}
+use Rattle.aiger_write.proofs.ReadingLemmas.{Takes, Ends, takes_then, then_ends, takes_meaning, each_takes, each_alike, Lacks, up_to_at, decimal_lacks, number_decimal, AreSmall, line_takes, groups_take}
 
 -- the header of a graph
 abbrev pub header_for : Built → Header
@@ -139,6 +141,15 @@ behind_inputs h inputs = lines (latch_line_of h) h.latches >>= behind_latches h 
 abbrev behind_header : Header → Reader Circuit
 behind_header h = lines (input_of h) h.inputs >>= behind_inputs h
 
+abbrev behind_binary_outputs : Header → List CircuitLatch → List Edge → Reader Circuit
+behind_binary_outputs h latches outputs = each (differences h) (range_with_len 0 h.ands) >>= behind_ands h (map input_edge (range_with_len 0 h.inputs)) latches outputs
+
+abbrev behind_loads : Header → List CircuitLatch → Reader Circuit
+behind_loads h latches = lines (output_of h) h.outputs >>= behind_binary_outputs h latches
+
+abbrev behind_binary_header : Header → Reader Circuit
+behind_binary_header h = each (load h) (range_with_len 0 h.latches) >>= behind_loads h
+
 -- what bounds the graph of a netlist
 pub record IsBounded (net : Parts) (built : Built) : Type 0 where
   pub valid : IsNetlist net
@@ -148,20 +159,36 @@ pub record IsBounded (net : Parts) (built : Built) : Type 0 where
   pub ands : length built.aig.ands ≤ 4000000
   pub outputs : length net.outputs ≤ 4294967295
 
+pub bounded : (net : Parts) (built : Built) (ands : ℕ) → IsNetlist net → FitsNetlist net built → IsSound built.aig
+    → built.aig.inputs + built.aig.latches ≤ 1000000000 → ands ≡ length built.aig.ands → ands ≤ 4000000 → IsBounded net built
+bounded net built ands valid fits sound columns count few = record {
+  valid = valid;
+  fits = fits;
+  sound = sound;
+  columns = columns;
+  ands = omega (arith, count, few);
+  outputs = few_outputs net valid;
+}
+
 module _ (net : Parts) (built : Built) (is : IsBounded net built) where
   abbrev h : Header
   h = header_for built
 
-  header_takes : Takes (header (codes "aag") has_room) (head_text built) h
-  header_takes rest =
+  counts_take : (fits : Header → Bool) → fits h ≡ true → Takes (line (header_of fits)) (numbers_line (h.most ∷ h.inputs ∷ h.latches ∷ h.outputs ∷ h.ands ∷ [])) h
+  counts_take fits passes =
       let columns = is.columns in
       let ands = is.ands in
       let outputs = is.outputs in
       let count = is.fits.output_count in
-      line_takes (header_of has_room) h.most (h.inputs ∷ h.latches ∷ h.outputs ∷ h.ands ∷ []) h
+      line_takes (header_of fits) h.most (h.inputs ∷ h.latches ∷ h.outputs ∷ h.ands ∷ []) h
       (omega arith, (omega arith, (omega arith, (omega arith, (omega arith, tt)))))
-      (rw (le-leb (h.inputs + h.latches + h.ands) h.most (omega arith)) refl)
-      rest
+      (rw passes refl)
+
+  header_takes : Takes (header (codes "aag") has_room) (head_text (codes "aag ") built) h
+  header_takes = counts_take has_room (le-leb (h.inputs + h.latches + h.ands) h.most (omega arith))
+
+  binary_header_takes : Takes (header (codes "aig") is_full) (head_text (codes "aig ") built) h
+  binary_header_takes = counts_take is_full (eq-eqb (h.inputs + h.latches + h.ands) h.most refl)
 
   inputs_take : Takes (lines (input_of h) h.inputs) (flat_map input_line (range_with_len 0 h.inputs)) (map input_edge (range_with_len 0 h.inputs))
   inputs_take =
@@ -175,6 +202,24 @@ module _ (net : Parts) (built : Built) (is : IsBounded net built) where
       (rw (own_passes h (1 + z) (omega arith) (omega (arith, within, place))) refl)) in
       subst (λ n. Takes (lines (input_of h) n) (flat_map input_line numbers) (map input_edge numbers)) (length-range_with_len 0 h.inputs) takes
 
+  loaded : (i : ℕ) → i < built.aig.latches → (next_edge built i).0 < 2 * (1 + h.most)
+  loaded i within =
+      let count = is.fits.latches in
+      let n = is.fits.next_count in
+      let l = is.fits.nexts i (edge 0) (omega (arith, n, within, count)) in
+      omega (arith, l)
+
+  -- the numbers of a latch are read, in either form
+  latch_words : (i : ℕ) (latch : Latch) → i < built.aig.latches → latch_of h (latch_edge built.aig i).0 ((next_edge built i).0 ∷ init_words (latch_edge built.aig i).0 latch.init) ≡ Some (circuit_latch built i latch)
+  latch_words i latch within =
+      latch_read h (latch_edge built.aig i).0 (next_edge built i).0 latch.init (omega arith) (own_passes h (1 + built.aig.inputs + i) (omega arith) (omega (arith, within))) (literal_passes h (next_edge built i).0 (loaded i within))
+
+  latch_small : (i : ℕ) (latch : Latch) → i < built.aig.latches → AreSmall ((next_edge built i).0 ∷ init_words (latch_edge built.aig i).0 latch.init)
+  latch_small i latch within =
+      let columns = is.columns in
+      let ands = is.ands in
+      (omega (arith, loaded i within, columns, ands), words_small (latch_edge built.aig i).0 latch.init (omega (arith, within, columns)))
+
   latches_take : Takes (lines (latch_line_of h) h.latches) (latches_text net built) (map (λ item. circuit_latch built item.0 item.1) (enumerate_from 0 net.latches))
   latches_take =
       let count : built.aig.latches ≡ length net.latches = is.fits.latches in
@@ -182,12 +227,8 @@ module _ (net : Parts) (built : Built) (is : IsBounded net built) where
       (λ i j latch e at.
       let within : j < built.aig.latches = (let l = slice_get_within net.latches i latch at in omega (arith, l, count, e)) in
       let columns = is.columns in
-      let ands = is.ands in
-      let loaded : (next_edge built j).0 < 2 * (1 + h.most) =
-      (let l = is.fits.nexts j (edge 0) (let n = is.fits.next_count in omega (arith, n, within, count)) in omega (arith, l)) in
       line_takes (latch_line_of h) (latch_edge built.aig j).0 ((next_edge built j).0 ∷ init_words (latch_edge built.aig j).0 latch.init) (circuit_latch built j latch)
-      (omega (arith, within, columns), (omega (arith, loaded, columns, ands), words_small (latch_edge built.aig j).0 latch.init (omega (arith, within, columns))))
-      (latch_read h (latch_edge built.aig j).0 (next_edge built j).0 latch.init (omega arith) (own_passes h (1 + built.aig.inputs + j) (omega arith) (omega (arith, within))) (literal_passes h (next_edge built j).0 loaded))) in
+      (omega (arith, within, columns), latch_small j latch within) (latch_words j latch within)) in
       subst (λ n. Takes (lines (latch_line_of h) n) (latches_text net built) (map (λ item. circuit_latch built item.0 item.1) (enumerate_from 0 net.latches))) (sym count) takes
 
   outputs_take : Takes (lines (output_of h) h.outputs) (flat_map output_line built.outputs) built.outputs
@@ -201,6 +242,15 @@ module _ (net : Parts) (built : Built) (is : IsBounded net built) where
       line_takes (output_of h) e.0 [] e (omega (arith, read, columns, ands), tt) (rw (literal_passes h e.0 read) refl)) in
       subst (λ found. Takes (lines (output_of h) h.outputs) (flat_map output_line built.outputs) found) (map-id built.outputs) takes
 
+  and_words : (i : ℕ) (and : And) → slice_get built.aig.ands i ≡ Some and → and_of h (and_edge built.aig i).0 and.greater.0 and.smaller.0 ≡ Some (circuit_and built.aig i and)
+  and_words i and at =
+      let within : i < length built.aig.ands = slice_get_within built.aig.ands i and at in
+      let sound : IsSoundAnd (first_and built.aig + i) and = is.sound.each i and at in
+      let earlier = sound.earlier in
+      let greater = sound.greater in
+      and_read h (and_edge built.aig i).0 and (own_passes h (first_and built.aig + i) (omega arith) (omega (arith, within)))
+      (literal_passes h and.greater.0 (omega (arith, earlier, within))) (literal_passes h and.smaller.0 (omega (arith, earlier, greater, within)))
+
   ands_take : Takes (lines (and_line_of h) h.ands) (ands_text built.aig) (map (λ item. circuit_and built.aig item.0 item.1) (enumerate_from 0 built.aig.ands))
   ands_take =
       each_takes (λ i. line (and_line_of h)) (and_line built.aig) (circuit_and built.aig) built.aig.ands 0
@@ -213,8 +263,7 @@ module _ (net : Parts) (built : Built) (is : IsBounded net built) where
       let greater = sound.greater in
       line_takes (and_line_of h) (and_edge built.aig j).0 (and.greater.0 ∷ and.smaller.0 ∷ []) (circuit_and built.aig j and)
       (omega (arith, within, columns, ands), (omega (arith, within, columns, ands, earlier, e), (omega (arith, within, columns, ands, earlier, greater, e), tt)))
-      (and_read h (and_edge built.aig j).0 and (own_passes h (first_and built.aig + j) (omega arith) (omega (arith, within)))
-      (literal_passes h and.greater.0 (omega (arith, earlier, within, e))) (literal_passes h and.smaller.0 (omega (arith, earlier, greater, within, e)))))
+      (and_words j and (subst (λ n. slice_get built.aig.ands n ≡ Some and) (let same : i ≡ j = omega (arith, e) in same) at)))
 
   names_end : Ends (symbols h) (names_text net) (circuit net built).symbols
   names_end =
@@ -242,21 +291,75 @@ module _ (net : Parts) (built : Built) (is : IsBounded net built) where
       (symbols_read h latch_letter latch_names 0 last_text last refl refl latches_plain (omega (arith, latches_count, latches_length)) (omega (arith, fits, latches_length))
       last_read))
 
+  named : (let c : Circuit = circuit net built in Ends (behind_ands h c.inputs c.latches c.outputs c.ands) (names_text net) c)
+  named =
+      let c : Circuit = circuit net built in
+      ap (option_and_then (λ taken. given (Some (record { most = h.most; inputs = c.inputs; latches = c.latches; outputs = c.outputs; ands = c.ands; symbols = taken.0 })) taken.1)) names_end
+
   -- the whole text
-  pub text_reads : read_ascii (aiger_text net built) ≡ Some (circuit net built)
-  text_reads =
+  pub ascii_reads : read_ascii (aiger_text net built) ≡ Some (circuit net built)
+  ascii_reads =
       let names : List ℕ = names_text net in
       let ands : List ℕ = ands_text built.aig ++ names in
       let outputs : List ℕ = flat_map output_line built.outputs ++ ands in
       let latches : List ℕ = latches_text net built ++ outputs in
       let inputs : List ℕ = flat_map input_line (range_with_len 0 h.inputs) ++ latches in
       let c : Circuit = circuit net built in
-      let named : Ends (behind_ands h c.inputs c.latches c.outputs c.ands) names c =
-      ap (option_and_then (λ taken. given (Some (record { most = h.most; inputs = c.inputs; latches = c.latches; outputs = c.outputs; ands = c.ands; symbols = taken.0 })) taken.1)) names_end in
       let end : Ends ascii (aiger_text net built) c =
-      then_ends (header (codes "aag") has_room) behind_header (head_text built) inputs h c header_takes
+      then_ends (header (codes "aag") has_room) behind_header (head_text (codes "aag ") built) inputs h c header_takes
       (then_ends (lines (input_of h) h.inputs) (behind_inputs h) (flat_map input_line (range_with_len 0 h.inputs)) latches c.inputs c inputs_take
       (then_ends (lines (latch_line_of h) h.latches) (behind_latches h c.inputs) (latches_text net built) outputs c.latches c latches_take
       (then_ends (lines (output_of h) h.outputs) (behind_outputs h c.inputs c.latches) (flat_map output_line built.outputs) ands c.outputs c outputs_take
       (then_ends (lines (and_line_of h) h.ands) (behind_ands h c.inputs c.latches c.outputs) (ands_text built.aig) names c.ands c ands_take named)))) in
+      ap (option_map (λ taken. taken.0)) end
+
+  -- ---- the binary form
+
+  loads_take : Takes (each (load h) (range_with_len 0 h.latches)) (loads_text net built) (map (λ item. circuit_latch built item.0 item.1) (enumerate_from 0 net.latches))
+  loads_take =
+      let count : built.aig.latches ≡ length net.latches = is.fits.latches in
+      let takes = each_takes (load h) (load_line built) (circuit_latch built) net.latches 0
+      (λ i j latch e at.
+      let within : j < built.aig.latches = (let l = slice_get_within net.latches i latch at in omega (arith, l, count, e)) in
+      line_takes (latch_of h (latch_edge built.aig j).0) (next_edge built j).0 (init_words (latch_edge built.aig j).0 latch.init) (circuit_latch built j latch)
+      (latch_small j latch within) (latch_words j latch within)) in
+      subst (λ n. Takes (each (load h) (range_with_len 0 n)) (loads_text net built) (map (λ item. circuit_latch built item.0 item.1) (enumerate_from 0 net.latches))) (sym count) takes
+
+  falling_read : (i : ℕ) (and : And) → slice_get built.aig.ands i ≡ Some and
+      → falling h (and_edge built.aig i).0 ((and_edge built.aig i).0 - and.greater.0) (and.greater.0 - and.smaller.0) ≡ Some (circuit_and built.aig i and)
+  falling_read i and at =
+      let sound : IsSoundAnd (first_and built.aig + i) and = is.sound.each i and at in
+      let earlier = sound.earlier in
+      let greater = sound.greater in
+      let own : ℕ = (and_edge built.aig i).0 in
+      let first : ℕ = own - and.greater.0 in
+      let second : ℕ = and.greater.0 - and.smaller.0 in
+      let a : own - first ≡ and.greater.0 = omega (arith, earlier) in
+      let b : own - first - second ≡ and.smaller.0 = omega (arith, earlier, greater) in
+      rw (lt-ltb 0 first (omega (arith, earlier)), le-leb (first + second) own (omega (arith, earlier, greater)))
+      (ap₂ (and_of h own) a b ∙ and_words i and at)
+
+  differences_take : Takes (each (differences h) (range_with_len 0 h.ands)) (groups_text built.aig) (map (λ item. circuit_and built.aig item.0 item.1) (enumerate_from 0 built.aig.ands))
+  differences_take =
+      each_takes (differences h) (and_groups built.aig) (circuit_and built.aig) built.aig.ands 0
+      (λ i j and e at.
+      let own : ℕ = (and_edge built.aig j).0 in
+      takes_then reading.groups (λ first. reading.groups >>= λ second. given (falling h own first second)) (groups (own - and.greater.0)) (groups (and.greater.0 - and.smaller.0))
+      (own - and.greater.0) (circuit_and built.aig j and) (groups_take (own - and.greater.0))
+      (takes_meaning reading.groups (falling h own (own - and.greater.0)) (groups (and.greater.0 - and.smaller.0)) (and.greater.0 - and.smaller.0) (circuit_and built.aig j and)
+      (groups_take (and.greater.0 - and.smaller.0))
+      (falling_read j and (subst (λ n. slice_get built.aig.ands n ≡ Some and) (let same : i ≡ j = omega (arith, e) in same) at))))
+
+  pub binary_reads : read_binary (binary_text net built) ≡ Some (circuit net built)
+  binary_reads =
+      let names : List ℕ = names_text net in
+      let ands : List ℕ = groups_text built.aig ++ names in
+      let outputs : List ℕ = flat_map output_line built.outputs ++ ands in
+      let latches : List ℕ = loads_text net built ++ outputs in
+      let c : Circuit = circuit net built in
+      let end : Ends binary (binary_text net built) c =
+      then_ends (header (codes "aig") is_full) behind_binary_header (head_text (codes "aig ") built) latches h c binary_header_takes
+      (then_ends (each (load h) (range_with_len 0 h.latches)) (behind_loads h) (loads_text net built) outputs c.latches c loads_take
+      (then_ends (lines (output_of h) h.outputs) (behind_binary_outputs h c.latches) (flat_map output_line built.outputs) ands c.outputs c outputs_take
+      (then_ends (each (differences h) (range_with_len 0 h.ands)) (behind_ands h c.inputs c.latches c.outputs) (groups_text built.aig) names c.ands c differences_take named))) in
       ap (option_map (λ taken. taken.0)) end

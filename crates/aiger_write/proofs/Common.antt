@@ -2,7 +2,7 @@
 pub use Rattle.aig_core.specs.Graphs.{edge}
 pub use Rattle.aig_core.specs.declared.edge.And.{And}
 pub use Rattle.aiger_write.specs.Circuits.{name_of}
-pub use Rattle.aiger_write.specs.Text.{and_line, input_line, latch_line, output_line, symbol_line}
+pub use Rattle.aiger_write.specs.Text.{and_line, and_groups, input_line, latch_line, load_line, output_line, symbol_line}
 pub use Rattle.cyc_base.proofs.ListLemmas.{item_at}
 pub use Rattle.cyc_io.proofs.ItemLemmas.{appended_copied, appended_in_copied, appended_in_item, appended_item, appended_items}
 pub use Rattle.cyc_io.proofs.TakenLemmas.{appended_cut, appended_equal, appended_none, appended_then}

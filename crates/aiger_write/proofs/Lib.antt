@@ -1,4 +1,5 @@
 pub mod Common
 pub mod TextLemmas
+pub mod GroupLemmas
 pub mod ReadingLemmas
 pub mod CircuitLemmas

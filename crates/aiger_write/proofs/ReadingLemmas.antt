@@ -1,5 +1,5 @@
 -- Readers take written pieces back: numbers, lines, and one item behind another.
-use Rattle.std.proofs.Common.{◌≡◌, ℕ, suc, ◌+◌, ◌%◌, ◌^◌, ◌<◌, true, false, ◌==◌, List, [], ◌∷◌, ◌++◌, length, map, All, Some, Option, option_map, option_and_then, slice_get, eq-eqb, ne_eqb, refl, ap, sym, ◌∙◌, append_assoc, append-nil, arith}
+use Rattle.std.proofs.Common.{◌≡◌, ℕ, zero, suc, ◌+◌, ◌*◌, ◌/◌, ◌%◌, ◌-◌, ◌^◌, ◌<◌, true, false, ◌==◌, List, [], ◌∷◌, ◌++◌, length, map, All, Some, Option, option_map, option_and_then, slice_get, eq-eqb, ne_eqb, lt-ltb, le-ltb, inl, inr, refl, ap, sym, ◌∙◌, append_assoc, append-nil, arith}
 use Rattle.aiger_write.proofs.Common.{codes, decimal, flat_map, enumerate_from, range_with_len}
 use Rattle.std.specs.List.{slice_split}
 use Rattle.std.specs.Str.{all_ascii_digits}
@@ -8,7 +8,9 @@ use Rattle.std.proofs.lemmas.Fmt.{decimal_is_IsNumeral, decimal_by_steps, decima
 use Rattle.std.proofs.lemmas.Str.Parse.{IsNumeralModel, numerals_by_value, tells_all_ascii_digits}
 use Rattle.std.proofs.lemmas.List.Elements.{All-nil, All-cons, All-head, All-tail, All-push, All-append}
 use Rattle.std.proofs.lemmas.List.Splits.{slice_split_none, slice_split_at}
-use Rattle.aiger_write.specs.Text.{numbers_line}
+use Rattle.std.proofs.lemmas.Bool.{cases_lt}
+use Rattle.aiger_write.specs.Text.{numbers_line, groups_upto, groups}
+use Rattle.aiger_write.specs.Reading as reading
 use Rattle.aiger_write.specs.Reading.{Reader, ◌>>=◌, given, each, up_to, is_blank, number, numbers_of, line}
 
 -- the reader takes the text off the front of any bytes, and reads x
@@ -130,3 +132,21 @@ line_takes {X} meaning first others x small is rest =
     ∙ ap (option_and_then (λ (taken : List ℕ × List ℕ). (given (numbers_of (slice_split is_blank taken.0)) >>= λ ns. given (meaning ns)) taken.1)) (up_to_at 10 words rest lacks)
     ∙ ap (λ (ns : Option (List ℕ)). (given ns >>= λ found. given (meaning found)) rest) (ap numbers_of (words_split first others small) ∙ numbers_decimal (first ∷ others) small)
     ∙ ap (λ (found : Option X). option_map (λ y. (y, rest)) found) is
+
+-- ---- groups of seven bits
+
+groups_upto_take : (fuel n : ℕ) (rest : List ℕ) → n < fuel → ◌≡◌ {A = Option (ℕ × List ℕ)} (reading.groups (groups_upto fuel n ++ rest)) (Some (n, rest))
+groups_upto_take zero n rest fits = absurd (omega (arith, fits))
+groups_upto_take (suc fuel) n rest fits =
+    elim (cases_lt n 128) [
+      | inl few ↦ rw (lt-ltb n 128 few) (rw (lt-ltb n 128 few) refl)
+      | inr many ↦
+          let more : ◌≡◌ {A = Option (ℕ × List ℕ)} (reading.groups (groups_upto fuel (n / 128) ++ rest)) (Some (n / 128, rest)) =
+          groups_upto_take fuel (n / 128) rest (omega (arith, fits, many)) in
+          let same : 128 + n % 128 - 128 + 128 * (n / 128) ≡ n = omega arith in
+          rw (le-ltb n 128 many)
+          (rw (le-ltb (128 + n % 128) 128 (omega arith), more) (ap (λ (k : ℕ). Some (k, rest)) same))
+    ]
+
+pub groups_take : (n : ℕ) → Takes reading.groups (groups n) n
+groups_take n rest = groups_upto_take (suc n) n rest (omega arith)

@@ -1,6 +1,6 @@
 -- The items of the text, by their places.
-use Rattle.std.proofs.Common.{◌*◌, true, false, eqb, All, ◌≡◌, ℕ, ◌+◌, ◌<◌, ◌≤◌, List, [], ◌∷◌, ◌++◌, length, get_or, map, sym, subst, ◌∙◌, arith, Some}
-use Rattle.aiger_write.proofs.Common.{enumerate_from, length-map, item_at, codes, And, edge, latch_line, and_line, name_of, Latch}
+use Rattle.std.proofs.Common.{◌*◌, ◌-◌, true, false, eqb, All, ◌≡◌, ℕ, ◌+◌, ◌<◌, ◌≤◌, List, [], ◌∷◌, ◌++◌, length, get_or, map, sym, subst, ◌∙◌, arith, Some}
+use Rattle.aiger_write.proofs.Common.{enumerate_from, length-map, item_at, And, edge, latch_line, and_line, name_of, Latch}
 use Rattle.std.specs.List.{list_any, IsDistinct, AllByRecursion, slice_get}
 use Rattle.std.proofs.lemmas.Bool.{false≢true, eqb-true}
 use Rattle.std.proofs.lemmas.List.Elements.{All-head, All-tail}
@@ -11,7 +11,7 @@ use Rattle.std.proofs.lemmas.Option.{slice_get_within, get_or_from_slice_get}
 use Rattle.cyc_base.specs.declared.sig.Sig.{Sig}
 use Rattle.aig_core.specs.declared.building.Built.{Built}
 use Rattle.aig_core.specs.Graphs.{Graph}
-use Rattle.aiger_write.specs.Text.{numbers_line, head_text, init_words}
+use Rattle.aiger_write.specs.Text.{numbers_line, head_text, init_words, load_line, groups, and_groups}
 use Rattle.netlist.specs.declared.parts.Parts.{Parts}
 use Rattle.netlist.specs.Netlists.{count, signal, sig_eq, signal_names, driven_names, IsSignal, IsNetlist}
 
@@ -57,9 +57,9 @@ few_outputs net valid =
 
 -- ---- lines, by what calls answered
 
-pub head_is : (built : Built) (i l o a : ℕ) → i ≡ built.aig.inputs → l ≡ built.aig.latches → o ≡ length built.outputs → a ≡ length built.aig.ands
-    → head_text built ≡ codes "aag " ++ numbers_line ((i + l + a) ∷ i ∷ l ∷ o ∷ a ∷ [])
-head_is built i l o a i_is l_is o_is a_is = grind arith
+pub head_is : (word : List ℕ) (built : Built) (i l o a : ℕ) → i ≡ built.aig.inputs → l ≡ built.aig.latches → o ≡ length built.outputs → a ≡ length built.aig.ands
+    → head_text word built ≡ word ++ numbers_line ((i + l + a) ∷ i ∷ l ∷ o ∷ a ∷ [])
+head_is word built i l o a i_is l_is o_is a_is = grind arith
 
 pub and_is : (g : Graph) (k i l : ℕ) (x : And) → i ≡ g.inputs → l ≡ g.latches → and_line g k x ≡ numbers_line ((2 * ((1 + i + l) + k)) ∷ x.greater.0 ∷ x.smaller.0 ∷ [])
 and_is g k i l x i_is l_is = sym (λ j. numbers_line ((2 * ((1 + i_is j + l_is j) + k)) ∷ x.greater.0 ∷ x.smaller.0 ∷ []))
@@ -72,3 +72,13 @@ latch_is built k i n latch i_is n_is = sym (λ j. numbers_line ((2 * (1 + i_is j
 pub output_name : (net : Parts) (k : ℕ) (outputs : List Sig) (name : List ℕ) → outputs ≡ net.outputs → k < length net.outputs
     → slice_get (signal_names net) (get_or outputs k (signal 0)).0 ≡ Some name → name ≡ get_or (map (name_of net) net.outputs) k name
 output_name net k outputs name is l at = grind (arith, get_or_from_slice_get (signal_names net) (get_or outputs k (signal 0)).0 name [], get_or-map (name_of net) net.outputs k (signal 0) name l)
+
+-- ---- the binary form
+
+pub load_is : (built : Built) (k i n : ℕ) (latch : Latch) → i ≡ built.aig.inputs → n ≡ (get_or built.nexts k (edge 0)).0
+    → load_line built k latch ≡ numbers_line (n ∷ init_words (2 * (1 + i + k)) latch.init)
+load_is built k i n latch i_is n_is = sym (λ j. numbers_line (n_is j ∷ init_words (2 * (1 + i_is j + k)) latch.init))
+
+pub differences_are : (g : Graph) (k i l : ℕ) (x : And) → i ≡ g.inputs → l ≡ g.latches
+    → and_groups g k x ≡ groups (2 * ((1 + i + l) + k) - x.greater.0) ++ groups (x.greater.0 - x.smaller.0)
+differences_are g k i l x i_is l_is = sym (λ j. groups (2 * ((1 + i_is j + l_is j) + k) - x.greater.0) ++ groups (x.greater.0 - x.smaller.0))

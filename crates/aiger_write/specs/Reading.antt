@@ -1,6 +1,6 @@
 -- The AIGER format, version 1.9 (Biere, Heljanko and Wieringa 2011), for circuits without properties. A reader takes what
 -- it reads from the front of bytes, or refuses them.
-use Rattle.std.specs.Prelude.{ℕ, ◌+◌, ◌*◌, ◌%◌, ◌==◌, ◌&&◌, Bool, nat_lt, nat_le, List, [], ◌∷◌, codes, bytes_eq, if◌then◌else◌, Some, None, option_map}
+use Rattle.std.specs.Prelude.{ℕ, ◌+◌, ◌-◌, ◌*◌, ◌%◌, ◌==◌, ◌&&◌, Bool, nat_lt, nat_le, List, [], ◌∷◌, codes, map, bytes_eq, if◌then◌else◌, Some, None, option_map}
 use Rattle.std.specs.List.{range_with_len, slice_split}
 use Rattle.std.specs.Option.{option_and_then}
 use Rattle.std.specs.Str.{all_ascii_digits}
@@ -10,7 +10,7 @@ use Rattle.netlist.specs.declared.parts.Init.{Init}
 use Rattle.netlist.specs.declared.parts.Init.TheVariants.{Zero, One, Either}
 use Rattle.aig_core.specs.declared.edge.Edge.{Edge}
 use Rattle.aig_core.specs.Graphs.{edge}
-use Rattle.aiger_write.specs.Circuits.{Circuit, CircuitLatch, CircuitAnd, Symbol, symbol, input_letter, latch_letter, output_letter}
+use Rattle.aiger_write.specs.Circuits.{Circuit, CircuitLatch, CircuitAnd, Symbol, symbol, input_edge, input_letter, latch_letter, output_letter}
 
 abbrev pub Reader : Type 0 → Type 0
 Reader X = List ℕ → Option (X × List ℕ)
@@ -189,3 +189,39 @@ ascii = do
 -- what a text in the ASCII form says, or nothing for bytes that are none
 abbrev pub read_ascii : List ℕ → Option Circuit
 read_ascii text = option_map (λ taken. taken.0) (ascii text)
+
+-- The binary form: inputs, latches and ANDs are the variables from 1 on, in this order.
+
+-- a number in groups of seven bits, the least first, with 128 added to each but the last
+abbrev pub groups : Reader ℕ
+groups [] = None
+groups (b ∷ bytes) =
+    if nat_lt b 128 then Some (b, bytes)
+    else option_map (λ taken. (b - 128 + 128 * taken.0, taken.1)) (groups bytes)
+
+-- the AND whose literal is over that of the first that it reads, and this one not below that of the second
+abbrev pub falling : Header → ℕ → ℕ → ℕ → Option CircuitAnd
+falling h own first second =
+    if nat_lt 0 first && nat_le (first + second) own then and_of h own (own - first) (own - first - second) else None
+
+abbrev pub load : Header → ℕ → Reader CircuitLatch
+load h j = line (latch_of h (2 * (1 + h.inputs + j)))
+
+abbrev pub differences : Header → ℕ → Reader CircuitAnd
+differences h i = do
+  first ← groups
+  second ← groups
+  given (falling h (2 * (1 + h.inputs + h.latches + i)) first second)
+
+abbrev pub binary : Reader Circuit
+binary = do
+  h ← header (codes "aig") is_full
+  latches ← each (load h) (range_with_len 0 h.latches)
+  outputs ← lines (output_of h) h.outputs
+  ands ← each (differences h) (range_with_len 0 h.ands)
+  names ← symbols h
+  given (Some (record { most = h.most; inputs = map input_edge (range_with_len 0 h.inputs); latches = latches; outputs = outputs; ands = ands; symbols = names }))
+
+-- what a text in the binary form says
+abbrev pub read_binary : List ℕ → Option Circuit
+read_binary text = option_map (λ taken. taken.0) (binary text)

@@ -11,16 +11,21 @@ use aig_core::{Aig, Built, Edge};
 use cyc_io::{Failed, Sink, write_whole};
 use netlist::{Init, Netlist};
 
-/// Appends the line of the greatest variable and of how many there are of each kind.
-pub(crate) fn put_counts<K: Sink>(sink: &mut K, net: &Netlist, built: &Built) -> Result<(), Failed>
+/// Appends the line of the form's word, of the greatest variable and of how many there are of each kind.
+pub(crate) fn put_counts<K: Sink>(
+    sink: &mut K,
+    word: &[u8],
+    net: &Netlist,
+    built: &Built,
+) -> Result<(), Failed>
     requires { FitsNetlist net.now built.now }
-    ensures { IsAppended (head_text built.now) (sink_call K.put K.faults sink.old sink.new) result }
+    ensures { IsAppended (head_text word.now built.now) (sink_call K.put K.faults sink.old sink.new) result }
 {
     let inputs = built.aig.inputs();
     let latches = built.aig.latches();
     let ands = built.aig.count();
     let outputs = net.outputs().len() as u32;
-    write_whole(sink, b"aag ")?;
+    write_whole(sink, word)?;
     put_line(
         sink,
         inputs + latches + ands,

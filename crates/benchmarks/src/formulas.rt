@@ -1,4 +1,5 @@
-//! Formulas in DIMACS form: a line `p cnf VARIABLES CLAUSES`, and clauses of literals that each end with 0.
+//! Formulas in DIMACS form: a line `p cnf VARIABLES CLAUSES`, and clauses of literals that each end with 0. The literals of
+//! lines that begin with `a` are assumed.
 
 use sat::{Answer, Lit, Solver};
 use std::alloc::{AllocError, Global};
@@ -57,15 +58,28 @@ fn read_line(solver: &mut Solver, clause: &mut Vec<Lit>, line: &str) -> io::Resu
     Ok(())
 }
 
-// Adds the clauses of a text.
-fn read_clauses(alloc: Global, solver: &mut Solver, text: &str) -> io::Result<()> {
-    let mut clause = Vec::new(alloc);
-    for line in text.lines() {
-        if !line.starts_with("c") && !line.starts_with("p") {
-            read_line(solver, &mut clause, line)?;
+// Adds the literals of a line to those that are assumed.
+fn read_assumptions(assumptions: &mut Vec<Lit>, line: &str) -> io::Result<()> {
+    for word in line.split_whitespace() {
+        if let Some(lit) = literal_of(word)? {
+            assumptions.push(lit)?;
         }
     }
     Ok(())
+}
+
+// Adds the clauses of a text, and answers its assumptions.
+fn read_clauses(alloc: Global, solver: &mut Solver, text: &str) -> io::Result<Vec<Lit>> {
+    let mut clause = Vec::new(alloc);
+    let mut assumptions = Vec::new(alloc);
+    for line in text.lines() {
+        if let Some(rest) = line.strip_prefix("a ") {
+            read_assumptions(&mut assumptions, rest)?;
+        } else if !line.starts_with("c") && !line.starts_with("p") {
+            read_line(solver, &mut clause, line)?;
+        }
+    }
+    Ok(assumptions)
 }
 
 fn word_of(answer: Answer) -> &'static str {
@@ -80,8 +94,8 @@ fn word_of(answer: Answer) -> &'static str {
 pub fn solve<R: Runtime>(rt: &R, alloc: Global, text: &str) -> io::Result<()> {
     let variables = variables_of(text)?.min(MAX_VARIABLES);
     let mut solver = Solver::new(alloc, variables)?;
-    read_clauses(alloc, &mut solver, text)?;
-    let answer = solver.solve(alloc, &[], u64::MAX)?;
+    let assumptions = read_clauses(alloc, &mut solver, text)?;
+    let answer = solver.solve(alloc, &assumptions, u64::MAX)?;
     let conflicts = solver.conflicts();
     eprintln!(rt; "{conflicts} conflicts")?;
     println!(rt; "s {}", word_of(answer))

@@ -4,8 +4,8 @@ use Rattle.std.specs.Prelude.{if◌then◌else◌, nat_le, option_map}
 use Rattle.std.proofs.Math.Seq.{take-length}
 use Rattle.std.specs.List.{list_all}
 use Rattle.std.specs.Option.{option_and_then}
-use Rattle.commands.specs.declared.form.Form.{Form}
-use Rattle.commands.specs.Words.{Options, Check, Rewrite, Aiger, Explain, Equal, Storm, command_of, command_on, explain_with, file_of, is_dot, is_file_word, with_dot, no_options, is_digit, with_digits, up_to, with_option, options_of, check_on, rewrite_on, aiger_on, unobserved, equal_with, storm_with}
+use Rattle.std.specs.Str.{bytes_eq}
+use Rattle.commands.specs.Words.{Options, Check, Rewrite, Equal, Storm, command_of, command_on, flagged, file_of, is_file_word, no_options, is_digit, with_digits, up_to, with_option, options_of, check_on, rewrite_on, unobserved, equal_with, storm_with}
 
 -- more digits make no less of a number
 no_less : (n : ℕ) (digits : List ℕ) → n ≤ with_digits n digits
@@ -54,13 +54,6 @@ rewrite_asked file rest options found = ap (option_map (Rewrite file)) found
 pub rewrite_not_asked : (file : List ℕ) (rest : List (List ℕ)) → options_of no_options rest ≡ None → rewrite_on file rest ≡ None
 rewrite_not_asked file rest found = ap (option_map (Rewrite file)) found
 
-pub aiger_asked : (file : List ℕ) (rest : List (List ℕ)) (options : Options) → options_of no_options rest ≡ Some options
-    → aiger_on file rest ≡ Some (Aiger file options)
-aiger_asked file rest options found = ap (option_map (Aiger file)) found
-
-pub aiger_not_asked : (file : List ℕ) (rest : List (List ℕ)) → options_of no_options rest ≡ None → aiger_on file rest ≡ None
-aiger_not_asked file rest found = ap (option_map (Aiger file)) found
-
 pub equal_asked : (file second : List ℕ) (rest : List (List ℕ)) (options known : Options) → options_of no_options rest ≡ Some options
     → unobserved options ≡ Some known → equal_with file second rest ≡ Some (Equal file second known)
 equal_asked file second rest options known found bare = grind arith
@@ -79,33 +72,41 @@ storm_asked file rounds rest options found = ap (option_map (Storm file rounds))
 pub storm_not_asked : (file : List ℕ) (rounds : ℕ) (rest : List (List ℕ)) → options_of no_options rest ≡ None → storm_with file rounds rest ≡ None
 storm_not_asked file rounds rest found = ap (option_map (Storm file rounds)) found
 
--- the options of an explanation, word by word
-pub dot_asked : (file word : List ℕ) (known : Options) (told drawn : Form) (rest : List (List ℕ)) → is_dot word ≡ true → with_dot told ≡ Some drawn
-    → explain_with file known told (word ∷ rest) ≡ explain_with file known drawn rest
-dot_asked file word known told drawn [] dot is = grind arith
-dot_asked file word known told drawn (value ∷ rest) dot is = grind arith
+-- options and a flag, word by word
+flag_asked : (flag word : List ℕ) (known : Options) (rest : List (List ℕ)) → bytes_eq word flag ≡ true
+    → flagged flag known false (word ∷ rest) ≡ flagged flag known true rest
+flag_asked flag word known [] is = grind arith
+flag_asked flag word known (value ∷ rest) is = grind arith
 
-pub option_asked : (file word value : List ℕ) (known more : Options) (told : Form) (rest : List (List ℕ)) → is_dot word ≡ false → with_option word value known ≡ Some more
-    → explain_with file known told (word ∷ value ∷ rest) ≡ explain_with file more told rest
-option_asked file word value known more told rest dot is = grind arith
+flag_twice : (flag word : List ℕ) (known : Options) (rest : List (List ℕ)) → bytes_eq word flag ≡ true → flagged flag known true (word ∷ rest) ≡ None
+flag_twice flag word known [] is = grind arith
+flag_twice flag word known (value ∷ rest) is = grind arith
+
+option_asked : (flag word value : List ℕ) (known more : Options) (stood : Bool) (rest : List (List ℕ)) → bytes_eq word flag ≡ false → with_option word value known ≡ Some more
+    → flagged flag known stood (word ∷ value ∷ rest) ≡ flagged flag more stood rest
+option_asked flag word value known more stood rest other is = grind arith
 
 -- the same, where the words are at least one, or two
-pub dot_behind : (file : List ℕ) (words : List (List ℕ)) (word : List ℕ) (known : Options) (told drawn : Form) → 1 ≤ length words → word ≡ get_or words 0 word
-    → is_dot word ≡ true → with_dot told ≡ Some drawn
-    → explain_with file known told words ≡ explain_with file known drawn (take (length words - 1) (drop 1 words))
-dot_behind file [] word known told drawn one first dot is = absurd (omega (arith, one))
-dot_behind file (w ∷ rest) word known told drawn one first dot is =
-    dot_asked file w known told drawn rest (ap is_dot (sym first) ∙ dot) is
-    ∙ ap (explain_with file known drawn) (sym (ap (λ n. take n rest) (let e : length (w ∷ rest) - 1 ≡ length rest = omega arith in e) ∙ take-length rest))
+pub flag_behind : (flag : List ℕ) (words : List (List ℕ)) (word : List ℕ) (known : Options) → 1 ≤ length words → word ≡ get_or words 0 word → bytes_eq word flag ≡ true
+    → flagged flag known false words ≡ flagged flag known true (take (length words - 1) (drop 1 words))
+flag_behind flag [] word known one first is = absurd (omega (arith, one))
+flag_behind flag (w ∷ rest) word known one first is =
+    flag_asked flag w known rest (ap (λ v. bytes_eq v flag) (sym first) ∙ is)
+    ∙ ap (flagged flag known true) (sym (ap (λ n. take n rest) (let e : length (w ∷ rest) - 1 ≡ length rest = omega arith in e) ∙ take-length rest))
 
-pub option_behind : (file : List ℕ) (words : List (List ℕ)) (word again value : List ℕ) (known more : Options) (told : Form) → 2 ≤ length words
-    → word ≡ get_or words 0 word → again ≡ get_or words 0 again → value ≡ get_or words 1 value → is_dot again ≡ false → with_option word value known ≡ Some more
-    → explain_with file known told words ≡ explain_with file more told (take (length words - 2) (drop 2 words))
-option_behind file [] word again value known more told two first once_more second dot is = absurd (omega (arith, two))
-option_behind file (w ∷ []) word again value known more told two first once_more second dot is = absurd (omega (arith, two))
-option_behind file (w ∷ v ∷ rest) word again value known more told two first once_more second dot is =
-    option_asked file w v known more told rest (ap is_dot (sym once_more) ∙ dot) (ap₂ (λ a b. with_option a b known) (sym first) (sym second) ∙ is)
-    ∙ ap (explain_with file more told) (sym (ap (λ n. take n rest) (let e : length (w ∷ v ∷ rest) - 2 ≡ length rest = omega arith in e) ∙ take-length rest))
+pub flag_again : (flag : List ℕ) (words : List (List ℕ)) (word : List ℕ) (known : Options) → 1 ≤ length words → word ≡ get_or words 0 word → bytes_eq word flag ≡ true
+    → flagged flag known true words ≡ None
+flag_again flag [] word known one first is = absurd (omega (arith, one))
+flag_again flag (w ∷ rest) word known one first is = flag_twice flag w known rest (ap (λ v. bytes_eq v flag) (sym first) ∙ is)
+
+pub option_behind : (flag : List ℕ) (words : List (List ℕ)) (word again value : List ℕ) (known more : Options) (stood : Bool) → 2 ≤ length words
+    → word ≡ get_or words 0 word → again ≡ get_or words 0 again → value ≡ get_or words 1 value → bytes_eq again flag ≡ false → with_option word value known ≡ Some more
+    → flagged flag known stood words ≡ flagged flag more stood (take (length words - 2) (drop 2 words))
+option_behind flag [] word again value known more stood two first once_more second other is = absurd (omega (arith, two))
+option_behind flag (w ∷ []) word again value known more stood two first once_more second other is = absurd (omega (arith, two))
+option_behind flag (w ∷ v ∷ rest) word again value known more stood two first once_more second other is =
+    option_asked flag w v known more stood rest (ap (λ b. bytes_eq b flag) (sym once_more) ∙ other) (ap₂ (λ a b. with_option a b known) (sym first) (sym second) ∙ is)
+    ∙ ap (flagged flag more stood) (sym (ap (λ n. take n rest) (let e : length (w ∷ v ∷ rest) - 2 ≡ length rest = omega arith in e) ∙ take-length rest))
 
 -- a command on a word, and the words behind it
 pub command_behind : (words : List (List ℕ)) (command word : List ℕ) → 2 ≤ length words → command ≡ get_or words 0 command → word ≡ get_or words 1 word

@@ -19,7 +19,7 @@ rounds_seen rounds = rounds.number
 abbrev pub command_seen : Command → asked.Command
 command_seen (Check netlist options) = asked.Check netlist.now (options_seen options)
 command_seen (Rewrite netlist options) = asked.Rewrite netlist.now (options_seen options)
-command_seen (Aiger netlist options) = asked.Aiger netlist.now (options_seen options)
+command_seen (Aiger netlist options encoding) = asked.Aiger netlist.now (options_seen options) encoding
 command_seen (Explain netlist options form) = asked.Explain netlist.now (options_seen options) form
 command_seen (Equal first second options) = asked.Equal first.now second.now (options_seen options)
 command_seen (Flat netlist) = asked.Flat netlist.now

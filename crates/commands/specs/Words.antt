@@ -1,5 +1,5 @@
 -- What the words of a call ask for.
-use Rattle.std.specs.Prelude.{ℕ, ◌+◌, ◌-◌, ◌*◌, List, [], ◌∷◌, ◌&&◌, ◌==◌, not, length, Some, None, is_none, nat_eq, nat_le, codes, if◌then◌else◌, Bool, option_map}
+use Rattle.std.specs.Prelude.{ℕ, ◌+◌, ◌-◌, ◌*◌, List, [], ◌∷◌, ◌&&◌, ◌==◌, not, length, Some, None, is_none, nat_eq, nat_le, codes, if◌then◌else◌, Bool, true, false, option_map}
 use Rattle.std.specs.List.{list_all, starts_with}
 use Rattle.std.specs.Option.{option_and_then}
 use Rattle.std.specs.Str.{bytes_eq}
@@ -9,6 +9,8 @@ use Rattle.refusals.specs.declared.observe.Observe.{Observe}
 use Rattle.refusals.specs.declared.observe.Observe.TheVariants as observe
 use Rattle.commands.specs.declared.kind.Kind.{Kind}
 use Rattle.commands.specs.declared.kind.Kind.TheVariants as kind
+use Rattle.commands.specs.declared.encoding.Encoding.{Encoding}
+use Rattle.commands.specs.declared.encoding.Encoding.TheVariants as encoding
 use Rattle.commands.specs.declared.form.Form.{Form}
 use Rattle.commands.specs.declared.form.Form.TheVariants as form
 use Rattle.commands.specs.declared.topic.Topic.{Topic}
@@ -29,8 +31,8 @@ pub data Command : Type 0 where
   Check : List ℕ → Options → Command
   -- decides it, and writes it without loops
   Rewrite : List ℕ → Options → Command
-  -- decides it, and writes its and-inverter graph, without loops
-  Aiger : List ℕ → Options → Command
+  -- decides it, and writes its and-inverter graph, without loops, in a form of AIGER
+  Aiger : List ℕ → Options → Encoding → Command
   -- decides it, and shows why a refused wire is undetermined
   Explain : List ℕ → Options → Form → Command
   -- compares the netlist of a file with that of a second one
@@ -127,32 +129,35 @@ check_on file rest = option_map (Check file) (options_of no_options rest)
 abbrev pub rewrite_on : List ℕ → List (List ℕ) → Option Command
 rewrite_on file rest = option_map (Rewrite file) (options_of no_options rest)
 
+-- These options, and whether the flag stands among them, an option without a value that comes once at most: beside those
+-- that are known, and behind words where it stood already or didn't.
+abbrev pub flagged : List ℕ → Options → Bool → List (List ℕ) → Option (Options × Bool)
+flagged flag known stood [] = Some (known, stood)
+flagged flag known stood (word ∷ []) = if bytes_eq word flag && not stood then Some (known, true) else None
+flagged flag known stood (word ∷ value ∷ rest) =
+    if bytes_eq word flag then (if stood then None else flagged flag known true (value ∷ rest))
+    else option_and_then (λ more. flagged flag more stood rest) (with_option word value known)
+
+-- a graph is written in the ASCII form, or in the binary one where `--binary` stands among its options
+abbrev pub encoding_of : Bool → Encoding
+encoding_of true = encoding.Binary
+encoding_of false = encoding.Ascii
+
 abbrev pub aiger_on : List ℕ → List (List ℕ) → Option Command
-aiger_on file rest = option_map (Aiger file) (options_of no_options rest)
+aiger_on file rest = option_map (λ found. Aiger file found.0 (encoding_of found.1)) (flagged (codes "--binary") no_options false rest)
 
--- An explanation is told as lines, or as a graph where `--dot` stands once among its options.
-abbrev pub is_dot : List ℕ → Bool
-is_dot word = bytes_eq word (codes "--dot")
-
-abbrev pub with_dot : Form → Option Form
-with_dot form.Lines = Some form.Dot
-with_dot form.Dot = None
-
-abbrev pub explain_with : List ℕ → Options → Form → List (List ℕ) → Option Command
-explain_with file known told [] = Some (Explain file known told)
-explain_with file known told (word ∷ []) =
-    if is_dot word then option_and_then (λ drawn. Some (Explain file known drawn)) (with_dot told) else None
-explain_with file known told (word ∷ value ∷ rest) =
-    if is_dot word then option_and_then (λ drawn. explain_with file known drawn (value ∷ rest)) (with_dot told)
-    else option_and_then (λ more. explain_with file more told rest) (with_option word value known)
+-- an explanation is told as lines, or as a graph where `--dot` stands among its options
+abbrev pub form_of : Bool → Form
+form_of true = form.Dot
+form_of false = form.Lines
 
 abbrev pub explain_on : List ℕ → List (List ℕ) → Option Command
-explain_on file rest = explain_with file no_options form.Lines rest
+explain_on file rest = option_map (λ found. Explain file found.0 (form_of found.1)) (flagged (codes "--dot") no_options false rest)
 
 -- loops are told as lines, or as a graph
 abbrev pub loops_on : List ℕ → List (List ℕ) → Option Command
 loops_on file [] = Some (Loops file form.Lines)
-loops_on file (word ∷ []) = if is_dot word then Some (Loops file form.Dot) else None
+loops_on file (word ∷ []) = if bytes_eq word (codes "--dot") then Some (Loops file form.Dot) else None
 loops_on file other = None
 
 -- a comparison wants one more file, and may have options. It observes all wires

@@ -1,5 +1,6 @@
 ghost use Rattle.std.specs.Prelude.{◌≤◌, unwrap_or};
 
+use crate::encoding::Encoding;
 use crate::form::Form;
 use crate::kind::Kind;
 use crate::topic::Topic;
@@ -42,8 +43,8 @@ pub enum Command<'a> {
     Check(&'a Name, Options<'a>),
     /// Decides it, and writes it without loops.
     Rewrite(&'a Name, Options<'a>),
-    /// Decides it, and writes its and-inverter graph, without loops.
-    Aiger(&'a Name, Options<'a>),
+    /// Decides it, and writes its and-inverter graph, without loops, in a form of AIGER.
+    Aiger(&'a Name, Options<'a>, Encoding),
     /// Decides it, and shows why a refused wire is undetermined.
     Explain(&'a Name, Options<'a>, Form),
     /// Compares the netlist of this file with that of a second one. All wires are observed.

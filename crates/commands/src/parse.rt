@@ -2,9 +2,10 @@
 ghost use Rattle.std.specs.Prelude.{◌≡◌, ◌≤◌, ◌+◌, ◌-◌, ◌*◌, ◌&&◌, nat_le, true, false, MatchOption, IfSome, None, Some};
 ghost use Rattle.cyc_base.specs.declared.limits.TheConstants.{MAX_NODES as most_nodes};
 ghost use Rattle.commands.specs.Seen.{cells_seen, command_seen, options_seen, rounds_seen};
-ghost use Rattle.commands.specs.Words.{aiger_on as aiger_asked, cells as cells_asked, check_on as check_asked, command_alone as alone_asked, command_of, command_on as command_asked, delays_on as delays_asked, demo_on as demo_asked, equal_on as equal_asked, equal_with as equal_asked_with, file_of as file_asked, explain_on as explain_asked, explain_with as explain_asked_with, help_on as help_asked, loops_on as loops_asked, is_digit, is_dot as asked_is_dot, is_file_word, no_options as asked_no_options, number_between as number_asked, kind_of as kind_asked, observe_of as observe_asked, options_of as options_asked, probe_of as probe_asked, rewrite_on as rewrite_asked, rounds as rounds_asked, sim_on as sim_asked, standard_input as standard_input_name, storm_on as storm_asked, storm_with as storm_asked_with, topic_of as topic_asked, unobserved as asked_unobserved, up_to, with_care as asked_with_care, with_dot as asked_with_dot, with_nodes as asked_with_nodes, with_observe as asked_with_observe, with_option as asked_with_option};
+ghost use Rattle.commands.specs.Words.{aiger_on as aiger_asked, cells as cells_asked, check_on as check_asked, command_alone as alone_asked, command_of, command_on as command_asked, delays_on as delays_asked, demo_on as demo_asked, equal_on as equal_asked, equal_with as equal_asked_with, file_of as file_asked, encoding_of as encoding_asked, explain_on as explain_asked, flagged as asked_flagged, form_of as form_asked, help_on as help_asked, loops_on as loops_asked, is_digit, is_file_word, no_options as asked_no_options, number_between as number_asked, kind_of as kind_asked, observe_of as observe_asked, options_of as options_asked, probe_of as probe_asked, rewrite_on as rewrite_asked, rounds as rounds_asked, sim_on as sim_asked, standard_input as standard_input_name, storm_on as storm_asked, storm_with as storm_asked_with, topic_of as topic_asked, unobserved as asked_unobserved, up_to, with_care as asked_with_care, with_nodes as asked_with_nodes, with_observe as asked_with_observe, with_option as asked_with_option};
 
 use crate::command::{Cells, Command, Options, Rounds};
+use crate::encoding::Encoding;
 use crate::form::Form;
 use crate::kind::Kind;
 use crate::topic::Topic;
@@ -137,14 +138,23 @@ fn rewrite_on<'a>(file: &'a Name, rest: &'a [Name], standard_input: &'a Name) ->
     Some(Command::Rewrite(file, options))
 }
 
-#[tactic(auto, using(crate::proofs::WordLemmas::aiger_asked, crate::proofs::WordLemmas::aiger_not_asked))]
 fn aiger_on<'a>(file: &'a Name, rest: &'a [Name], standard_input: &'a Name) -> Option<Command<'a>>
     requires { standard_input.now ≡ standard_input_name }
     ensures { MatchOption result (aiger_asked file.now rest.now ≡ None)
         (λ asked. aiger_asked file.now rest.now ≡ Some (command_seen asked)) }
 {
-    let options = options_of(no_options(), rest, standard_input)?;
-    Some(Command::Aiger(file, options))
+    let (options, binary) = flagged(b"--binary", no_options(), false, rest, standard_input)?;
+    Some(Command::Aiger(file, options, encoding_of(binary)))
+}
+
+fn encoding_of(binary: bool) -> Encoding
+    ensures { result ≡ encoding_asked binary }
+{
+    if binary {
+        Encoding::Binary
+    } else {
+        Encoding::Ascii
+    }
 }
 
 fn explain_on<'a>(file: &'a Name, rest: &'a [Name], standard_input: &'a Name) -> Option<Command<'a>>
@@ -152,48 +162,42 @@ fn explain_on<'a>(file: &'a Name, rest: &'a [Name], standard_input: &'a Name) ->
     ensures { MatchOption result (explain_asked file.now rest.now ≡ None)
         (λ asked. explain_asked file.now rest.now ≡ Some (command_seen asked)) }
 {
-    explain_with(file, no_options(), Form::Lines, rest, standard_input)
+    let (options, dot) = flagged(b"--dot", no_options(), false, rest, standard_input)?;
+    Some(Command::Explain(file, options, form_of(dot)))
 }
 
-// The options that these words give beside those that are known, where an explanation is told in this form. It recurses
-// at most once for each word.
-fn explain_with<'a>(
-    file: &'a Name,
+fn form_of(dot: bool) -> Form
+    ensures { result ≡ form_asked dot }
+{
+    if dot { Form::Dot } else { Form::Lines }
+}
+
+// The options that these words give beside those that are known, and whether the flag stands among them, an option
+// without a value that comes once at most. It recurses at most once for each word.
+fn flagged<'a>(
+    flag: &[u8],
     known: Options<'a>,
-    form: Form,
+    stood: bool,
     words: &'a [Name],
     standard_input: &'a Name,
-) -> Option<Command<'a>>
+) -> Option<(Options<'a>, bool)>
     requires { standard_input.now ≡ standard_input_name }
-    ensures { MatchOption result (explain_asked_with file.now (options_seen known.entry) form words.now ≡ None)
-        (λ asked. explain_asked_with file.now (options_seen known.entry) form words.now ≡ Some (command_seen asked)) }
+    ensures { MatchOption result (asked_flagged flag.now (options_seen known.entry) stood words.now ≡ None)
+        (λ found. asked_flagged flag.now (options_seen known.entry) stood words.now ≡ Some (options_seen found.0, found.1)) }
 {
     match words {
-        [] => Some(Command::Explain(file, known, form)),
-        [word, rest @ ..] if is_dot(word.bytes()) => {
-            explain_with(file, known, with_dot(form)?, rest, standard_input)
+        [] => Some((known, stood)),
+        [word, rest @ ..] if word.bytes() == flag => {
+            if stood {
+                return None;
+            }
+            flagged(flag, known, true, rest, standard_input)
         }
         [word, value, rest @ ..] => {
             let more = with_option(word.bytes(), value, known, standard_input)?;
-            explain_with(file, more, form, rest, standard_input)
+            flagged(flag, more, stood, rest, standard_input)
         }
         _ => None,
-    }
-}
-
-fn is_dot(word: &[u8]) -> bool
-    ensures { result ≡ asked_is_dot word.now }
-{
-    word == b"--dot".as_slice()
-}
-
-// A graph, where lines were asked for so far.
-fn with_dot(form: Form) -> Option<Form>
-    ensures { result ≡ asked_with_dot form }
-{
-    match form {
-        Form::Lines => Some(Form::Dot),
-        Form::Dot => None,
     }
 }
 
@@ -204,7 +208,7 @@ fn loops_on<'a>(file: &'a Name, rest: &'a [Name]) -> Option<Command<'a>>
 {
     match rest {
         [] => Some(Command::Loops(file, Form::Lines)),
-        [word] if is_dot(word.bytes()) => Some(Command::Loops(file, Form::Dot)),
+        [word] if word.bytes() == b"--dot".as_slice() => Some(Command::Loops(file, Form::Dot)),
         _ => None,
     }
 }

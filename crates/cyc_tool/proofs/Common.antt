@@ -13,7 +13,7 @@ pub use Rattle.cyc_base.specs.declared.trit.Trit.{Trit}
 pub use Rattle.cyc_io.specs.Faults.{Counts}
 pub use Rattle.cyc_io.specs.Files.{Files}
 pub use Rattle.cyc_tool.specs.Answer.{told}
-pub use Rattle.cyc_tool.specs.Calls.{AreGiven, ComesTo, EndsAt, Explained, Follows, Found, IsCompared, IsDecided, Limit, Runs, ShelfCall, Unfinished, rest_of}
+pub use Rattle.cyc_tool.specs.Calls.{AreGiven, ComesTo, EndsAt, Follows, Found, IsCompared, IsDecided, Limit, Runs, ShelfCall, Unfinished, rest_of}
 pub use Rattle.cyc_tool.specs.Plans.{Compares, Decides, Demonstrates, Ending, Ends, Explains, Faulty, WantsMemory, Judges, Outgrows, Plan, Prints, Purpose, Reads, Rewrites, Storms, WritesGraph, plan_of, with_netlist, with_vectors}
 pub use Rattle.cyc_tool.specs.Plays.{delays_text, known, played}
 pub use Rattle.cyc_tool.specs.Reading.{GoesOn, StopsIn}

@@ -1,7 +1,7 @@
 -- What decisions come to.
 use Rattle.std.proofs.Common.{◌≡◌, ◌⊎◌, ◌<◌, ◌≤◌, ℕ, Bool, true, false, length, Some, None, Ok, Err, refl, sym, ap, ap₂, subst, ◌∙◌, inl, inr, arith}
 use Rattle.std.proofs.lemmas.List.{length-map}
-use Rattle.cyc_tool.proofs.Common.{nat_le, if◌then◌else◌, IfOk, Option, Arena, Parts, IsNetlist, written, IsRefusalOf, Refusal, Undetermined, Form, told, IsDecided, Explained, Limit, Prints, Outgrows, Purpose, Judges, Rewrites, WritesGraph, Explains, Demonstrates, Storms, outcome_of, Outcome}
+use Rattle.cyc_tool.proofs.Common.{nat_le, if◌then◌else◌, IfOk, Option, Arena, Parts, IsNetlist, written, IsRefusalOf, Refusal, Undetermined, Form, told, IsDecided, Limit, Prints, Outgrows, Purpose, Judges, Rewrites, WritesGraph, Explains, Demonstrates, Storms, outcome_of, Outcome}
 use Rattle.std.specs.Prelude.{◌+◌, IfErr, OnOk}
 use Rattle.std.specs.declared.result.Result.{Result}
 use Rattle.cyc_base.specs.declared.limits.TheConstants.{MAX_REWRITTEN_ITEMS}
@@ -10,7 +10,7 @@ use Rattle.aig_core.specs.declared.building.Built.{Built}
 use Rattle.aig_core.specs.declared.fault.AigFault.{AigFault}
 use Rattle.aig_core.specs.declared.fault.AigFault.TheVariants.{TooLarge as ManyAnds, Memory as NoRoom}
 use Rattle.aig_core.specs.Building.{built, columns}
-use Rattle.aiger_write.specs.Text.{aiger_text}
+use Rattle.commands.specs.declared.encoding.Encoding.{Encoding}
 use Rattle.care_sets.specs.Care.{CareSet}
 use Rattle.refusals.specs.Acceptance.{Accepts}
 use Rattle.refusals.specs.Refusals.{refusal}
@@ -27,54 +27,59 @@ use Rattle.unroll.specs.declared.fault.UnrollFault.TheVariants.{TooLarge, Memory
 use Rattle.loops.specs.declared.structure.Blocks.{Blocks}
 use Rattle.loops.specs.declared.structure.Cut.{Cut}
 use Rattle.loops.specs.declared.structure.SweepCounts.{SweepCounts}
-use Rattle.verdict.specs.Verdicts.{AreLoose, AreSweepsOnCare, IsVerdict}
+use Rattle.verdict.specs.Verdicts.{AreLoose, AreSweepsOnCare, IsJudgement, IsVerdict}
 use Rattle.verdict.specs.Causes.{IsOutOfNodes}
 use Rattle.verdict.specs.Enough.{IsBelowEnough}
 use Rattle.verdict.specs.declared.fault.DecideFault.{DecideFault}
 use Rattle.verdict.specs.declared.fault.DecideFault.TheVariants.{NodeLimit, Memory as WantsMemory}
+use Rattle.verdict.specs.declared.judgement.Judgement.{Judgement}
+use Rattle.verdict.specs.declared.judgement.Judgement.TheVariants as judgements
 use Rattle.verdict.specs.declared.verdict.Verdict.{Verdict}
 use Rattle.verdict.specs.declared.verdict.Verdict.TheVariants.{Accepted, Refused}
-use Rattle.cyc_tool.specs.Answer.{decided, verdict_of}
-use Rattle.cyc_tool.specs.Calls.{IsAccepted, IsMadeFor, IsToldAlone, Verdict as ByVerdict}
-use Rattle.cyc_tool.specs.Endings.{accepted_told, aiger_told, count_of_loops, loops_explained, refused_told, where_outputs}
+use Rattle.cyc_tool.specs.Answer.{IsRefusalOutcome, IsVerdictOutcome}
+use Rattle.cyc_tool.specs.Calls.{IsAccepted, IsMadeFor, Verdict as ByVerdict}
+use Rattle.cyc_tool.specs.Endings.{accepted_told, aiger_told, count_of_loops, graph_text, loops_explained, where_outputs}
 use Rattle.cyc_tool.specs.Plans.{Decision, Declines}
-use Rattle.cyc_tool.specs.Seen.{IsLimitOf, IsOutgrown, IsRefusalTold, IsShown, IsTellable, IsToldOf, IsToldOfGraph}
+use Rattle.cyc_tool.specs.Seen.{IsLimitOf, IsOutgrown, IsRefusalTold, IsSaid, IsShown, IsTellable, IsToldRefusal, IsToldOf, IsToldOfGraph}
 use Rattle.cyc_tool.specs.Texts.{limit_reached}
 use Rattle.cyc_tool.specs.declared.outcome.Outcome.{Outcome as Told}
 
 abbrev pub decision_of : Parts → CareSet → ℕ → Observe → Decision
 decision_of net care limit what = record { net = net; care = care; limit = limit; observe = what }
 
+-- a verdict that was told, and of which so much was made
+of_verdict : (net : Parts) (care : CareSet) (limit : ℕ) (what : Observe) (purpose : Purpose) (nodes : Arena) (end : Outcome) (verdict : Option Refusal)
+    → refusal net care what ≡ verdict → IsVerdictOutcome (decision_of net care limit what) purpose verdict end
+    → IsMadeFor (decision_of net care limit what) purpose verdict → IsDecided (decision_of net care limit what) purpose nodes end
+of_verdict net care limit what purpose nodes end verdict is ends made =
+    ByVerdict (subst (λ (v : Option Refusal). IsVerdictOutcome (decision_of net care limit what) purpose v end) (sym is) ends)
+    (subst (IsMadeFor (decision_of net care limit what) purpose) (sym is) made)
+
 -- a netlist that is accepted, and one that is refused
 pub accepted_decides : (net : Parts) (care : CareSet) (limit : ℕ) (what : Observe) (purpose : Purpose) (nodes : Arena) (end : Outcome)
     → IsNetlist net → Accepts net care what → IsAccepted (decision_of net care limit what) purpose end
     → IsDecided (decision_of net care limit what) purpose nodes end
 accepted_decides net care limit what purpose nodes end valid accepts is =
-    let none : verdict_of (decision_of net care limit what) ≡ None = (accepted_without_refusal net care what valid).1 accepts in
-    ByVerdict (is.is ∙ sym (ap (decided (decision_of net care limit what) purpose) none))
-    (subst (IsMadeFor (decision_of net care limit what) purpose) (sym none) is.made)
+    of_verdict net care limit what purpose nodes end None ((accepted_without_refusal net care what valid).1 accepts) is.is is.made
 
-alone_decides : (net : Parts) (care : CareSet) (limit : ℕ) (what : Observe) (purpose : Purpose) (nodes : Arena) (end : Outcome) (refused : Refusal)
-    → refusal net care what ≡ Some refused → IsToldAlone purpose refused → end ≡ told (refused_told net purpose refused)
-    → IsDecided (decision_of net care limit what) purpose nodes end
-alone_decides net care limit what purpose nodes end refused is alone same =
-    ByVerdict (same ∙ sym (ap (decided (decision_of net care limit what) purpose) is))
-    (subst (IsMadeFor (decision_of net care limit what) purpose) (sym is) alone)
+refusal_decides : (net : Parts) (care : CareSet) (limit : ℕ) (what : Observe) (purpose : Purpose) (nodes : Arena) (end : Outcome) (refused : Refusal)
+    → refusal net care what ≡ Some refused → IsRefusalOutcome net purpose refused end → IsDecided (decision_of net care limit what) purpose nodes end
+refusal_decides net care limit what purpose nodes end refused is ends = of_verdict net care limit what purpose nodes end (Some refused) is ends tt
 
 pub refused_decides : (net : Parts) (care : CareSet) (limit : ℕ) (what : Observe) (purpose : Purpose) (nodes : Arena) (end : Outcome) (refused : Refusal)
     → IsNetlist net → refusal net care what ≡ Some refused → IsRefusalTold net purpose refused end
     → IsDecided (decision_of net care limit what) purpose nodes end
-refused_decides net care limit what Judges nodes end refused valid is same = alone_decides net care limit what Judges nodes end refused is tt same
-refused_decides net care limit what Rewrites nodes end refused valid is same = alone_decides net care limit what Rewrites nodes end refused is tt same
-refused_decides net care limit what WritesGraph nodes end refused valid is same = alone_decides net care limit what WritesGraph nodes end refused is tt same
-refused_decides net care limit what (Demonstrates cells) nodes end refused valid is same = alone_decides net care limit what (Demonstrates cells) nodes end refused is tt same
-refused_decides net care limit what (Storms rounds) nodes end refused valid is same = alone_decides net care limit what (Storms rounds) nodes end refused is tt same
-refused_decides net care limit what (Explains form) nodes end (Initial q) valid is same = alone_decides net care limit what (Explains form) nodes end (Initial q) is tt same
-refused_decides net care limit what (Explains form) nodes end EmptyCare valid is same = alone_decides net care limit what (Explains form) nodes end EmptyCare is tt same
-refused_decides net care limit what (Explains form) nodes end (LeavesCare v q) valid is same = alone_decides net care limit what (Explains form) nodes end (LeavesCare v q) is tt same
+refused_decides net care limit what Judges nodes end refused valid is same = refusal_decides net care limit what Judges nodes end refused is same
+refused_decides net care limit what Rewrites nodes end refused valid is same = refusal_decides net care limit what Rewrites nodes end refused is same
+refused_decides net care limit what (WritesGraph encoding) nodes end refused valid is same = refusal_decides net care limit what (WritesGraph encoding) nodes end refused is same
+refused_decides net care limit what (Demonstrates cells) nodes end refused valid is same = refusal_decides net care limit what (Demonstrates cells) nodes end refused is same
+refused_decides net care limit what (Storms rounds) nodes end refused valid is same = refusal_decides net care limit what (Storms rounds) nodes end refused is same
+refused_decides net care limit what (Explains form) nodes end (Initial q) valid is same = refusal_decides net care limit what (Explains form) nodes end (Initial q) is same
+refused_decides net care limit what (Explains form) nodes end EmptyCare valid is same = refusal_decides net care limit what (Explains form) nodes end EmptyCare is same
+refused_decides net care limit what (Explains form) nodes end (LeavesCare v q) valid is same = refusal_decides net care limit what (Explains form) nodes end (LeavesCare v q) is same
 refused_decides net care limit what (Explains form) nodes end (Undetermined v wire) valid is same =
     let known = (refusal_is_shown net care what (Undetermined v wire) valid is).1 (λ e. cc) in
-    Explained form refl (record { vector = v; wire = wire; refused = is; shown = same known.unknown })
+    refusal_decides net care limit what (Explains form) nodes end (Undetermined v wire) is (same known.unknown)
 
 pub refusal_fits : (net : Parts) (care : CareSet) (what : Observe) (refused : Refusal) → IsNetlist net → refusal net care what ≡ Some refused
     → IsRefusalOf net refused
@@ -89,18 +94,18 @@ refusal_shown net care what (Undetermined v wire) valid is =
     let known = (refusal_is_shown net care what (Undetermined v wire) valid is).1 (λ e. cc) in known.unknown
 
 -- a decision that met its limit of nodes
-at_limit : (result : Result Verdict DecideFault) (nodes limit : ℕ) → result ≡ Err (NodeLimit nodes)
+at_limit : {T : Type 0} (result : Result T DecideFault) (nodes limit : ℕ) → result ≡ Err (NodeLimit nodes)
     → IfErr result (λ fault. (fault ≡ WantsMemory) ⊎ (fault ≡ NodeLimit limit)) → NodeLimit nodes ≡ NodeLimit limit
-at_limit result nodes limit is fault =
-    let P : Result Verdict DecideFault → Type 0 = λ r. IfErr r (λ fault. (fault ≡ WantsMemory) ⊎ (fault ≡ NodeLimit limit)) in
+at_limit {T} result nodes limit is fault =
+    let P : Result T DecideFault → Type 0 = λ r. IfErr r (λ fault. (fault ≡ WantsMemory) ⊎ (fault ≡ NodeLimit limit)) in
     let cases : (NodeLimit nodes ≡ WantsMemory) ⊎ (NodeLimit nodes ≡ NodeLimit limit) = subst P is fault in
     elim cases [ inl e ↦ cc | inr e ↦ e ]
 
 nodes_are : (nodes limit : ℕ) → NodeLimit nodes ≡ NodeLimit limit → nodes ≡ limit
 nodes_are nodes limit e = cc
 
-pub limit_decides : (net : Parts) (care : CareSet) (limit : ℕ) (what : Observe) (purpose : Purpose) (arena : Arena) (end : Told)
-    (result : Result Verdict DecideFault) (fault : DecideFault) → result ≡ Err fault → IsLimitOf fault end
+pub limit_decides : {T : Type 0} (net : Parts) (care : CareSet) (limit : ℕ) (what : Observe) (purpose : Purpose) (arena : Arena) (end : Told)
+    (result : Result T DecideFault) (fault : DecideFault) → result ≡ Err fault → IsLimitOf fault end
     → IfErr result (λ fault. (fault ≡ WantsMemory) ⊎ (fault ≡ NodeLimit limit))
     → (result ≡ Err (NodeLimit limit) → IsOutOfNodes arena net care limit) → (result ≡ Err (NodeLimit limit) → IsBelowEnough net care limit)
     → IsDecided (decision_of net care limit what) purpose arena (outcome_of end)
@@ -110,12 +115,20 @@ limit_decides net care limit what purpose arena end result (NodeLimit nodes) is 
     Limit (record { cause = cause met; below = enough met }) (same ∙ ap limit_reached (nodes_are nodes limit at))
 limit_decides net care limit what purpose arena end result WantsMemory is same faults cause enough = absurd same
 
--- a verdict can be told of its netlist
+-- a refusal can be told of its netlist, and so can a judgement and a verdict
+told_refusal : (net : Parts) (care : CareSet) (what : Observe) (refused : Refusal) → IsNetlist net → refusal net care what ≡ Some refused
+    → IsToldRefusal net refused
+told_refusal net care what refused valid is = (refusal_fits net care what refused valid is, refusal_shown net care what refused valid is)
+
+pub judgement_fits : (net : Parts) (care : CareSet) (what : Observe) (judgement : Judgement) → IsNetlist net
+    → IsJudgement net care what judgement → IsSaid net judgement
+judgement_fits net care what (judgements.Accepted loose) valid is = tt
+judgement_fits net care what (judgements.Refused refused) valid is = told_refusal net care what refused valid is
+
 pub verdict_fits : (net : Parts) (blocks : Blocks) (cut : Cut) (care : CareSet) (what : Observe) (verdict : Verdict) → IsNetlist net
     → IsVerdict net blocks cut care what verdict → IsTellable net blocks verdict
 verdict_fits net blocks cut care what (Accepted counts loose) valid is = is.sweeps.width
-verdict_fits net blocks cut care what (Refused refused) valid is =
-    (refusal_fits net care what refused valid is, refusal_shown net care what refused valid is)
+verdict_fits net blocks cut care what (Refused refused) valid is = told_refusal net care what refused valid is
 
 -- what is told of an accepted netlist for each purpose
 pub judged : (net : Parts) (care : CareSet) (limit : ℕ) (what : Observe) (loose : ℕ) (given : Option ℕ) (end : Outcome)
@@ -201,50 +214,50 @@ kept_columns net other keeps few =
     omega (arith, inputs, names, own, others, few)
 
 -- a graph, or what is told in place of one
-graph_fits : (net : Parts) (graph : Built) → length graph.aig.ands ≤ most_ands → told (aiger_told net graph) ≡ told (Prints (aiger_text net graph))
-graph_fits net graph few =
+graph_fits : (encoding : Encoding) (net : Parts) (graph : Built) → length graph.aig.ands ≤ most_ands → told (aiger_told encoding net graph) ≡ told (Prints (graph_text encoding net graph))
+graph_fits encoding net graph few =
     let within : nat_le (length graph.aig.ands) most_ands ≡ true = grind (arith, few) in
-    ap (λ (t : Bool). told (if t then Prints (aiger_text net graph) else Outgrows (most_ands + 1))) within
+    ap (λ (t : Bool). told (if t then Prints (graph_text encoding net graph) else Outgrows (most_ands + 1))) within
 
-graph_outgrows : (net : Parts) (graph : Built) → most_ands < length graph.aig.ands → told (aiger_told net graph) ≡ told (Outgrows (most_ands + 1))
-graph_outgrows net graph many =
+graph_outgrows : (encoding : Encoding) (net : Parts) (graph : Built) → most_ands < length graph.aig.ands → told (aiger_told encoding net graph) ≡ told (Outgrows (most_ands + 1))
+graph_outgrows encoding net graph many =
     let over : nat_le (length graph.aig.ands) most_ands ≡ false = grind (arith, many) in
-    ap (λ (t : Bool). told (if t then Prints (aiger_text net graph) else Outgrows (most_ands + 1))) over
+    ap (λ (t : Bool). told (if t then Prints (graph_text encoding net graph) else Outgrows (most_ands + 1))) over
 
-told_where : (net : Parts) (care : CareSet) (limit : ℕ) (what : Observe) (t : Bool) → nat_le (rewritten_size net care) MAX_REWRITTEN_ITEMS ≡ t
-    → told (accepted_told (decision_of net care limit what) WritesGraph)
-    ≡ told (if t then aiger_told (rewritten net care) (graph_of net care) else Outgrows (rewritten_size net care))
-told_where net care limit what t is =
-    ap (λ (t : Bool). told (if t then aiger_told (rewritten net care) (graph_of net care) else Outgrows (rewritten_size net care))) is
+told_where : (encoding : Encoding) (net : Parts) (care : CareSet) (limit : ℕ) (what : Observe) (t : Bool) → nat_le (rewritten_size net care) MAX_REWRITTEN_ITEMS ≡ t
+    → told (accepted_told (decision_of net care limit what) (WritesGraph encoding))
+    ≡ told (if t then aiger_told encoding (rewritten net care) (graph_of net care) else Outgrows (rewritten_size net care))
+told_where encoding net care limit what t is =
+    ap (λ (t : Bool). told (if t then aiger_told encoding (rewritten net care) (graph_of net care) else Outgrows (rewritten_size net care))) is
 
 -- what is told of the graph of a netlist that was made by rewriting
-pub was_graphed : (net : Parts) (care : CareSet) (limit : ℕ) (what : Observe) (other : Parts) (made : Result Built AigFault) (end : Told) → IsToldOfGraph other made end
+pub was_graphed : (encoding : Encoding) (net : Parts) (care : CareSet) (limit : ℕ) (what : Observe) (other : Parts) (made : Result Built AigFault) (end : Told) → IsToldOfGraph encoding other made end
     → IsNetlist net → Accepts net care what → rewritten_size net care ≤ 4000000 → IsRewriting net care other
     → IfOk made (λ graph. graph ≡ built other) → IfOk made (λ graph. length graph.aig.ands ≤ most_ands)
     → IfOk made (λ graph. (net : Parts) (care : CareSet) (what : Observe) → IsNetlist net → Accepts net care what → IsRewriting net care other → IsGraphing net care graph)
     → IfErr made (λ fault. fault ≡ ManyAnds → most_ands < length (built other).aig.ands)
-    → IsAccepted (decision_of net care limit what) WritesGraph (outcome_of end)
-was_graphed net care limit what other (Ok graph) end same valid accepts small rewriting is few graphing many =
+    → IsAccepted (decision_of net care limit what) (WritesGraph encoding) (outcome_of end)
+was_graphed encoding net care limit what other (Ok graph) end same valid accepts small rewriting is few graphing many =
     let own : graph ≡ graph_of net care = is ∙ ap built rewriting.is in
     record {
-      is = same ∙ sym (graph_fits other graph few) ∙ ap₂ (λ (n : Parts) (g : Built). told (aiger_told n g)) rewriting.is own
-          ∙ sym (told_where net care limit what true (is_within (rewritten_size net care) small));
+      is = same ∙ sym (graph_fits encoding other graph few) ∙ ap₂ (λ (n : Parts) (g : Built). told (aiger_told encoding n g)) rewriting.is own
+          ∙ sym (told_where encoding net care limit what true (is_within (rewritten_size net care) small));
       made = λ within fits. subst (IsGraphing net care) own (graphing net care what valid accepts rewriting);
     }
-was_graphed net care limit what other (Err ManyAnds) end same valid accepts small rewriting is few graphing many =
+was_graphed encoding net care limit what other (Err ManyAnds) end same valid accepts small rewriting is few graphing many =
     let over : most_ands < length (graph_of net care).aig.ands = subst (λ (n : Parts). most_ands < length (built n).aig.ands) rewriting.is (many refl) in
     record {
-      is = same ∙ sym (graph_outgrows (rewritten net care) (graph_of net care) over)
-          ∙ sym (told_where net care limit what true (is_within (rewritten_size net care) small));
+      is = same ∙ sym (graph_outgrows encoding (rewritten net care) (graph_of net care) over)
+          ∙ sym (told_where encoding net care limit what true (is_within (rewritten_size net care) small));
       made = λ within fits. absurd (omega (arith, over, fits));
     }
-was_graphed net care limit what other (Err NoRoom) end same valid accepts small rewriting is few graphing many = absurd same
+was_graphed encoding net care limit what other (Err NoRoom) end same valid accepts small rewriting is few graphing many = absurd same
 
 -- and of a netlist that is too large itself
-pub outgrown_graph : (net : Parts) (care : CareSet) (limit : ℕ) (what : Observe) (fault : UnrollFault) (end : Told) → IsOutgrown fault end
-    → IsUnrollFault (rewritten_size net care) fault → IsAccepted (decision_of net care limit what) WritesGraph (outcome_of end)
-outgrown_graph net care limit what (TooLarge size) end same is = record {
-  is = same ∙ ap (λ (n : ℕ). told (Outgrows n)) is.1 ∙ sym (told_where net care limit what false (is_over (rewritten_size net care) is.0));
+pub outgrown_graph : (encoding : Encoding) (net : Parts) (care : CareSet) (limit : ℕ) (what : Observe) (fault : UnrollFault) (end : Told) → IsOutgrown fault end
+    → IsUnrollFault (rewritten_size net care) fault → IsAccepted (decision_of net care limit what) (WritesGraph encoding) (outcome_of end)
+outgrown_graph encoding net care limit what (TooLarge size) end same is = record {
+  is = same ∙ ap (λ (n : ℕ). told (Outgrows n)) is.1 ∙ sym (told_where encoding net care limit what false (is_over (rewritten_size net care) is.0));
   made = λ within fits. absurd (let over = is.0 in omega (arith, over, within));
 }
-outgrown_graph net care limit what Memory end same is = absurd same
+outgrown_graph encoding net care limit what Memory end same is = absurd same

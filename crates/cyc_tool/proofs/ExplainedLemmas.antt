@@ -10,7 +10,7 @@ use Rattle.care_sets.specs.Care.{columns}
 use Rattle.explanations.specs.declared.explanation.Explanation.{Explanation}
 use Rattle.explanations.specs.Explained.{Explains, IsUnknown}
 use Rattle.report.specs.Explanations.{IsExplanationOf}
-use Rattle.cyc_tool.specs.Calls.{IsWireExplained}
+use Rattle.cyc_tool.specs.Answer.{IsWireExplained}
 use Rattle.cyc_tool.specs.Endings.{wire_explained}
 use Rattle.cyc_tool.specs.Plans.{Refuses}
 

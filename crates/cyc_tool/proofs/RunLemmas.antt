@@ -23,7 +23,7 @@ pub keeps_still : (asked : Option Command) (nodes : Arena) → KeepsNodes asked 
 keeps_still None nodes = refl
 keeps_still (Some (Check file options)) nodes = tt
 keeps_still (Some (Rewrite file options)) nodes = tt
-keeps_still (Some (Aiger file options)) nodes = tt
+keeps_still (Some (Aiger file options encoding)) nodes = tt
 keeps_still (Some (Explain file options form)) nodes = tt
 keeps_still (Some (Equal file second options)) nodes = tt
 keeps_still (Some (Flat file)) nodes = refl

@@ -1,13 +1,19 @@
--- The answer to a request, as a function of its files.
+-- The answers to a request, by its files. There is one, but for a wire that is to be explained.
+use Rattle.std.specs.Prelude.{◌≡◌, ◌+◌, ◌-◌, Bool, List, length, Some, None, MatchOption}
 use Rattle.std.specs.declared.option.Option.{Option}
-use Rattle.std.specs.Option.{option_map_or}
+use Rattle.cyc_base.specs.declared.sig.Sig.{Sig}
 use Rattle.cyc_io.specs.Files.{Files}
+use Rattle.netlist.specs.declared.parts.Parts.{Parts}
+use Rattle.explanations.specs.Explained.{Explains as ExplainsGate}
+use Rattle.explanations.specs.declared.explanation.Explanation.{Explanation}
 use Rattle.refusals.specs.Refusals.{refusal}
 use Rattle.refusals.specs.declared.refusal.Refusal.{Refusal}
+use Rattle.refusals.specs.declared.refusal.Refusal.TheVariants.{Undetermined}
 use Rattle.report.specs.Messages.{too_large_text}
 use Rattle.commands.specs.Words.{command_of}
-use Rattle.cyc_tool.specs.Endings.{ending_of, comparison_told}
-use Rattle.cyc_tool.specs.Plans.{Ending, Prints, PrintsBeside, Refuses, Declines, Outgrows, Decision, Purpose, Comparison, Plan, Reads, Faulty, WantsMemory, Ends, Decides, Compares, plan_of}
+use Rattle.commands.specs.declared.form.Form.{Form}
+use Rattle.cyc_tool.specs.Endings.{accepted_told, refused_told, wire_explained, comparison_told}
+use Rattle.cyc_tool.specs.Plans.{Ending, Prints, PrintsBeside, Refuses, Declines, Outgrows, Decision, Purpose, Explains, Comparison, Plan, Reads, Faulty, WantsMemory, Ends, Decides, Compares, plan_of}
 use Rattle.cyc_tool.specs.Requests.{Request}
 use Rattle.cyc_tool.specs.Texts.{Outcome, on_out, on_both, on_err, usage, has_fault, no_memory, read_failed}
 
@@ -23,23 +29,37 @@ told (Outgrows size) = on_err 8 (too_large_text size)
 abbrev pub verdict_of : Decision → Option Refusal
 verdict_of decision = refusal decision.net decision.care decision.observe
 
--- the outcome of a decision with this verdict
-abbrev pub decided : Decision → Purpose → Option Refusal → Outcome
-decided decision purpose verdict = told (ending_of decision purpose verdict)
+-- A wire, undetermined at a vector, is told with why, as lines or as a graph: behind the refusal, or with it as the label, a
+-- cycle of unknown gates, with the fewest of those that lead to the wire, the way from it, and values of the vector that hold
+-- all these gates open.
+pub record IsWireExplained (form : Form) (net : Parts) (v : List Bool) (wire : Sig) (end : Outcome) : Type 0 where
+  pub why : Explanation
+  pub explains : ExplainsGate net v (wire.0 - (length net.inputs + length net.latches)) why
+  pub is : end ≡ told (Refuses (wire_explained form net v wire why))
+
+-- An outcome of a refusal. That of a wire which is to be explained isn't the only one: another cycle may have as few gates.
+abbrev pub IsRefusalOutcome : Parts → Purpose → Refusal → Outcome → Type 0
+IsRefusalOutcome net (Explains form) (Undetermined v wire) end = IsWireExplained form net v wire end
+IsRefusalOutcome net purpose refused end = end ≡ told (refused_told net purpose refused)
+
+-- an outcome of a decision with this verdict
+abbrev pub IsVerdictOutcome : Decision → Purpose → Option Refusal → Outcome → Type 0
+IsVerdictOutcome decision purpose None end = end ≡ told (accepted_told decision purpose)
+IsVerdictOutcome decision purpose (Some refused) end = IsRefusalOutcome decision.net purpose refused end
 
 -- the outcome of a comparison
 abbrev pub compared : Comparison → Outcome
 compared c = told (comparison_told c)
 
--- the outcome of a plan, where these are the files
-abbrev pub outcome_at : Files → Plan → Outcome
-outcome_at files (Reads role name next) = option_map_or (λ bytes. outcome_at files (next bytes)) (files name) (read_failed name)
-outcome_at files (Faulty name fault) = has_fault name fault
-outcome_at files WantsMemory = no_memory
-outcome_at files (Ends ending) = told ending
-outcome_at files (Decides decision purpose) = decided decision purpose (verdict_of decision)
-outcome_at files (Compares c) = compared c
+-- an outcome of a plan, where these are the files
+abbrev pub IsOutcomeAt : Files → Plan → Outcome → Type 0
+IsOutcomeAt files (Reads role name next) end = MatchOption (files name) (end ≡ read_failed name) (λ bytes. IsOutcomeAt files (next bytes) end)
+IsOutcomeAt files (Faulty name fault) end = end ≡ has_fault name fault
+IsOutcomeAt files WantsMemory end = end ≡ no_memory
+IsOutcomeAt files (Ends ending) end = end ≡ told ending
+IsOutcomeAt files (Decides decision purpose) end = IsVerdictOutcome decision purpose (verdict_of decision) end
+IsOutcomeAt files (Compares c) end = end ≡ compared c
 
--- the answer to a request, where these are the files
-abbrev pub answer : Request → Files → Outcome
-answer request files = option_map_or (λ command. outcome_at files (plan_of request.shows command)) (command_of request.words) usage
+-- an answer to a request, where these are the files
+abbrev pub IsAnswer : Request → Files → Outcome → Type 0
+IsAnswer request files end = MatchOption (command_of request.words) (end ≡ usage) (λ command. IsOutcomeAt files (plan_of request.shows command) end)

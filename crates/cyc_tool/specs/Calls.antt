@@ -1,5 +1,5 @@
 -- What a call of `run` did with its shelf and its sinks.
-use Rattle.std.specs.Prelude.{◌≡◌, ◌≢◌, ◌≤◌, ◌⊎◌, ◌+◌, ◌-◌, ℕ, Bool, List, [], ◌∷◌, length, Some, None, IfOk}
+use Rattle.std.specs.Prelude.{◌≡◌, ◌≢◌, ◌≤◌, ◌⊎◌, ℕ, List, [], ◌∷◌, length, Some, None, IfOk}
 use Rattle.std.specs.declared.option.Option.{Option}
 use Rattle.std.specs.List.{AllByRecursion}
 use Rattle.std.specs.Io.KnownBytes.{Appends}
@@ -11,23 +11,17 @@ use Rattle.bdd_store.specs.Arena.{Arena}
 use Rattle.netlist.specs.Netlists.{IsNetlist}
 use Rattle.verdict.specs.Causes.{IsOutOfNodes}
 use Rattle.verdict.specs.Enough.{IsBelowEnough}
-use Rattle.commands.specs.declared.form.Form.{Form}
 use Rattle.commands.specs.Words.{Command, Check, Rewrite, Aiger, Explain, Equal, Demo, Storm, command_of}
 use Rattle.parsed_files.specs.NetlistFiles.{netlist_of}
 use Rattle.cyc_base.specs.declared.limits.TheConstants.{MAX_REWRITTEN_ITEMS}
 use Rattle.refusals.specs.declared.refusal.Refusal.{Refusal}
-use Rattle.refusals.specs.declared.refusal.Refusal.TheVariants.{Undetermined}
-use Rattle.cyc_base.specs.declared.sig.Sig.{Sig}
-use Rattle.netlist.specs.declared.parts.Parts.{Parts}
-use Rattle.explanations.specs.declared.explanation.Explanation.{Explanation}
-use Rattle.explanations.specs.Explained.{Explains as ExplainsGate}
 use Rattle.equal.specs.Rebound.{IsLimited as IsComparisonLimited}
 use Rattle.equality.specs.Shown.{ShowsItself}
 use Rattle.rewriting.specs.Graphs.{graph_of, most_ands, IsGraphing}
 use Rattle.rewriting.specs.Rewriting.{rewritten, rewritten_size, IsRewriting}
-use Rattle.cyc_tool.specs.Answer.{told, decided, verdict_of, compared}
-use Rattle.cyc_tool.specs.Endings.{accepted_told, wire_explained}
-use Rattle.cyc_tool.specs.Plans.{Role, Netlist, Care, Vectors, Recorded, Refuses, Decision, Purpose, Judges, Rewrites, WritesGraph, Explains, Demonstrates, Storms, Comparison, Plan, Reads, Faulty, WantsMemory, Ends, Decides, Compares, plan_of}
+use Rattle.cyc_tool.specs.Answer.{told, verdict_of, IsVerdictOutcome, compared}
+use Rattle.cyc_tool.specs.Endings.{accepted_told}
+use Rattle.cyc_tool.specs.Plans.{Role, Netlist, Care, Vectors, Recorded, Decision, Purpose, Judges, Rewrites, WritesGraph, Explains, Demonstrates, Storms, Comparison, Plan, Reads, Faulty, WantsMemory, Ends, Decides, Compares, plan_of}
 use Rattle.cyc_tool.specs.Requests.{Request, Shows}
 use Rattle.cyc_tool.specs.Texts.{Outcome, usage, has_fault, read_failed, limit_reached, no_memory}
 
@@ -99,7 +93,7 @@ abbrev pub IsMade : Decision → Purpose → Type 0
 IsMade decision Rewrites =
     rewritten_size decision.net decision.care ≤ MAX_REWRITTEN_ITEMS
     → IsRewriting decision.net decision.care (rewritten decision.net decision.care)
-IsMade decision WritesGraph =
+IsMade decision (WritesGraph encoding) =
     rewritten_size decision.net decision.care ≤ MAX_REWRITTEN_ITEMS
     → length (graph_of decision.net decision.care).aig.ands ≤ most_ands
     → IsGraphing decision.net decision.care (graph_of decision.net decision.care)
@@ -108,39 +102,20 @@ IsMade decision (Explains form) = Unit {0}
 IsMade decision (Demonstrates cells) = Unit {0}
 IsMade decision (Storms rounds) = Unit {0}
 
--- A refusal alone is no explanation of an undetermined wire.
-abbrev pub IsToldAlone : Purpose → Refusal → Type 0
-IsToldAlone (Explains form) (Undetermined v wire) = ⊥
-IsToldAlone purpose refused = Unit {0}
-
+-- Of a netlist that is refused nothing is made.
 abbrev pub IsMadeFor : Decision → Purpose → Option Refusal → Type 0
 IsMadeFor decision purpose None = IsMade decision purpose
-IsMadeFor decision purpose (Some refused) = IsToldAlone purpose refused
+IsMadeFor decision purpose (Some refused) = Unit {0}
 
 -- an accepted netlist is told so
 pub record IsAccepted (decision : Decision) (purpose : Purpose) (end : Outcome) : Type 0 where
   pub is : end ≡ told (accepted_told decision purpose)
   pub made : IsMade decision purpose
 
--- a wire, undetermined at a vector, is told with why, as lines or as a graph
-pub record IsWireExplained (form : Form) (net : Parts) (v : List Bool) (wire : Sig) (end : Outcome) : Type 0 where
-  pub why : Explanation
-  pub explains : ExplainsGate net v (wire.0 - (length net.inputs + length net.latches)) why
-  pub is : end ≡ told (Refuses (wire_explained form net v wire why))
-
--- a refused wire is
-pub record IsExplained (form : Form) (decision : Decision) (end : Outcome) : Type 0 where
-  pub vector : List Bool
-  pub wire : Sig
-  pub refused : verdict_of decision ≡ Some (Undetermined vector wire)
-  pub shown : IsWireExplained form decision.net vector wire end
-
--- A decision came to its verdict, of which this is told, or met its limit of nodes. What explains a wire isn't the only
--- answer: another cycle may have as few gates.
+-- A decision came to its verdict, of which this is told, or met its limit of nodes.
 pub data IsDecided (decision : Decision) (purpose : Purpose) (nodes : Arena) (end : Outcome) : Type 0 where
-  Verdict : end ≡ decided decision purpose (verdict_of decision) → IsMadeFor decision purpose (verdict_of decision)
+  Verdict : IsVerdictOutcome decision purpose (verdict_of decision) end → IsMadeFor decision purpose (verdict_of decision)
       → IsDecided decision purpose nodes end
-  Explained : (form : Form) → purpose ≡ Explains form → IsExplained form decision end → IsDecided decision purpose nodes end
   Limit : IsLimited decision nodes → end ≡ limit_reached decision.limit → IsDecided decision purpose nodes end
 
 -- A comparison came to what is found, which shows itself, or met its limit of nodes: it is below what is enough for both
@@ -179,7 +154,7 @@ ComesTo shows (Some command) shelf nodes end = Follows (plan_of shows command) s
 abbrev pub KeepsNodes : Option Command → Arena → Arena → Type 0
 KeepsNodes (Some (Check file options)) before now = Unit {0}
 KeepsNodes (Some (Rewrite file options)) before now = Unit {0}
-KeepsNodes (Some (Aiger file options)) before now = Unit {0}
+KeepsNodes (Some (Aiger file options encoding)) before now = Unit {0}
 KeepsNodes (Some (Explain file options form)) before now = Unit {0}
 KeepsNodes (Some (Equal file second options)) before now = Unit {0}
 KeepsNodes (Some (Demo cells)) before now = Unit {0}

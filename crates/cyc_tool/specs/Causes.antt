@@ -1,5 +1,5 @@
 -- What follows of a run for each status, and where the files are told.
-use Rattle.std.specs.Prelude.{◌≡◌, ◌≢◌, ◌≤◌, ◌⊎◌, ◌+◌, ◌-◌, codes, length, [], ℕ, Bool, List, Some, None, IfSome, IsSomeAnd}
+use Rattle.std.specs.Prelude.{◌≡◌, ◌≢◌, ◌≤◌, ◌⊎◌, codes, ℕ, Bool, List, Some, None, IfSome, IsSomeAnd}
 use Rattle.std.specs.declared.option.Option.{Option}
 use Rattle.bdd_store.specs.Arena.{Arena}
 use Rattle.accepted_runs.specs.Harmless.{IsHarmless}
@@ -9,27 +9,23 @@ use Rattle.refusals.specs.declared.refusal.Refusal.{Refusal}
 use Rattle.refusals.specs.declared.refusal.Refusal.TheVariants.{EmptyCare, Undetermined}
 use Rattle.verdict.specs.Enough.{IsEnough}
 use Rattle.blif_write.specs.Written.{written}
-use Rattle.commands.specs.declared.form.Form.{Form}
 use Rattle.commands.specs.Words.{Command, Help, HelpOn, Version, command_of}
 use Rattle.cyc_base.specs.declared.sig.Sig.{Sig}
 use Rattle.storm.specs.Laws.{PlaysAsStorm}
 use Rattle.storm.specs.Storms.{storm_of}
 use Rattle.cyc_tool.specs.Storms.{storm_text}
-use Rattle.aiger_write.specs.Text.{aiger_text}
 use Rattle.equal.specs.Matching.{unmatched}
 use Rattle.equal.specs.Rebound.{IsEnoughForBoth, IsLimited as IsComparisonLimited}
 use Rattle.equality.specs.Runs.{RunAlike}
 use Rattle.equality.specs.Shown.{ShowsItself}
 use Rattle.rewriting.specs.Graphs.{graph_of, IsGraphing}
 use Rattle.rewriting.specs.Rewriting.{rewritten, IsRewriting}
-use Rattle.cyc_tool.specs.Answer.{told, decided, verdict_of, compared, answer}
+use Rattle.cyc_tool.specs.Answer.{told, verdict_of, IsVerdictOutcome, compared, IsAnswer}
 use Rattle.cyc_tool.specs.Calls.{ShelfCall, SinkCall, ReadFailed, WriteFailed, Takes, AreGiven, rest_of, IsLimited, IsTold}
-use Rattle.explanations.specs.declared.explanation.Explanation.{Explanation}
-use Rattle.explanations.specs.Explained.{Explains as ExplainsGate}
-use Rattle.cyc_tool.specs.Endings.{wire_explained}
-use Rattle.cyc_tool.specs.Plans.{Decision, Rewrites, WritesGraph, Explains, Storms, Plan, Reads, Faulty, Ends, Decides, Compares, plan_of}
+use Rattle.cyc_tool.specs.Endings.{accepted_told, graph_text}
+use Rattle.cyc_tool.specs.Plans.{Decision, Purpose, Rewrites, WritesGraph, Storms, Comparison, Plan, Reads, Faulty, Ends, Decides, Compares, plan_of}
 use Rattle.cyc_tool.specs.Requests.{Request}
-use Rattle.cyc_tool.specs.Texts.{no_memory}
+use Rattle.cyc_tool.specs.Texts.{Outcome, no_memory}
 
 -- Words outside the grammar get their status, unless a write failed or memory ran out.
 abbrev pub IsWithoutCommand : Option Command → ℕ → Type 0
@@ -83,37 +79,11 @@ abbrev pub IsVerdict : Decision → Option Refusal → Type 0
 IsVerdict decision None = IsHarmless decision.net decision.care decision.observe
 IsVerdict decision (Some refused) = IsRefusedBy decision refused
 
--- All was given without a fault, and the status is that of what is told then; where a decision is made, of its verdict;
--- where two netlists are compared, of what is found, which shows itself.
-abbrev pub IsDoneWith : ℕ → Plan → Type 0
-IsDoneWith status (Ends ending) = status ≡ (told ending).status
-IsDoneWith status (Decides decision purpose) =
-    (verdict : Option Refusal) × IsVerdict decision verdict × (status ≡ (decided decision purpose verdict).status)
-IsDoneWith status (Compares c) = ShowsItself c.first c.second c.care × (status ≡ (compared c).status)
-IsDoneWith status plan = ⊥
-
--- What was put on out for a decision whose status is 0: to rewrite, the text of a netlist without loops, which reads back
--- and shows the same in all runs.
-abbrev pub HasRewritten : SinkCall → Plan → Type 0
-HasRewritten out (Decides decision Rewrites) =
-    IsRewriting decision.net decision.care (rewritten decision.net decision.care)
-    × Takes out (written (rewritten decision.net decision.care))
-HasRewritten out plan = Unit {0}
-
--- What was put on out for a graph whose status is 0: the AIGER text of the rewritten netlist's graph, whose machine has the
--- outputs and the latches of each run within care at each tick.
-abbrev pub HasGraph : SinkCall → Plan → Type 0
-HasGraph out (Decides decision WritesGraph) =
-    IsGraphing decision.net decision.care (graph_of decision.net decision.care)
-    × Takes out (aiger_text (rewritten decision.net decision.care) (graph_of decision.net decision.care))
-HasGraph out plan = Unit {0}
-
--- What was put on out for a comparison whose status is 0: that the two netlists are equal. Each run of the first within
--- care and each run of the second, over the same inputs and from equal latches, have equal outputs and latches by name at
--- each tick, whatever their windows of older reads, their pasts and their fair schedules are.
-abbrev pub HasCompared : SinkCall → Plan → Type 0
-HasCompared out (Compares c) = RunAlike c.first c.second c.care × Takes out (codes "equal\n")
-HasCompared out plan = Unit {0}
+-- An outcome of which this holds was told whole.
+pub record IsToldAs (P : Outcome → Type 0) (out err : SinkCall) (status : ℕ) : Type 0 where
+  pub end : Outcome
+  pub is : P end
+  pub told : IsTold end out err status
 
 -- A refused wire has its storm on out: a fair schedule of the refusal's vector on which each gate that the fixpoint leaves
 -- unknown falls and rises in each round, and all else stands at the fixpoint.
@@ -125,31 +95,46 @@ pub record IsStormed (decision : Decision) (rounds : ℕ) (out : SinkCall) : Typ
   pub storm : PlaysAsStorm decision.net vector (storm_of decision.net vector rounds)
   pub text : Takes out (storm_text decision.net vector rounds)
 
--- What was put on out for a storm whose status is 0.
-abbrev pub HasStormed : SinkCall → Plan → Type 0
-HasStormed out (Decides decision (Storms rounds)) = IsStormed decision rounds out
-HasStormed out plan = Unit {0}
+-- What is on out for a decision whose status is 0, and what a user has of it: to rewrite, the text of a netlist without
+-- loops, which reads back and shows the same in all runs; to write a graph, the AIGER text of the rewritten netlist's, whose
+-- machine has the outputs and the latches of each run within care at each tick; for a storm, one; else that the netlist is
+-- accepted.
+abbrev pub HasMade : Decision → Purpose → SinkCall → Type 0
+HasMade decision Rewrites out =
+    IsRewriting decision.net decision.care (rewritten decision.net decision.care)
+    × Takes out (written (rewritten decision.net decision.care))
+HasMade decision (WritesGraph encoding) out =
+    IsGraphing decision.net decision.care (graph_of decision.net decision.care)
+    × Takes out (graph_text encoding (rewritten decision.net decision.care) (graph_of decision.net decision.care))
+HasMade decision (Storms rounds) out = IsStormed decision rounds out
+HasMade decision purpose out = Takes out (told (accepted_told decision purpose)).out
 
--- A refused wire has its explanation on out, and nothing is on err: behind the refusal, or in a graph, a cycle of unknown
--- gates, with the fewest of those that lead to the wire, the way from it, and values of the vector that hold all these gates
--- open.
-pub record HasWhy (form : Form) (decision : Decision) (vector : List Bool) (wire : Sig) (out err : SinkCall) : Type 0 where
-  pub refused : verdict_of decision ≡ Some (Undetermined vector wire)
-  pub why : Explanation
-  pub explains : ExplainsGate decision.net vector (wire.0 - (length decision.net.inputs + length decision.net.latches)) why
-  pub out_text : Takes out (wire_explained form decision.net vector wire why)
-  pub err_text : Takes err []
+-- A verdict was told, and it shows itself. A wire that is to be explained was told with why.
+pub record IsVerdictDone (decision : Decision) (purpose : Purpose) (out err : SinkCall) (status : ℕ) : Type 0 where
+  pub verdict : Option Refusal
+  pub shown : IsVerdict decision verdict
+  pub told : IsToldAs (IsVerdictOutcome decision purpose verdict) out err status
+  pub made : status ≡ 0 → HasMade decision purpose out
 
--- What was put on out to explain, where the status is 1.
-abbrev pub HasExplained : SinkCall → SinkCall → Plan → Type 0
-HasExplained out err (Decides decision (Explains form)) =
-    (vector : List Bool) (wire : Sig) → verdict_of decision ≡ Some (Undetermined vector wire) → HasWhy form decision vector wire out err
-HasExplained out err plan = Unit {0}
+-- What two netlists that are told equal have: each run of the first within care and each run of the second, over the same
+-- inputs and from equal latches, have equal outputs and latches by name at each tick, whatever their windows of older reads,
+-- their pasts and their fair schedules are.
+abbrev pub AreToldEqual : Comparison → SinkCall → Type 0
+AreToldEqual c out = RunAlike c.first c.second c.care × Takes out (codes "equal\n")
 
--- A wire was explained.
-abbrev pub ExplainsWire : SinkCall → SinkCall → Plan → Type 0
-ExplainsWire out err (Decides decision (Explains form)) = (vector : List Bool) × ((wire : Sig) × HasWhy form decision vector wire out err)
-ExplainsWire out err plan = ⊥
+-- What is found of two netlists was told, and it shows itself.
+pub record IsComparisonDone (c : Comparison) (out err : SinkCall) (status : ℕ) : Type 0 where
+  pub shown : ShowsItself c.first c.second c.care
+  pub told : IsTold (compared c) out err status
+  pub equal : status ≡ 0 → AreToldEqual c out
+
+-- The plan is at its end, and of this end both hold: what the status says, and what is on out and on err. A plan that reads
+-- on, has a fault or wants memory is at no end.
+abbrev pub IsDoneWith : SinkCall → SinkCall → ℕ → Plan → Type 0
+IsDoneWith out err status (Ends ending) = IsTold (told ending) out err status
+IsDoneWith out err status (Decides decision purpose) = IsVerdictDone decision purpose out err status
+IsDoneWith out err status (Compares c) = IsComparisonDone c out err status
+IsDoneWith out err status plan = ⊥
 
 -- No read failed of a file that is there.
 abbrev pub NoneFailed : ShelfCall → Files → Plan → Type 0
@@ -163,12 +148,11 @@ pub record IsWell (request : Request) (shelf : ShelfCall) (out err : SinkCall) (
   pub writes_out : WriteFailed out → ⊥
   pub writes_err : WriteFailed err → ⊥
 
--- Over files that are told, where no read or write failed, the call gives the answer, or explains a refused wire, or met
--- the limit of nodes, or wants memory.
+-- Over files that are told, where no read or write failed, the call gives an answer, or met the limit of nodes, or wants
+-- memory.
 abbrev pub GivesAnswer : Request → ShelfCall → Arena → SinkCall → SinkCall → ℕ → Type 0
 GivesAnswer request shelf nodes out err status = IfSome shelf.files (λ files. IsWell request shelf out err files
-    → IsTold (answer request files) out err status ⊎ (Reaches (MeetsLimit nodes) request shelf × (status ≡ 6))
-    ⊎ (Reaches (ExplainsWire out err) request shelf × (status ≡ 1)) ⊎ IsTold no_memory out err status)
+    → IsToldAs (IsAnswer request files) out err status ⊎ (Reaches (MeetsLimit nodes) request shelf × (status ≡ 6)) ⊎ IsTold no_memory out err status)
 
 -- The limit of the decision that is next is enough, or that of the comparison, unless a name isn't matched.
 abbrev pub IsEnoughFor : Plan → Type 0
@@ -181,11 +165,10 @@ abbrev pub HasEnoughNodes : Request → ShelfCall → Type 0
 HasEnoughNodes request shelf = IfSome (command_of request.words) (λ command.
     (given : List (List ℕ)) → AreGiven shelf.files given (plan_of request.shows command) → IsEnoughFor (rest_of given (plan_of request.shows command)))
 
--- With enough nodes it gives the answer, or explains a refused wire, or wants memory.
+-- With enough nodes it gives an answer, or wants memory.
 abbrev pub IsComplete : Request → ShelfCall → SinkCall → SinkCall → ℕ → Type 0
 IsComplete request shelf out err status = IfSome shelf.files (λ files. IsWell request shelf out err files
-    → HasEnoughNodes request shelf → IsTold (answer request files) out err status ⊎ (Reaches (ExplainsWire out err) request shelf × (status ≡ 1))
-    ⊎ IsTold no_memory out err status)
+    → HasEnoughNodes request shelf → IsToldAs (IsAnswer request files) out err status ⊎ IsTold no_memory out err status)
 
 -- what the next call may rest on: no count of faults fell
 pub record NoneFell (shelf : ShelfCall) (out err : SinkCall) : Type 0 where

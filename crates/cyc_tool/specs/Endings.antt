@@ -16,7 +16,9 @@ use Rattle.netlist.specs.declared.parts.Parts.{Parts}
 use Rattle.loops.specs.Listed.{first_gates}
 use Rattle.blif_write.specs.Written.{written}
 use Rattle.aig_core.specs.declared.building.Built.{Built}
-use Rattle.aiger_write.specs.Text.{aiger_text}
+use Rattle.aiger_write.specs.Text.{aiger_text, binary_text}
+use Rattle.commands.specs.declared.encoding.Encoding.{Encoding}
+use Rattle.commands.specs.declared.encoding.Encoding.TheVariants.{Ascii, Binary}
 use Rattle.refusals.specs.Refusals.{loose_gates}
 use Rattle.refusals.specs.declared.observe.Observe.{Observe}
 use Rattle.refusals.specs.declared.observe.Observe.TheVariants.{All, Outputs}
@@ -52,16 +54,21 @@ rewritten_told decision =
     then Prints (written (rewritten decision.net decision.care))
     else Outgrows (rewritten_size decision.net decision.care)
 
+-- the text of a netlist's graph, in a form of AIGER
+abbrev pub graph_text : Encoding → Parts → Built → List ℕ
+graph_text Ascii = aiger_text
+graph_text Binary = binary_text
+
 -- a graph of a netlist, unless it has too many ANDs. They aren't counted further than to the first that is too many
-abbrev pub aiger_told : Parts → Built → Ending
-aiger_told net graph =
-    if nat_le (length graph.aig.ands) most_ands then Prints (aiger_text net graph) else Outgrows (most_ands + 1)
+abbrev pub aiger_told : Encoding → Parts → Built → Ending
+aiger_told encoding net graph =
+    if nat_le (length graph.aig.ands) most_ands then Prints (graph_text encoding net graph) else Outgrows (most_ands + 1)
 
 -- that of the rewritten netlist, unless this has too many gates and latches
-abbrev pub graph_told : Decision → Ending
-graph_told decision =
+abbrev pub graph_told : Encoding → Decision → Ending
+graph_told encoding decision =
     if nat_le (rewritten_size decision.net decision.care) MAX_REWRITTEN_ITEMS
-    then aiger_told (rewritten decision.net decision.care) (graph_of decision.net decision.care)
+    then aiger_told encoding (rewritten decision.net decision.care) (graph_of decision.net decision.care)
     else Outgrows (rewritten_size decision.net decision.care)
 
 -- the storm of a vector, unless it has too many events
@@ -93,7 +100,7 @@ wire_explained Dot net v wire why = explanation_graph net (refusal_text net (Und
 abbrev pub accepted_told : Decision → Purpose → Ending
 accepted_told decision Judges = Prints (accepted_text decision.net (count_of_loops decision.net) (loose_told decision))
 accepted_told decision Rewrites = rewritten_told decision
-accepted_told decision WritesGraph = graph_told decision
+accepted_told decision (WritesGraph encoding) = graph_told encoding decision
 accepted_told decision (Explains form) = Prints (loops_explained form decision.net decision.care (loose_told decision))
 accepted_told decision (Demonstrates cells) =
     Prints (ring_line cells decision.net (count_of_loops decision.net) (length (rewritten decision.net decision.care).gates))
@@ -102,14 +109,10 @@ accepted_told decision (Storms rounds) = Declines (accepted_text decision.net (c
 abbrev pub refused_told : Parts → Purpose → Refusal → Ending
 refused_told net Judges refused = Refuses (refusal_text net refused)
 refused_told net Rewrites refused = Declines (refusal_text net refused)
-refused_told net WritesGraph refused = Declines (refusal_text net refused)
+refused_told net (WritesGraph encoding) refused = Declines (refusal_text net refused)
 refused_told net (Explains form) refused = Refuses (refusal_shown form net refused)
 refused_told net (Demonstrates cells) refused = Refuses (refusal_text net refused)
 refused_told net (Storms rounds) refused = storm_or_refusal net rounds refused
-
-abbrev pub ending_of : Decision → Purpose → Option Refusal → Ending
-ending_of decision purpose None = accepted_told decision purpose
-ending_of decision purpose (Some refused) = refused_told decision.net purpose refused
 
 -- what is found of two netlists, which are equal or aren't
 abbrev pub found_told : Bool → List ℕ → Ending

@@ -15,6 +15,7 @@ use Rattle.care_sets.specs.Care.{CareSet}
 use Rattle.refusals.specs.declared.observe.Observe.{Observe}
 use Rattle.refusals.specs.declared.observe.Observe.TheVariants as observe
 use Rattle.commands.specs.Words.{Options, Command, Check, Rewrite, Aiger, Explain, Equal, Flat, Loops, Sim, Delays, Demo, Storm, Help, HelpOn, Version}
+use Rattle.commands.specs.declared.encoding.Encoding.{Encoding}
 use Rattle.commands.specs.declared.form.Form.{Form}
 use Rattle.commands.specs.declared.form.Form.TheVariants.{Lines, Dot}
 use Rattle.parsed_files.specs.CareFiles.{no_care, care_of}
@@ -63,7 +64,7 @@ pub data Purpose : Type 0 where
   -- to write it without loops
   Rewrites : Purpose
   -- to write its and-inverter graph, without loops
-  WritesGraph : Purpose
+  WritesGraph : Encoding → Purpose
   -- to show why a refused wire is undetermined, as lines or as a graph
   Explains : Form → Purpose
   -- to tell that the ring arbiter of so many cells is accepted
@@ -209,7 +210,7 @@ ring_deciding cells = using ring_file (netlist_of (ring_text cells)) (ring_decid
 abbrev pub plan_of : Shows → Command → Plan
 plan_of shows (Check file options) = deciding file options Judges
 plan_of shows (Rewrite file options) = deciding file options Rewrites
-plan_of shows (Aiger file options) = deciding file options WritesGraph
+plan_of shows (Aiger file options encoding) = deciding file options (WritesGraph encoding)
 plan_of shows (Explain file options form) = deciding file options (Explains form)
 plan_of shows (Equal file second options) = comparing file second options
 plan_of shows (Flat file) = flattening file

@@ -6,7 +6,7 @@ use Rattle.netlist.specs.declared.parts.Parts.{Parts}
 use Rattle.aig_core.specs.declared.building.Built.{Built}
 use Rattle.aig_core.specs.declared.fault.AigFault.{AigFault}
 use Rattle.aig_core.specs.declared.fault.AigFault.TheVariants.{TooLarge as ManyAnds, Memory as NoRoom}
-use Rattle.aiger_write.specs.Text.{aiger_text}
+use Rattle.commands.specs.declared.encoding.Encoding.{Encoding}
 use Rattle.blif_write.specs.Written.{written}
 use Rattle.commands.specs.Seen.{cells_seen, rounds_seen}
 use Rattle.commands.specs.declared.form.Form.{Form}
@@ -17,8 +17,7 @@ use Rattle.refusals.specs.declared.refusal.Refusal.TheVariants.{Undetermined}
 use Rattle.cyc_base.specs.declared.trit.Trit.TheVariants.{X}
 use Rattle.cyc_base.specs.Values.{bits}
 use Rattle.netlist.specs.Fixpoint.{fix, wire as wire_of}
-use Rattle.cyc_tool.specs.Calls.{IsWireExplained}
-use Rattle.cyc_tool.specs.Endings.{refused_told}
+use Rattle.cyc_tool.specs.Endings.{graph_text, refused_told}
 use Rattle.unroll.specs.declared.fault.UnrollFault.{UnrollFault}
 use Rattle.unroll.specs.declared.fault.UnrollFault.TheVariants.{TooLarge, Memory as NoMemory}
 use Rattle.rewriting.specs.Graphs.{most_ands}
@@ -26,13 +25,19 @@ use Rattle.equal.specs.declared.fault.EqualFault.{EqualFault}
 use Rattle.equal.specs.declared.fault.EqualFault.TheVariants.{NodeLimit as PairLimit, Memory as NoPair}
 use Rattle.verdict.specs.declared.fault.DecideFault.{DecideFault}
 use Rattle.verdict.specs.declared.fault.DecideFault.TheVariants.{NodeLimit, Memory as NoNodes}
+use Rattle.verdict.specs.declared.judgement.Judgement.{Judgement}
+use Rattle.verdict.specs.declared.judgement.Judgement.TheVariants as judgements
 use Rattle.verdict.specs.declared.verdict.Verdict.{Verdict}
 use Rattle.verdict.specs.declared.verdict.Verdict.TheVariants.{Accepted, Refused}
-use Rattle.cyc_tool.specs.Answer.{told as done}
+use Rattle.cyc_tool.specs.Answer.{told as done, IsWireExplained}
 use Rattle.cyc_tool.specs.Plans as plans
 use Rattle.cyc_tool.specs.Texts as texts
+use Rattle.cyc_tool.specs.declared.decision.Making.{Making}
+use Rattle.cyc_tool.specs.declared.decision.Making.TheVariants.{Rewrite, Aiger, Explain, Demonstrate}
 use Rattle.cyc_tool.specs.declared.decision.Purpose.{Purpose}
-use Rattle.cyc_tool.specs.declared.decision.Purpose.TheVariants.{Judge, Rewrite, Aiger, Explain, Demonstrate, Storm}
+use Rattle.cyc_tool.specs.declared.decision.Purpose.TheVariants.{Tell, Make}
+use Rattle.cyc_tool.specs.declared.decision.Telling.{Telling}
+use Rattle.cyc_tool.specs.declared.decision.Telling.TheVariants.{Judge, Storm}
 use Rattle.cyc_tool.specs.declared.outcome.Outcome.{Outcome}
 use Rattle.cyc_tool.specs.declared.outcome.Stop.{Stop}
 use Rattle.cyc_tool.specs.declared.outcome.Stop.TheVariants.{At, Memory}
@@ -40,13 +45,19 @@ use Rattle.cyc_tool.specs.declared.outcome.Stop.TheVariants.{At, Memory}
 abbrev pub outcome_of : Outcome → texts.Outcome
 outcome_of told = record { status = told.status; out = told.out.items; err = told.err.items }
 
+abbrev pub telling_seen : Telling → plans.Purpose
+telling_seen Judge = plans.Judges
+telling_seen (Storm rounds) = plans.Storms (rounds_seen rounds)
+
+abbrev pub making_seen : Making → plans.Purpose
+making_seen Rewrite = plans.Rewrites
+making_seen (Aiger encoding) = plans.WritesGraph encoding
+making_seen (Explain form) = plans.Explains form
+making_seen (Demonstrate cells) = plans.Demonstrates (cells_seen cells)
+
 abbrev pub purpose_seen : Purpose → plans.Purpose
-purpose_seen Judge = plans.Judges
-purpose_seen Rewrite = plans.Rewrites
-purpose_seen Aiger = plans.WritesGraph
-purpose_seen (Explain form) = plans.Explains form
-purpose_seen (Demonstrate cells) = plans.Demonstrates (cells_seen cells)
-purpose_seen (Storm rounds) = plans.Storms (rounds_seen rounds)
+purpose_seen (Tell telling) = telling_seen telling
+purpose_seen (Make making) = making_seen making
 
 -- what is told of a netlist that isn't made: its size
 abbrev pub IsOutgrown : UnrollFault → Outcome → Type 0
@@ -64,9 +75,9 @@ IsOverfull ManyAnds told = outcome_of told ≡ done (plans.Outgrows (most_ands +
 IsOverfull NoRoom told = ⊥
 
 -- what is told of the graph of a netlist: its text, or that number
-abbrev pub IsToldOfGraph : Parts → Result Built AigFault → Outcome → Type 0
-IsToldOfGraph other (Ok graph) told = outcome_of told ≡ done (plans.Prints (aiger_text other graph))
-IsToldOfGraph other (Err fault) told = IsOverfull fault told
+abbrev pub IsToldOfGraph : Encoding → Parts → Result Built AigFault → Outcome → Type 0
+IsToldOfGraph encoding other (Ok graph) told = outcome_of told ≡ done (plans.Prints (graph_text encoding other graph))
+IsToldOfGraph encoding other (Err fault) told = IsOverfull fault told
 
 -- what is told of a refusal to explain it: a wire that is undetermined at the vector is told with why
 abbrev pub IsRefusalExplained : Form → Parts → Refusal → texts.Outcome → Type 0
@@ -93,11 +104,19 @@ abbrev pub IsShown : Parts → Refusal → Type 0
 IsShown net (Undetermined v wire) = wire_of (fix net (bits v)) wire ≡ X
 IsShown net refused = Unit {0}
 
--- a verdict that can be told of a netlist: there is a number of sweeps for each block, or its refusal has the netlist's
--- widths and a wire that is unknown
+-- a refusal that can be told of a netlist: it has the netlist's widths and a wire that is unknown
+abbrev pub IsToldRefusal : Parts → Refusal → Type 0
+IsToldRefusal net refused = IsRefusalOf net refused × IsShown net refused
+
+-- a judgement that can be
+abbrev pub IsSaid : Parts → Judgement → Type 0
+IsSaid net (judgements.Accepted loose) = Unit {0}
+IsSaid net (judgements.Refused refused) = IsToldRefusal net refused
+
+-- a verdict that can be: there is a number of sweeps for each block
 abbrev pub IsTellable : Parts → Blocks → Verdict → Type 0
 IsTellable net blocks (Accepted counts loose) = length counts.per_block ≡ length blocks.list
-IsTellable net blocks (Refused refused) = IsRefusalOf net refused × IsShown net refused
+IsTellable net blocks (Refused refused) = IsToldRefusal net refused
 
 -- want of memory
 abbrev pub no_memory : Stop

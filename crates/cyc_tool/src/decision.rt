@@ -15,12 +15,12 @@ ghost use Rattle.refusals.specs.Refusals.{IsRefusalOf};
 ghost use Rattle.refusals.specs.declared.observe.Observe.{Observe as Observed};
 ghost use Rattle.report.specs.Verdicts.{accepted_text, ring_line};
 ghost use Rattle.rewriting.specs.Rewriting.{rewritten as rewritten_netlist, rewritten_size as rewritten_size_of, IsRewriting};
-ghost use Rattle.verdict.specs.Verdicts.{AreSweepsOnCare, IsAcceptance, IsVerdict};
+ghost use Rattle.verdict.specs.Verdicts.{AreLoose, AreSweepsOnCare, IsAcceptance, IsJudgement, IsVerdict};
 ghost use Rattle.cyc_tool.specs.Answer.{told as done};
 ghost use Rattle.cyc_tool.specs.Calls.{IsAccepted, IsDecided};
 ghost use Rattle.cyc_tool.specs.Endings.{count_of_loops, where_outputs};
 ghost use Rattle.cyc_tool.specs.Plans.{Declines, Prints, Rewrites, WritesGraph};
-ghost use Rattle.cyc_tool.specs.Seen.{IsLimitOf, IsOutgrown, IsOverfull, IsRefusalTold, IsShown, IsTellable, IsToldOf, IsToldOfGraph, outcome_of, purpose_seen};
+ghost use Rattle.cyc_tool.specs.Seen.{IsLimitOf, IsOutgrown, IsOverfull, IsRefusalTold, IsSaid, IsShown, IsTellable, IsToldOf, IsToldOfGraph, making_seen, outcome_of, purpose_seen, telling_seen};
 
 use crate::explained::{tell_explained, tell_loops_explained};
 use crate::outcome::Outcome;
@@ -32,7 +32,7 @@ use crate::texts::{
 };
 use bdd_ops::Diagrams;
 use care_sets::Care;
-use commands::{Cells, Form, Rounds};
+use commands::{Cells, Encoding, Form, Rounds};
 use cyc_io::TextSink;
 use fixpoint::SweepCounts;
 use loops::{LoopedNetlist, find_blocks, find_cut};
@@ -42,26 +42,38 @@ use report::put_ring;
 use rewriting::{AigFault, Built, graph, rewrite, rewritten_gates};
 use std::alloc::{AllocError, Global};
 use unroll::UnrollFault;
-use verdict::{DecideFault, Verdict, decide};
+use verdict::{DecideFault, Judgement, Verdict, decide, judge};
 
 // The first number of ANDs that a graph can't have.
 const TOO_MANY_ANDS: u64 = 4_000_001;
 
-// What a netlist is decided for.
+// What a netlist is judged for: its verdict says all.
 #[derive(Clone, Copy, Drop)]
-pub(crate) enum Purpose {
+pub(crate) enum Telling {
     // To tell the verdict.
     Judge,
+    // To write a schedule of so many rounds on which a refused wire never rests.
+    Storm(Rounds),
+}
+
+// What a netlist is decided for whose sweeps are wanted, where it is accepted.
+#[derive(Clone, Copy, Drop)]
+pub(crate) enum Making {
     // To write it without loops.
     Rewrite,
-    // To write its and-inverter graph, without loops.
-    Aiger,
-    // To show why a refused wire is undetermined.
+    // To write its and-inverter graph, without loops, in a form of AIGER.
+    Aiger(Encoding),
+    // To show why a refused wire is undetermined, or what loops an accepted netlist has.
     Explain(Form),
     // To tell that the ring arbiter of so many cells is accepted.
     Demonstrate(Cells),
-    // To write a schedule of so many rounds on which a refused wire never rests.
-    Storm(Rounds),
+}
+
+// What a verdict is wanted for.
+#[derive(Clone, Copy, Drop)]
+pub(crate) enum Purpose {
+    Tell(Telling),
+    Make(Making),
 }
 
 // What is asked of a decision.
@@ -159,26 +171,27 @@ fn tell_graph(
     alloc: Global,
     other: &Netlist,
     graph: &Result<Built, AigFault>,
+    encoding: Encoding,
 ) -> Result<Outcome, AllocError>
     requires { IfOk graph.now (FitsNetlist other.now) }
-    ensures { IfOk result (λ told. IsToldOfGraph other.now graph.now told) }
+    ensures { IfOk result (λ told. IsToldOfGraph encoding other.now graph.now told) }
 {
     match graph {
-        Ok(graph) => tell_aiger(alloc, other, graph),
+        Ok(graph) => tell_aiger(alloc, other, graph, encoding),
         Err(fault) => tell_overfull(alloc, fault),
     }
 }
 
 // Makes the graph of a netlist without loops, and tells what comes of it.
-fn tell_graph_of(alloc: Global, other: &Netlist) -> Result<Outcome, AllocError>
+fn tell_graph_of(alloc: Global, other: &Netlist, encoding: Encoding) -> Result<Outcome, AllocError>
     requires loop_free { IsLoopFree other.now }
     requires columns { columns other.now ≤ 1000000000 }
     ensures { IfOk result (λ told. (net : Parts) (care : CareSet) (observe : Observed) (limit : ℕ) → IsNetlist net → Accepts net care observe →
         rewritten_size_of net care ≤ 4000000 → IsRewriting net care other.now →
-        IsAccepted record { net = net; care = care; limit = limit; observe = observe } WritesGraph (outcome_of told)) }
+        IsAccepted record { net = net; care = care; limit = limit; observe = observe } (WritesGraph encoding) (outcome_of told)) }
 {
     let made = graph(alloc, other);
-    tell_graph(alloc, other, &made)
+    tell_graph(alloc, other, &made, encoding)
 }
 
 // Rewrites an accepted netlist, and tells what comes of its graph.
@@ -186,17 +199,18 @@ fn tell_graphed(
     alloc: Global,
     looped: &LoopedNetlist<'_>,
     sweeps: &SweepCounts,
+    encoding: Encoding,
 ) -> Result<Outcome, AllocError>
     requires valid { IsNetlist looped.now.net }
     requires sweeps { length sweeps.now.per_block ≡ length looped.now.blocks.list }
     requires columns { columns looped.now.net ≤ 1000000000 }
     ensures { IfOk result (λ told. (care : CareSet) (observe : Observed) (limit : ℕ) → Accepts looped.now.net care observe →
         AreSweepsOnCare looped.now.net looped.now.blocks looped.now.cut care sweeps.now →
-        IsAccepted record { net = looped.now.net; care = care; limit = limit; observe = observe } WritesGraph (outcome_of told)) }
+        IsAccepted record { net = looped.now.net; care = care; limit = limit; observe = observe } (WritesGraph encoding) (outcome_of told)) }
 {
     let rewriting = rewrite(alloc, looped, sweeps);
     match &rewriting {
-        Ok(other) => tell_graph_of(alloc, other),
+        Ok(other) => tell_graph_of(alloc, other, encoding),
         Err(fault) => tell_outgrown(alloc, fault),
     }
 }
@@ -240,33 +254,86 @@ fn tell_ring(
     }
 }
 
-// What is told of an accepted netlist.
+// What is told of an accepted netlist whose verdict says all.
+fn tell_accepted_for(
+    alloc: Global,
+    looped: &LoopedNetlist<'_>,
+    observe: Observe,
+    telling: Telling,
+    loose: u32,
+) -> Result<Outcome, AllocError>
+    ensures { IfOk result (λ told. (care : CareSet) → AreLoose looped.now.net care loose → (limit : ℕ) →
+        IsAccepted record { net = looped.now.net; care = care; limit = limit; observe = observe } (telling_seen telling) (outcome_of told)) }
+{
+    let number = loose_told(observe, loose);
+    match telling {
+        Telling::Judge => tell_accepted(alloc, looped, number),
+        Telling::Storm(_) => tell_no_storm(alloc, looped, number),
+    }
+}
+
+// What is told of a refused one.
+fn tell_refused_for(
+    alloc: Global,
+    net: &Netlist,
+    telling: Telling,
+    refusal: &Refusal,
+) -> Result<Outcome, AllocError>
+    requires fits { IsRefusalOf net.now refusal.now }
+    requires shown { IsShown net.now refusal.now }
+    ensures { IfOk result (λ told. IsRefusalTold net.now (telling_seen telling) refusal.now (outcome_of told)) }
+{
+    match telling {
+        Telling::Judge => tell_refused(alloc, net, refusal),
+        Telling::Storm(rounds) => tell_storm(alloc, net, refusal, rounds),
+    }
+}
+
+// What is told of a judgement.
+fn tell_judgement(
+    alloc: Global,
+    looped: &LoopedNetlist<'_>,
+    observe: Observe,
+    telling: Telling,
+    judgement: &Judgement,
+) -> Result<Outcome, AllocError>
+    requires valid { IsNetlist looped.now.net }
+    requires fits { IsSaid looped.now.net judgement.now }
+    ensures { IfOk result (λ told. (care : CareSet) → IsJudgement looped.now.net care observe judgement.now → (limit : ℕ) (nodes : Arena) →
+        IsDecided record { net = looped.now.net; care = care; limit = limit; observe = observe } (telling_seen telling) nodes (outcome_of told)) }
+{
+    match judgement {
+        Judgement::Accepted { loose } => tell_accepted_for(alloc, looped, observe, telling, *loose),
+        Judgement::Refused(refusal) => tell_refused_for(alloc, looped.net(), telling, refusal),
+    }
+}
+
+// What is told of an accepted netlist of which something is made.
 fn tell_acceptance(
     alloc: Global,
     looped: &LoopedNetlist<'_>,
-    task: Task,
+    observe: Observe,
+    making: Making,
     sweeps: &SweepCounts,
     loose: u32,
 ) -> Result<Outcome, AllocError>
     requires valid { IsNetlist looped.now.net }
     requires sweeps { length sweeps.now.per_block ≡ length looped.now.blocks.list }
     requires columns { columns looped.now.net ≤ 1000000000 }
-    ensures { IfOk result (λ told. (care : CareSet) → IsAcceptance looped.now.net looped.now.blocks looped.now.cut care task.observe sweeps.now loose → (limit : ℕ) →
-        IsAccepted record { net = looped.now.net; care = care; limit = limit; observe = task.observe } (purpose_seen task.purpose) (outcome_of told)) }
+    ensures { IfOk result (λ told. (care : CareSet) → IsAcceptance looped.now.net looped.now.blocks looped.now.cut care observe sweeps.now loose → (limit : ℕ) →
+        IsAccepted record { net = looped.now.net; care = care; limit = limit; observe = observe } (making_seen making) (outcome_of told)) }
 {
-    match task.purpose {
-        Purpose::Judge => tell_accepted(alloc, looped, loose_told(task.observe, loose)),
-        Purpose::Rewrite => tell_rewritten(alloc, looped, sweeps),
-        Purpose::Aiger => tell_graphed(alloc, looped, sweeps),
-        Purpose::Explain(form) => {
-            let number = loose_told(task.observe, loose);
+    match making {
+        Making::Rewrite => tell_rewritten(alloc, looped, sweeps),
+        Making::Aiger(encoding) => tell_graphed(alloc, looped, sweeps, encoding),
+        Making::Explain(form) => {
+            let number = loose_told(observe, loose);
             tell_loops_explained(alloc, looped, sweeps, number, form)
         }
-        Purpose::Demonstrate(cells) => {
+        Making::Demonstrate(cells) => {
             let rewritten = count_rewritten(alloc, looped, sweeps)?;
             tell_ring(alloc, cells, looped, rewritten)
         }
-        Purpose::Storm(_) => tell_no_storm(alloc, looped, loose_told(task.observe, loose)),
     }
 }
 
@@ -274,20 +341,18 @@ fn tell_acceptance(
 fn tell_refusal(
     alloc: Global,
     looped: &LoopedNetlist<'_>,
-    purpose: Purpose,
+    making: Making,
     refusal: &Refusal,
 ) -> Result<Outcome, AllocError>
     requires valid { IsNetlist looped.now.net }
     requires fits { IsRefusalOf looped.now.net refusal.now }
-    requires shown { IsShown looped.now.net refusal.now }
-    ensures { IfOk result (λ told. IsRefusalTold looped.now.net (purpose_seen purpose) refusal.now (outcome_of told)) }
+    ensures { IfOk result (λ told. IsRefusalTold looped.now.net (making_seen making) refusal.now (outcome_of told)) }
 {
     let net = looped.net();
-    match purpose {
-        Purpose::Judge | Purpose::Demonstrate(_) => tell_refused(alloc, net, refusal),
-        Purpose::Rewrite | Purpose::Aiger => tell_declined(alloc, net, refusal),
-        Purpose::Explain(form) => tell_explained(alloc, looped, refusal, form),
-        Purpose::Storm(rounds) => tell_storm(alloc, net, refusal, rounds),
+    match making {
+        Making::Rewrite | Making::Aiger(_) => tell_declined(alloc, net, refusal),
+        Making::Explain(form) => tell_explained(alloc, looped, refusal, form),
+        Making::Demonstrate(_) => tell_refused(alloc, net, refusal),
     }
 }
 
@@ -295,18 +360,21 @@ fn tell_refusal(
 fn tell_verdict(
     alloc: Global,
     looped: &LoopedNetlist<'_>,
-    task: Task,
+    observe: Observe,
+    making: Making,
     verdict: &Verdict,
 ) -> Result<Outcome, AllocError>
     requires valid { IsNetlist looped.now.net }
     requires columns { columns looped.now.net ≤ 1000000000 }
     requires fits { IsTellable looped.now.net looped.now.blocks verdict.now }
-    ensures { IfOk result (λ told. (care : CareSet) → IsVerdict looped.now.net looped.now.blocks looped.now.cut care task.observe verdict.now → (limit : ℕ) (nodes : Arena) →
-        IsDecided record { net = looped.now.net; care = care; limit = limit; observe = task.observe } (purpose_seen task.purpose) nodes (outcome_of told)) }
+    ensures { IfOk result (λ told. (care : CareSet) → IsVerdict looped.now.net looped.now.blocks looped.now.cut care observe verdict.now → (limit : ℕ) (nodes : Arena) →
+        IsDecided record { net = looped.now.net; care = care; limit = limit; observe = observe } (making_seen making) nodes (outcome_of told)) }
 {
     match verdict {
-        Verdict::Accepted { sweeps, loose } => tell_acceptance(alloc, looped, task, sweeps, *loose),
-        Verdict::Refused(refusal) => tell_refusal(alloc, looped, task.purpose, refusal),
+        Verdict::Accepted { sweeps, loose } => {
+            tell_acceptance(alloc, looped, observe, making, sweeps, *loose)
+        }
+        Verdict::Refused(refusal) => tell_refusal(alloc, looped, making, refusal),
     }
 }
 
@@ -320,7 +388,59 @@ fn tell_limited(alloc: Global, fault: &DecideFault) -> Result<Outcome, AllocErro
     }
 }
 
+// Judges a netlist on its care set, and tells of it what is wanted.
+fn tell_judged(
+    alloc: Global,
+    looped: &LoopedNetlist<'_>,
+    care: &Care,
+    task: Task,
+    telling: Telling,
+    d: &mut Diagrams,
+) -> Result<Outcome, AllocError>
+    requires valid { IsNetlist looped.now.net }
+    requires care { IsCareOf looped.now.net care.now }
+    requires limit { task.limit ≤ most_nodes }
+    ensures { IfOk result (λ told. IsDecided record { net = looped.now.net; care = care.now; limit = task.limit; observe = task.observe }
+        (telling_seen telling) d.new (outcome_of told)) }
+{
+    let net = looped.net();
+    let blocks = looped.blocks();
+    let cut = looped.cut();
+    let judged = judge(alloc, d, net, blocks, cut, care, task.limit, task.observe);
+    match &judged {
+        Ok(judgement) => tell_judgement(alloc, looped, task.observe, telling, judgement),
+        Err(fault) => tell_limited(alloc, fault),
+    }
+}
+
 // Decides a netlist on its care set, and tells of it what is wanted.
+fn tell_decided(
+    alloc: Global,
+    looped: &LoopedNetlist<'_>,
+    care: &Care,
+    task: Task,
+    making: Making,
+    d: &mut Diagrams,
+) -> Result<Outcome, AllocError>
+    requires valid { IsNetlist looped.now.net }
+    requires columns { columns looped.now.net ≤ 1000000000 }
+    requires care { IsCareOf looped.now.net care.now }
+    requires limit { task.limit ≤ most_nodes }
+    ensures { IfOk result (λ told. IsDecided record { net = looped.now.net; care = care.now; limit = task.limit; observe = task.observe }
+        (making_seen making) d.new (outcome_of told)) }
+{
+    let net = looped.net();
+    let blocks = looped.blocks();
+    let cut = looped.cut();
+    let decision = decide(alloc, d, net, blocks, cut, care, task.limit, task.observe);
+    match &decision {
+        Ok(verdict) => tell_verdict(alloc, looped, task.observe, making, verdict),
+        Err(fault) => tell_limited(alloc, fault),
+    }
+}
+
+// Finds the verdict of a netlist on its care set, and tells of it what is wanted. The sweeps of loops are counted where
+// something is made of them.
 pub(crate) fn tell_decision(
     alloc: Global,
     net: &Netlist,
@@ -338,9 +458,8 @@ pub(crate) fn tell_decision(
     let blocks = find_blocks(alloc, net)?;
     let cut = find_cut(alloc, net, &blocks)?;
     let looped = LoopedNetlist::new(net, &blocks, &cut);
-    let decision = decide(alloc, d, net, &blocks, &cut, care, task.limit, task.observe);
-    match &decision {
-        Ok(verdict) => tell_verdict(alloc, &looped, task, verdict),
-        Err(fault) => tell_limited(alloc, fault),
+    match task.purpose {
+        Purpose::Tell(telling) => tell_judged(alloc, &looped, care, task, telling, d),
+        Purpose::Make(making) => tell_decided(alloc, &looped, care, task, making, d),
     }
 }

@@ -1,7 +1,7 @@
 //! The tool over any shelf and any sinks: from words and files to a status and two texts.
 //!
 //! It stands on what reads files, decides, compares, plays and rewrites. The program uses `run`, whose clause `runs`
-//! says that the call gives the answer of its words (`specs/Answer.antt`) at what the shelf gave, met the limit of
+//! says that the call gives an answer of its words (`specs/Answer.antt`) at what the shelf gave, met the limit of
 //! nodes, wants memory, or that a read or a write failed.
 #![tactic(auto)]
 

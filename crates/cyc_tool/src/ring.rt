@@ -12,7 +12,7 @@ ghost use Rattle.cyc_tool.specs.Plans.{ring_care_file, ring_deciding, ring_decid
 ghost use Rattle.cyc_tool.specs.Reading.{FollowsStill, IsStoppedBy};
 ghost use Rattle.cyc_tool.specs.Seen.{end_of, stop_outcome};
 
-use crate::decision::{Purpose, Task, tell_decision};
+use crate::decision::{Making, Purpose, Task, tell_decision};
 use crate::outcome::{Outcome, Stop, or_stop};
 use crate::reading::stop_at;
 use bdd_ops::Diagrams;
@@ -77,7 +77,7 @@ fn decide_ring_on(
     let task = Task {
         limit: DEFAULT_NODES,
         observe: Observe::All,
-        purpose: Purpose::Demonstrate(cells),
+        purpose: Purpose::Make(Making::Demonstrate(cells)),
     };
     or_stop(tell_decision(alloc, net, &care, task, d))
 }

@@ -4,14 +4,14 @@ ghost use Rattle.cyc_io.specs.Text.{text_bytes};
 ghost use Rattle.parsed_files.specs.Seen.{fault_seen};
 ghost use Rattle.delay_core.specs.declared.plan.TickEnd.{TickEnd as TickEnded};
 ghost use Rattle.cyc_tool.specs.Answer.{told as done};
-ghost use Rattle.cyc_tool.specs.Endings.{count_of_loops};
+ghost use Rattle.cyc_tool.specs.Endings.{count_of_loops, graph_text};
 ghost use Rattle.cyc_tool.specs.Plans.{Declines, Outgrows, Prints, Refuses, loops_shown, probed_told};
 ghost use Rattle.cyc_tool.specs.Plays.{delays_text};
 ghost use Rattle.cyc_tool.specs.Seen.{outcome_of};
 ghost use Rattle.cyc_tool.specs.Simulation.{sim_text};
 ghost use Rattle.cyc_tool.specs.Texts.{has_fault, limit_reached, on_both as both_of, on_err as err_of, on_out as out_of, read_failed, usage};
 ghost use Rattle.aig_core.specs.Answers.{FitsNetlist};
-ghost use Rattle.aiger_write.specs.Text.{aiger_text};
+ghost use Rattle.aiger_write.specs.Text.{aiger_text, binary_text};
 ghost use Rattle.blif_write.specs.Written.{written};
 ghost use Rattle.refusals.specs.Refusals.{IsRefusalOf};
 ghost use Rattle.report.specs.Help.{help_text, topic_text, version_text};
@@ -22,9 +22,9 @@ use crate::outcome::Outcome;
 use crate::plays::end_lines;
 use crate::sim_lines::simulate;
 use crate::status;
-use aiger_write::write as write_aiger;
+use aiger_write::{write as write_ascii, write_binary};
 use blif_write::write;
-use commands::{Form, Topic};
+use commands::{Encoding, Form, Topic};
 use cyc_base::{Name, Trits};
 use cyc_io::{Failed, TextSink};
 use delay_core::TickEnd;
@@ -231,13 +231,34 @@ pub(crate) fn tell_netlist(alloc: Global, net: &Netlist) -> Result<Outcome, Allo
     }
 }
 
-// A graph of a netlist as a text.
-pub(crate) fn tell_aiger(alloc: Global, net: &Netlist, graph: &Built) -> Result<Outcome, AllocError>
+// Appends the graph of a netlist in this form.
+fn put_graph(
+    net: &Netlist,
+    graph: &Built,
+    encoding: Encoding,
+    sink: &mut TextSink,
+) -> Result<(), Failed>
     requires { FitsNetlist net.now graph.now }
-    ensures { IfOk result (λ told. outcome_of told ≡ done (Prints (aiger_text net.now graph.now))) }
+    ensures { OnOk result (text_bytes sink.new ≡ text_bytes sink.old ++ graph_text encoding net.now graph.now) }
+{
+    match encoding {
+        Encoding::Ascii => write_ascii(net, graph, sink),
+        Encoding::Binary => write_binary(net, graph, sink),
+    }
+}
+
+// A graph of a netlist as a text.
+pub(crate) fn tell_aiger(
+    alloc: Global,
+    net: &Netlist,
+    graph: &Built,
+    encoding: Encoding,
+) -> Result<Outcome, AllocError>
+    requires { FitsNetlist net.now graph.now }
+    ensures { IfOk result (λ told. outcome_of told ≡ done (Prints (graph_text encoding net.now graph.now))) }
 {
     let mut sink = TextSink::new(alloc);
-    match write_aiger(net, graph, &mut sink) {
+    match put_graph(net, graph, encoding, &mut sink) {
         Ok(()) => Ok(on_out(alloc, status::DONE, sink.into_vec())),
         Err(_) => Err(AllocError),
     }

@@ -5,7 +5,7 @@ ghost use Rattle.commands.specs.Words.{command_of};
 ghost use Rattle.delay_core.specs.Changes.{changes};
 ghost use Rattle.sched_text.specs.Fitting.{FitsNetlist};
 ghost use Rattle.cyc_tool.specs.Calls.{shelf_call, sink_call, ComesTo, Follows, KeepsNodes, Tells, Runs, WriteFailed};
-ghost use Rattle.cyc_tool.specs.Causes.{GivesAnswer, HasCompared, HasExplained, HasGraph, HasRewritten, HasStormed, IsComplete, IsDoneWith, IsFaulty, IsHelpedBy, IsUnread, IsWithoutCommand, MeetsLimit, NoneFell, Reaches};
+ghost use Rattle.cyc_tool.specs.Causes.{GivesAnswer, IsComplete, IsDoneWith, IsFaulty, IsHelpedBy, IsUnread, IsWithoutCommand, MeetsLimit, NoneFell, Reaches};
 ghost use Rattle.cyc_tool.specs.Hearing.{HearCommand, HearPlay, HearRun};
 ghost use Rattle.cyc_tool.specs.Plays.{AreInputs};
 ghost use Rattle.cyc_tool.specs.Plans.{deciding, finding_loops, flattening, play_on, playing, replaying, simulating};
@@ -14,7 +14,7 @@ ghost use Rattle.cyc_tool.specs.Requests.{Shows, request, shown_by};
 ghost use Rattle.cyc_tool.specs.Seen.{end_of, outcome_of, purpose_seen, stop_outcome};
 
 use crate::compared::compare_files;
-use crate::decision::{Purpose, Task, tell_decision};
+use crate::decision::{Making, Purpose, Task, Telling, tell_decision};
 use crate::outcome::{Outcome, Stop, or_stop};
 use crate::plays::{RecordedRun, known, played, probed};
 use crate::reading::{read_care, read_netlist, read_schedule_file, read_vector_file, stop_at};
@@ -220,16 +220,44 @@ fn carry_out<S: Shelf>(
     };
     match command {
         Command::Check(netlist, options) => {
-            decide_file(alloc, shelf, netlist, options, Purpose::Judge, d)
+            decide_file(
+                alloc,
+                shelf,
+                netlist,
+                options,
+                Purpose::Tell(Telling::Judge),
+                d,
+            )
         }
         Command::Rewrite(netlist, options) => {
-            decide_file(alloc, shelf, netlist, options, Purpose::Rewrite, d)
+            decide_file(
+                alloc,
+                shelf,
+                netlist,
+                options,
+                Purpose::Make(Making::Rewrite),
+                d,
+            )
         }
-        Command::Aiger(netlist, options) => {
-            decide_file(alloc, shelf, netlist, options, Purpose::Aiger, d)
+        Command::Aiger(netlist, options, encoding) => {
+            decide_file(
+                alloc,
+                shelf,
+                netlist,
+                options,
+                Purpose::Make(Making::Aiger(encoding)),
+                d,
+            )
         }
         Command::Explain(netlist, options, form) => {
-            decide_file(alloc, shelf, netlist, options, Purpose::Explain(form), d)
+            decide_file(
+                alloc,
+                shelf,
+                netlist,
+                options,
+                Purpose::Make(Making::Explain(form)),
+                d,
+            )
         }
         Command::Equal(netlist, second, options) => {
             compare_files(alloc, shelf, netlist, second, options, d)
@@ -248,7 +276,14 @@ fn carry_out<S: Shelf>(
         }
         Command::Demo(cells) => demo(alloc, cells, d),
         Command::Storm(netlist, rounds, options) => {
-            decide_file(alloc, shelf, netlist, options, Purpose::Storm(rounds), d)
+            decide_file(
+                alloc,
+                shelf,
+                netlist,
+                options,
+                Purpose::Tell(Telling::Storm(rounds)),
+                d,
+            )
         }
         Command::Help => or_stop(tell_help(alloc)),
         Command::HelpOn(topic) => or_stop(tell_topic(alloc, topic)),
@@ -355,21 +390,13 @@ pub fn run<S: Shelf, O: Sink, E: Sink>(
     ensures limited { result ≡ 6
         → Reaches (MeetsLimit d.new) (request kind text words.now probes.items) (shelf_call S.files S.faults shelf.old shelf.new) }
     ensures done { result ≡ 0
-        → Reaches (IsDoneWith 0) (request kind text words.now probes.items) (shelf_call S.files S.faults shelf.old shelf.new) }
+        → Reaches (IsDoneWith (sink_call O.put O.faults out.old out.new) (sink_call E.put E.faults err.old err.new) 0)
+        (request kind text words.now probes.items) (shelf_call S.files S.faults shelf.old shelf.new) }
     ensures refused { result ≡ 1
-        → Reaches (IsDoneWith 1) (request kind text words.now probes.items) (shelf_call S.files S.faults shelf.old shelf.new) }
+        → Reaches (IsDoneWith (sink_call O.put O.faults out.old out.new) (sink_call E.put E.faults err.old err.new) 1)
+        (request kind text words.now probes.items) (shelf_call S.files S.faults shelf.old shelf.new) }
     ensures outgrown { result ≡ 8
-        → Reaches (IsDoneWith 8) (request kind text words.now probes.items) (shelf_call S.files S.faults shelf.old shelf.new) }
-    ensures stormed { result ≡ 0
-        → Reaches (HasStormed (sink_call O.put O.faults out.old out.new)) (request kind text words.now probes.items) (shelf_call S.files S.faults shelf.old shelf.new) }
-    ensures rewritten { result ≡ 0
-        → Reaches (HasRewritten (sink_call O.put O.faults out.old out.new)) (request kind text words.now probes.items) (shelf_call S.files S.faults shelf.old shelf.new) }
-    ensures graphed { result ≡ 0
-        → Reaches (HasGraph (sink_call O.put O.faults out.old out.new)) (request kind text words.now probes.items) (shelf_call S.files S.faults shelf.old shelf.new) }
-    ensures compared { result ≡ 0
-        → Reaches (HasCompared (sink_call O.put O.faults out.old out.new)) (request kind text words.now probes.items) (shelf_call S.files S.faults shelf.old shelf.new) }
-    ensures explained { result ≡ 1
-        → Reaches (HasExplained (sink_call O.put O.faults out.old out.new) (sink_call E.put E.faults err.old err.new))
+        → Reaches (IsDoneWith (sink_call O.put O.faults out.old out.new) (sink_call E.put E.faults err.old err.new) 8)
         (request kind text words.now probes.items) (shelf_call S.files S.faults shelf.old shelf.new) }
 
     // What follows where the files are told.

@@ -6,12 +6,9 @@ use Rattle.netlist.specs.Faults.{first_there}
 use Rattle.refusals.specs.declared.observe.Observe.TheVariants as observe
 use Rattle.refusals.specs.Acceptance.{Accepts}
 use Rattle.refusals.proofs.FirstLemmas.{found_wide}
-use Rattle.loops.specs.declared.structure.Blocks.{Blocks}
-use Rattle.loops.specs.declared.structure.Cut.{Cut}
-use Rattle.loops.specs.declared.structure.SweepCounts.{SweepCounts}
-use Rattle.verdict.specs.declared.verdict.Verdict.{Verdict}
-use Rattle.verdict.specs.declared.verdict.Verdict.TheVariants.{Accepted, Refused}
-use Rattle.verdict.specs.Verdicts.{IsAcceptance, IsVerdict}
+use Rattle.verdict.specs.declared.judgement.Judgement.{Judgement}
+use Rattle.verdict.specs.declared.judgement.Judgement.TheVariants.{Accepted, Refused}
+use Rattle.verdict.specs.Verdicts.{IsJudgement}
 use Rattle.equal.specs.declared.least.Early.TheVariants.{Found}
 use Rattle.equal.specs.declared.answer.Answer.TheVariants.{Equal, Unmatched, First, Second}
 use Rattle.equal.specs.declared.fault.EqualFault.{EqualFault}
@@ -20,7 +17,7 @@ use Rattle.equal.proofs.MatchLemmas.{matched, length-by_name, length-table, care
 use Rattle.equal.proofs.JoinLemmas.{pairs_for, apart_same, moved_within, length-joined}
 use Rattle.equal.proofs.DifferenceLemmas.{agree_on_care, known_a}
 
--- what decide accepts, nothing refuses
+-- what is accepted, nothing refuses
 pub accepted_none : (net : Parts) (care : CareSet) → IsNetlist net → Accepts net care observe.All → refusal net care observe.All ≡ None
 accepted_none net care valid accepts = (accepted_without_refusal net care observe.All valid).1 accepts
 
@@ -97,22 +94,18 @@ pub told_of : (a b : Parts) (care : CareSet) (found : Option (List Bool)) → fo
 told_of a b care found is = ap (λ o. option_map_or (at_difference a b) o Equal) is
 
 -- a netlist that is accepted has no refusal's vector
-pub accepted_early : (net : Parts) (blocks : Blocks) (cut : Cut) (care : CareSet) (counts : SweepCounts) (loose : ℕ) → IsNetlist net → IsAcceptance net blocks cut care observe.All counts loose → IsKnownEarly net care (Found None)
-accepted_early net blocks cut care counts loose valid is s h e = grind (arith, accepted_none)
-
-pub accepted_verdict : (v : Verdict) (counts : SweepCounts) (loose : ℕ) → v ≡ Accepted counts loose → (net : Parts) (blocks : Blocks) (cut : Cut) (care : CareSet) → IsNetlist net → IsVerdict net blocks cut care observe.All v →
-    IsKnownEarly net care (Found None)
-accepted_verdict v counts loose is_accepted net blocks cut care valid told = grind (arith, accepted_early net blocks cut care counts loose valid)
+pub accepted_judgement : (j : Judgement) (loose : ℕ) → j ≡ Accepted loose → (net : Parts) (care : CareSet) → IsNetlist net → IsJudgement net care observe.All j → IsKnownEarly net care (Found None)
+accepted_judgement j loose is_accepted net care valid told = grind (arith, accepted_none)
 
 -- and one that is refused has that of its refusal
-pub refused_verdict : {E : Type 0} (result : Result Early E) (v : Verdict) (r : Refusal) → v ≡ Refused r →
+pub refused_judgement : {E : Type 0} (result : Result Early E) (j : Judgement) (r : Refusal) → j ≡ Refused r →
     IfOk result (λ early. (s : Sig) (least : Option (List Bool)) → Some r ≡ option_map (λ v. Undetermined v s) least → IsFound least early) →
-    IfOk result (λ early. (net : Parts) (blocks : Blocks) (cut : Cut) (care : CareSet) → IsNetlist net → IsVerdict net blocks cut care observe.All v → IsKnownEarly net care early)
-refused_verdict result v r is_refused known = grind arith
+    IfOk result (λ early. (net : Parts) (care : CareSet) → IsNetlist net → IsJudgement net care observe.All j → IsKnownEarly net care early)
+refused_judgement result j r is_refused known = grind arith
 
--- of the verdict of a decision
-pub early_known : {E F : Type 0} (net : Parts) (blocks : Blocks) (cut : Cut) (care : CareSet) (result : Result Early E) (decision : Result Verdict F) (v : Verdict) → IsNetlist net → decision ≡ Ok v → IfOk decision (IsVerdict net blocks cut care observe.All) →
-    IfOk result (λ early. (net : Parts) (blocks : Blocks) (cut : Cut) (care : CareSet) → IsNetlist net → IsVerdict net blocks cut care observe.All v → IsKnownEarly net care early) →
+-- of the answer of a call
+pub early_known : {E F : Type 0} (net : Parts) (care : CareSet) (result : Result Early E) (judged : Result Judgement F) (j : Judgement) → IsNetlist net → judged ≡ Ok j → IfOk judged (IsJudgement net care observe.All) →
+    IfOk result (λ early. (net : Parts) (care : CareSet) → IsNetlist net → IsJudgement net care observe.All j → IsKnownEarly net care early) →
     IfOk result (IsKnownEarly net care)
-early_known {F = F} net blocks cut care (Ok early) decision v valid is_v verdict known = grind arith
-early_known net blocks cut care (Err x) decision v valid is_v verdict known = known
+early_known {F = F} net care (Ok early) judged j valid is_j told known = grind arith
+early_known net care (Err x) judged j valid is_j told known = known

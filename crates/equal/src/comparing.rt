@@ -28,7 +28,7 @@ use netlist::Netlist;
 use refusals::Refusal;
 use std::alloc::Global;
 use std::marker::Model;
-use verdict::{Observe, Verdict, decide};
+use verdict::{Judgement, Observe, judge};
 
 /// What refuses a netlist on its care set.
 #[tactic(auto, using(crate::proofs::CompareLemmas::accepted_none))]
@@ -49,9 +49,9 @@ fn refusal_of(
     net.laws();
     let blocks = find_blocks(alloc, net)?;
     let cut = find_cut(alloc, net, &blocks)?;
-    match decide(alloc, d, net, &blocks, &cut, care, limit, Observe::All) {
-        Ok(Verdict::Accepted { .. }) => Ok(None),
-        Ok(Verdict::Refused(refusal)) => Ok(Some(refusal)),
+    match judge(alloc, d, net, &blocks, &cut, care, limit, Observe::All) {
+        Ok(Judgement::Accepted { .. }) => Ok(None),
+        Ok(Judgement::Refused(refusal)) => Ok(Some(refusal)),
         Err(fault) => Err(fault_of(fault)),
     }
 }

@@ -6,10 +6,8 @@ ghost use Rattle.refusals.specs.declared.refusal.Refusal.TheVariants.{Undetermin
 ghost use Rattle.netlist.specs.Netlists.{count, IsNetlist};
 ghost use Rattle.fixpoint.specs.Orders.{order as order_of};
 ghost use Rattle.netlist.specs.declared.parts.Parts.{Parts as TheParts};
-ghost use Rattle.loops.specs.declared.structure.Blocks.{Blocks as TheBlocks};
-ghost use Rattle.loops.specs.declared.structure.Cut.{Cut as TheCut};
 ghost use Rattle.care_sets.specs.Care.{CareSet};
-ghost use Rattle.verdict.specs.Verdicts.{IsVerdict};
+ghost use Rattle.verdict.specs.Verdicts.{IsJudgement};
 ghost use Rattle.verdict.specs.Causes.{IsOutOfNodes};
 ghost use Rattle.differences.specs.Pairs.{least_apart as least_apart_of};
 ghost use Rattle.differences.specs.Comparisons.{IsBelowEnoughFor};
@@ -36,7 +34,7 @@ use netlist::{Gate, Netlist};
 use refusals::Refusal;
 use std::alloc::{AllocError, Global};
 use unroll::mark;
-use verdict::{DecideFault, Observe, Verdict, decide};
+use verdict::{DecideFault, Judgement, Observe, judge};
 
 /// How many nodes the diagrams may have that the netlist of differences gets.
 const FEW_NODES: u32 = 200_000;
@@ -135,13 +133,13 @@ fn vector_of(alloc: Global, refusal: &Refusal) -> Result<Early, AllocError>
     }
 }
 
-/// The vector of a verdict.
-fn early_of(alloc: Global, verdict: &Verdict) -> Result<Early, AllocError>
-    ensures { IfOk result (λ early. (net : TheParts) (blocks : TheBlocks) (cut : TheCut) (care : CareSet) → IsNetlist net → IsVerdict net blocks cut care Observe.All verdict.now → IsKnownEarly net care early) }
+/// The vector of a judgement.
+fn early_of(alloc: Global, judgement: &Judgement) -> Result<Early, AllocError>
+    ensures { IfOk result (λ early. (net : TheParts) (care : CareSet) → IsNetlist net → IsJudgement net care Observe.All judgement.now → IsKnownEarly net care early) }
 {
-    match verdict {
-        Verdict::Accepted { .. } => Ok(Early::Found(None)),
-        Verdict::Refused(refusal) => vector_of(alloc, refusal),
+    match judgement {
+        Judgement::Accepted { .. } => Ok(Early::Found(None)),
+        Judgement::Refused(refusal) => vector_of(alloc, refusal),
     }
 }
 
@@ -161,9 +159,9 @@ fn refusal_within(
     let mut d = Diagrams::new(alloc, 0, 1)?;
     let blocks = find_blocks(alloc, net)?;
     let cut = find_cut(alloc, net, &blocks)?;
-    let decision = decide(alloc, &mut d, net, &blocks, &cut, care, limit, Observe::All);
-    match &decision {
-        Ok(verdict) => early_of(alloc, verdict),
+    let judged = judge(alloc, &mut d, net, &blocks, &cut, care, limit, Observe::All);
+    match &judged {
+        Ok(judgement) => early_of(alloc, judgement),
         Err(DecideFault::NodeLimit { .. }) => Ok(Early::Nothing),
         Err(DecideFault::Memory) => Err(AllocError),
     }

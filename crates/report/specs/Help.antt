@@ -16,7 +16,7 @@ topics = Check ∷ Rewrite ∷ Aiger ∷ Explain ∷ Equal ∷ Flat ∷ Loops �
 abbrev pub words_of : Topic → List ℕ
 words_of Check = codes "check FILE [--care CARE] [--nodes N] [--observe all|outputs]"
 words_of Rewrite = codes "rewrite FILE [--care CARE] [--nodes N] [--observe all|outputs]"
-words_of Aiger = codes "aiger FILE [--care CARE] [--nodes N] [--observe all|outputs]"
+words_of Aiger = codes "aiger FILE [--care CARE] [--nodes N] [--observe all|outputs] [--binary]"
 words_of Explain = codes "explain FILE [--care CARE] [--nodes N] [--observe all|outputs] [--dot]"
 words_of Equal = codes "equal FILE FILE [--care CARE] [--nodes N]"
 words_of Flat = codes "flat FILE"
@@ -30,7 +30,7 @@ words_of Storm = codes "storm FILE ROUNDS [--care CARE] [--nodes N] [--observe a
 abbrev pub purpose_of : Topic → List ℕ
 purpose_of Check = codes "says that each loop is harmless, or prints a wire and a vector that show why not"
 purpose_of Rewrite = codes "writes an accepted netlist without loops, with the same outputs at every tick"
-purpose_of Aiger = codes "writes an accepted netlist as an and-inverter graph without loops, in AIGER's ASCII form"
+purpose_of Aiger = codes "writes an accepted netlist as an and-inverter graph without loops, in AIGER's ASCII or binary form"
 purpose_of Explain = codes "does as check, and shows what leaves a refused wire unknown, or what each accepted loop needs"
 purpose_of Equal = codes "says that two netlists have the same outputs and latches at every tick, or prints what differs"
 purpose_of Flat = codes "writes the netlist without its hierarchy"

@@ -82,7 +82,7 @@ fn words(topic: Topic) -> &'static [u8]
     match topic {
         Topic::Check => b"check FILE [--care CARE] [--nodes N] [--observe all|outputs]",
         Topic::Rewrite => b"rewrite FILE [--care CARE] [--nodes N] [--observe all|outputs]",
-        Topic::Aiger => b"aiger FILE [--care CARE] [--nodes N] [--observe all|outputs]",
+        Topic::Aiger => b"aiger FILE [--care CARE] [--nodes N] [--observe all|outputs] [--binary]",
         Topic::Explain => b"explain FILE [--care CARE] [--nodes N] [--observe all|outputs] [--dot]",
         Topic::Equal => b"equal FILE FILE [--care CARE] [--nodes N]",
         Topic::Flat => b"flat FILE",
@@ -104,7 +104,7 @@ fn purpose(topic: Topic) -> &'static [u8]
         Topic::Rewrite =>
             b"writes an accepted netlist without loops, with the same outputs at every tick",
         Topic::Aiger =>
-            b"writes an accepted netlist as an and-inverter graph without loops, in AIGER's ASCII form",
+            b"writes an accepted netlist as an and-inverter graph without loops, in AIGER's ASCII or binary form",
         Topic::Explain =>
             b"does as check, and shows what leaves a refused wire unknown, or what each accepted loop needs",
         Topic::Equal =>

@@ -1,7 +1,8 @@
 //! Whether one of many literals is true.
-ghost use Rattle.std.specs.Prelude.{◌<◌, ◌*◌, All, IfOk};
+ghost use Rattle.std.specs.Prelude.{◌≡◌, ◌≤◌, ◌<◌, ◌+◌, ◌*◌, All, length, OnOk, IfOk, IfErr};
 ghost use Rattle.ternary_clauses.specs.Formulas.{IsFormula};
 ghost use Rattle.ternary_clauses.specs.Sums.{SaysOr, SaysAny};
+ghost use Rattle.ternary_clauses.specs.declared.formula.ClausesFault.TheVariants.{TooMany};
 
 use crate::formula::{ClausesFault, Formula, negation};
 use std::alloc::Global;
@@ -14,7 +15,9 @@ fn add_or(formula: &mut Formula, a: u32, b: u32) -> Result<u32, ClausesFault>
     requires formula { IsFormula formula.old }
     requires a { a < 2 * formula.old.variables }
     requires b { b < 2 * formula.old.variables }
-    ensures { IfOk result (SaysOr formula.old formula.new a b) }
+    ensures says { IfOk result (SaysOr formula.old formula.new a b) }
+    ensures variables { OnOk result (formula.new.variables ≡ formula.old.variables + 1) }
+    ensures many { IfErr result (λ fault. fault ≡ TooMany → 2147483647 ≤ formula.old.variables) }
 {
     let sum = formula.new_column()?.one;
     formula.add_clause(&[negation(a), sum])?;
@@ -24,7 +27,8 @@ fn add_or(formula: &mut Formula, a: u32, b: u32) -> Result<u32, ClausesFault>
 }
 
 /// For each literal one that is true where it or an earlier one is. So the first that some model makes true is found by
-/// halves, with one question each.
+/// halves, with one question each. `TooMany` comes only where there would be over 2,147,483,647 variables, one for each
+/// literal more.
 pub fn add_any(
     alloc: Global,
     formula: &mut Formula,
@@ -32,7 +36,8 @@ pub fn add_any(
 ) -> Result<Vec<u32>, ClausesFault>
     requires formula { IsFormula formula.old }
     requires literals { All (λ l. l < 2 * formula.old.variables) literals.now }
-    ensures { IfOk result (λ sums. SaysAny formula.old formula.new literals.now sums.items) }
+    ensures says { IfOk result (λ sums. SaysAny formula.old formula.new literals.now sums.items) }
+    ensures many { IfErr result (λ fault. fault ≡ TooMany → 2147483647 < formula.old.variables + length literals.now) }
 {
     let mut sums = Vec::new(alloc);
     let mut last = FALSE;

@@ -1,5 +1,5 @@
 //! A sweep of a loop from its cut wires, as clauses.
-ghost use Rattle.std.specs.Prelude.{◌≡◌, ℕ, ◌<◌, true, List, Bool, length, All, IfOk, OnOk, IfSome, IfNone, Contains, slice_index};
+ghost use Rattle.std.specs.Prelude.{◌≡◌, ℕ, ◌<◌, true, List, Bool, length, All, IfOk, IfErr, OnOk, IfSome, IfNone, ◌⊎◌, Contains, slice_index};
 ghost use Rattle.std.specs.List.{AllZip};
 ghost use Rattle.cyc_base.specs.declared.trit.Trit.TheVariants.{X};
 ghost use Rattle.netlist.specs.Netlists.{count, IsNetlist, IsSignal};
@@ -7,7 +7,9 @@ ghost use Rattle.loops.specs.Blocks.{block_at};
 ghost use Rattle.loops.specs.Cuts.{loops_by};
 ghost use Rattle.loops.specs.Placing.{Rise};
 ghost use Rattle.ternary_clauses.specs.declared.formula.Formula.{Formula as TheFormula};
+ghost use Rattle.ternary_clauses.specs.Faults.{IsFull, HasLargeIn};
 ghost use Rattle.ternary_clauses.specs.Formulas.{IsFormula, IsModel};
+ghost use Rattle.ternary_clauses.specs.declared.formula.ClausesFault.TheVariants.{TooMany};
 ghost use Rattle.ternary_clauses.specs.Rails.{Reads, AreWithin, unknown_rails as unknown_rails_of};
 ghost use Rattle.ternary_clauses.specs.Sweeps.{SaysSweep, AreCopies, IsSeen, IsCopyWithin, IsCopyOf, BindsCopy, AreCopied};
 
@@ -40,7 +42,8 @@ fn add_copies(
     count: usize,
 ) -> Result<Vec<Rails>, ClausesFault>
     requires { IsFormula formula.old }
-    ensures { IfOk result (λ copies. AreCopies formula.old formula.new copies.items count) }
+    ensures copies { IfOk result (λ copies. AreCopies formula.old formula.new copies.items count) }
+    ensures many { IfErr result (λ fault. fault ≡ TooMany → IsFull formula.new) }
 {
     let mut copies = Vec::new(alloc);
     for _ in 0..count {
@@ -129,6 +132,7 @@ impl<'a> LoopCopy<'a> {
         requires place { place < length self.now.gates }
         ensures copy { OnOk result (BindsCopy self.now place formula.old formula.new) }
         ensures valid { IsNetlist self.now.net }
+        ensures many { IfErr result (λ fault. fault ≡ TooMany → IsFull formula.new ⊎ HasLargeIn self.now.net self.now.gates) }
     {
         let read = self.net.gate(self.gates[place]);
         let pins = self.seen_pins(alloc, read)?;
@@ -139,7 +143,8 @@ impl<'a> LoopCopy<'a> {
     // Binds the rails of each gate.
     fn bind_all(&self, alloc: Global, formula: &mut Formula) -> Result<(), ClausesFault>
         requires { IsCopyOf formula.old self.now }
-        ensures { OnOk result (AreCopied self.now formula.old formula.new (length self.now.gates)) }
+        ensures copied { OnOk result (AreCopied self.now formula.old formula.new (length self.now.gates)) }
+        ensures many { IfErr result (λ fault. fault ≡ TooMany → IsFull formula.new ⊎ HasLargeIn self.now.net self.now.gates) }
     {
         for place in 0..self.gates.len() {
             self.bind(alloc, formula, place)?;
@@ -150,7 +155,8 @@ impl<'a> LoopCopy<'a> {
 
 /// Says what one sweep makes of a loop, in the order of its gates: each has the value of its cover, where cut wires are
 /// read from before the sweep, and what is outside the loop from the fixpoint (Malik 1994; Shiple, Berry and Touati
-/// 1996). The loop is the block at this place.
+/// 1996). The loop is the block at this place. `TooMany` comes only where the formula has no room for three more of
+/// 2,147,483,647 variables, or the size of a cover of the loop is over 262,144.
 pub fn add_sweep(
     alloc: Global,
     formula: &mut Formula,
@@ -167,7 +173,8 @@ pub fn add_sweep(
     requires before { length before.now ≡ length (block_at looped.now.blocks block).gates }
     requires before_in { All (AreWithin formula.old.variables) before.now }
 
-    ensures { IfOk result (λ after. SaysSweep looped.now.net (loops_by looped.now.blocks looped.now.cut) (block_at looped.now.blocks block).gates rails.now before.now formula.old formula.new after.items) }
+    ensures says { IfOk result (λ after. SaysSweep looped.now.net (loops_by looped.now.blocks looped.now.cut) (block_at looped.now.blocks block).gates rails.now before.now formula.old formula.new after.items) }
+    ensures many { IfErr result (λ fault. fault ≡ TooMany → IsFull formula.new ⊎ HasLargeIn looped.now.net (block_at looped.now.blocks block).gates) }
 {
     let gates = looped.blocks().list.items()[block as usize].gates.items();
     let after = add_copies(alloc, formula, gates.len())?;

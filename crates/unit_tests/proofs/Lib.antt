@@ -1,2 +1,3 @@
+mod ByClausesLemmas
 mod RefusedLemmas
 mod ClauseLemmas

@@ -22,7 +22,7 @@ const MANY: u64 = 1_000;
 
 /// The rails of a netlist's wires, of which nothing is said but that each gate has the value of its cover.
 #[tactic(auto, using(crate::proofs::ClauseLemmas::all_closed, crate::proofs::ClauseLemmas::none_never))]
-fn add_wires(
+pub(crate) fn add_wires(
     alloc: Global,
     formula: &mut Formula,
     net: &Netlist,

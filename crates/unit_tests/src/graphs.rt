@@ -4,7 +4,7 @@ ghost use Rattle.aig_core.specs.Answers.{FitsNetlist};
 
 use crate::texts::net_of;
 use aig_core::{Built, build};
-use aiger_write::write;
+use aiger_write::{write, write_binary};
 use cyc_io::TextSink;
 use netlist::Netlist;
 use std::alloc::Global;
@@ -31,8 +31,19 @@ fn text(number: u32) -> &'static [u8] {
     }
 }
 
-/// Its graph's text, or nothing where it has a loop.
-fn graph(number: u32) -> &'static [u8] {
+/// Its graph's text in the binary form, or nothing where it has a loop.
+fn binary(number: u32) -> &'static [u8] {
+    match number {
+        0 => b"aig 3 1 1 1 1\n6 1\n6\n\x02\x02i0 x\nl0 q\no0 d\n",
+        1 => b"aig 1 1 0 1 0\n2\ni0 x\no0 a\n",
+        2 => b"aig 3 2 0 2 1\n7\n7\n\x01\x02i0 a\ni1 b\no0 y\no1 z\n",
+        3 => b"aig 2 0 2 3 0\n2\n1 4\n1\n2\n4\nl0 q\nl1 r\no0 k\no1 q\no2 r\n",
+        _ => b"",
+    }
+}
+
+/// And in the ASCII form.
+fn ascii(number: u32) -> &'static [u8] {
     match number {
         0 => b"aag 3 1 1 1 1\n2\n4 6 1\n6\n6 4 2\ni0 x\nl0 q\no0 d\n",
         1 => b"aag 1 1 0 1 0\n2\n2\ni0 x\no0 a\n",
@@ -42,31 +53,29 @@ fn graph(number: u32) -> &'static [u8] {
     }
 }
 
-fn written(alloc: Global, net: &Netlist, built: &Built) -> Result<Vec<u8>, Fail>
+fn texts_are(alloc: Global, net: &Netlist, built: &Built, number: u32) -> Result<bool, Fail>
     requires { FitsNetlist net.now built.now }
 {
-    let mut sink = TextSink::new(alloc);
-    match write(net, built, &mut sink) {
-        Ok(()) => Ok(sink.into_vec()),
-        Err(_) => Err(Fail::from("a text is not written")),
+    let mut lines = TextSink::new(alloc);
+    let mut bytes = TextSink::new(alloc);
+    if write(net, built, &mut lines).is_err() || write_binary(net, built, &mut bytes).is_err() {
+        return Err(Fail::from("a text is not written"));
     }
-}
-
-fn written_of(alloc: Global, net: &Netlist) -> Result<Vec<u8>, Fail> {
-    if net.inputs() > 2 || net.latches() > 2 {
-        return Err(Fail::from("many columns"));
-    }
-    match build(alloc, net) {
-        Ok(Some(built)) => written(alloc, net, &built),
-        Ok(None) => Ok(Vec::new(alloc)),
-        Err(_) => Err(Fail::from("a graph is not built")),
-    }
+    let lines = lines.into_vec();
+    let bytes = bytes.into_vec();
+    Ok(lines.as_slice() == ascii(number) && bytes.as_slice() == binary(number))
 }
 
 fn is_written(alloc: Global, number: u32) -> Result<bool, Fail> {
     let net = net_of(alloc, text(number))?;
-    let text = written_of(alloc, &net)?;
-    Ok(text.as_slice() == graph(number))
+    if net.inputs() > 2 || net.latches() > 2 {
+        return Err(Fail::from("many columns"));
+    }
+    match build(alloc, &net) {
+        Ok(Some(built)) => texts_are(alloc, &net, &built, number),
+        Ok(None) => Ok(ascii(number).is_empty()),
+        Err(_) => Err(Fail::from("a graph is not built")),
+    }
 }
 
 #[test]

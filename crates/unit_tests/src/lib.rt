@@ -4,6 +4,10 @@
 #![tactic(auto)]
 
 #[cfg(test)]
+mod by_clauses;
+#[cfg(test)]
+mod clause_parts;
+#[cfg(test)]
 mod clauses;
 #[cfg(test)]
 mod comparisons;

@@ -15,4 +15,4 @@ returns c =
     c.requires.said (closed-by_pins net c.args.scope.now.gates c.laws.ensures.valid c.requires.scope.closed)
     (subst (λ (marks : List Bool). SaysNetlist net marks said.columns.items said.formula c.add_netlist.new.formula rails.items) c.items.ensures
     (subst (λ (given : List Rails). SaysNetlist net c.items.result.now given said.formula c.add_netlist.new.formula rails.items) c.deref.ensures.value says_it)))
-    c.add_netlist.ensures
+    c.add_netlist.ensures.says

@@ -23,7 +23,7 @@ returns g =
     let output : Sig = get_or net.outputs 0 none in
     let own : output ≡ get_or net.outputs 0 output = get_or_default net.outputs 0 none output some in
     let said : SaysNetlist net (replicate (length net.gates) true) g.args.given.now g.args.formula.now g.add_netlist.new.formula rails =
-    subst (λ (wanted : List Bool). SaysNetlist net wanted g.args.given.now g.args.formula.now g.add_netlist.new.formula rails) (marks-are (goal.at.returns g).After-deref-2) g.in_ok-rails.ensures in
+    subst (λ (wanted : List Bool). SaysNetlist net wanted g.args.given.now g.args.formula.now g.add_netlist.new.formula rails) (marks-are (goal.at.returns g).After-deref-2) g.in_ok-rails.ensures.says in
     let inside : output.0 < length rails = let low = g.outputs.ensures.valid.outputs 0 none some in let z = said.size in omega (arith, low, z) in
     let literal : g.index.result.now ≡ rails_at rails output.0 =
     g.index.ensures ∙ ap (λ (os : List Sig). get_or rails (get_or os 0 none).0 g.index.result.now) outputs ∙ get_or_default rails output.0 g.index.result.now no_rails inside in

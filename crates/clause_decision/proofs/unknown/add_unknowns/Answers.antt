@@ -18,4 +18,4 @@ returns c = λ care marks cone.
     let same : c.deref-2.result.now ≡ unknown_literals net given.rails.items gates =
     c.deref-2.ensures.value ∙ c.in_ok-literals.ensures ∙ ap (λ rails. unknown_literals net rails gates) c.deref.ensures.value in
     unknowns-told net care marks given.formula c.add_any.new.formula given.rails.items given.inside given.allowed gates c.in_ok-sums.sums.items cone
-    (subst (λ (literals : List ℕ). SaysAny given.formula c.add_any.new.formula literals c.in_ok-sums.sums.items) same c.in_ok-sums.ensures)
+    (subst (λ (literals : List ℕ). SaysAny given.formula c.add_any.new.formula literals c.in_ok-sums.sums.items) same c.in_ok-sums.ensures.says)

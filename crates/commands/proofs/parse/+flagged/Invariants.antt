@@ -1,5 +1,5 @@
 use Rattle.std.proofs.Common.{length}
-use Rattle.commands.proofs.parse.+explain_with.Given as goal
+use Rattle.commands.proofs.parse.+flagged.Given as goal
 
-abbrev pub decreases-explain_with : goal.decreases-explain_with
-decreases-explain_with l = length l.words.now
+abbrev pub decreases-flagged : goal.decreases-flagged
+decreases-flagged l = length l.words.now

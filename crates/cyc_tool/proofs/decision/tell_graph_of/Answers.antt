@@ -5,6 +5,6 @@ use Rattle.cyc_tool.proofs.decision.tell_graph_of.Goals as goal
 pub returns : goal.returns
 returns c =
     IfOk-weaker c.tell_graph.result _ _ (λ told is net care what limit valid accepts small rewriting.
-    was_graphed net care limit what c.args.other.now c.graph-made.result told is valid accepts small rewriting
+    was_graphed c.args.encoding net care limit what c.args.other.now c.graph-made.result told is valid accepts small rewriting
     c.graph-made.ensures.built c.graph-made.ensures.few c.graph-made.ensures.graphing c.graph-made.ensures.too_large)
     c.tell_graph.ensures

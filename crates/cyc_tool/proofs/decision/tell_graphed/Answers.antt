@@ -21,5 +21,5 @@ pub returns : goal.returns
 returns c =
     let fault = rw c.in-Err.is at c.rewrite-rewriting.ensures.fault in
     IfOk-weaker c.tell_outgrown.result _ _ (λ told is care what limit accepts sweeps.
-    outgrown_graph c.args.looped.now.net care limit what c.in-Err.fault told is (fault care sweeps))
+    outgrown_graph c.args.encoding c.args.looped.now.net care limit what c.in-Err.fault told is (fault care sweeps))
     c.tell_outgrown.ensures

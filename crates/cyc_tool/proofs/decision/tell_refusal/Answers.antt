@@ -1,11 +1,6 @@
 use Rattle.std.proofs.Common.{inl, inr}
 use Rattle.cyc_tool.proofs.decision.tell_refusal.Goals as goal
 
-pub returns-in-Judge : goal.returns-in-Judge
-returns-in-Judge c =
-    let told = rw c.net-net.ensures.net at c.tell_refused.ensures in
-    elim c.in-Judge.is [ inl is ↦ rw is told | inr is ↦ rw is.1 told ]
-
 pub returns-in-Rewrite : goal.returns-in-Rewrite
 returns-in-Rewrite c =
     let told = rw c.net-net.ensures.net at c.tell_declined.ensures in
@@ -14,5 +9,5 @@ returns-in-Rewrite c =
 pub returns-in-Explain : goal.returns-in-Explain
 returns-in-Explain c = rw c.in-Explain.is c.tell_explained.ensures
 
-pub returns-in-Storm : goal.returns-in-Storm
-returns-in-Storm c = rw c.in-Storm.is (rw c.net-net.ensures.net at c.tell_storm.ensures)
+pub returns-in-Demonstrate : goal.returns-in-Demonstrate
+returns-in-Demonstrate c = rw c.in-Demonstrate.is (rw c.net-net.ensures.net at c.tell_refused.ensures)

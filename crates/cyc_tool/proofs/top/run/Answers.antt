@@ -1,6 +1,6 @@
 use Rattle.std.proofs.Common.{refl}
 use Rattle.cyc_tool.proofs.AnswerLemmas.{gives_answer, is_complete}
-use Rattle.cyc_tool.proofs.CauseLemmas.{Eight, One, Zero, compared_cause, done_cause, explained_cause, fault_cause, graphed_cause, help_told, limit_cause, read_cause, rewritten_cause, stormed_cause, usage_cause, usage_told, write_cause}
+use Rattle.cyc_tool.proofs.CauseLemmas.{Eight, One, Zero, done_cause, fault_cause, help_told, limit_cause, read_cause, usage_cause, usage_told, write_cause}
 use Rattle.cyc_tool.proofs.RunLemmas.{counts_later}
 use Rattle.cyc_tool.proofs.Common.{Runs, end_of}
 use Rattle.cyc_tool.specs.Calls.{shelf_call, sink_call}
@@ -19,49 +19,34 @@ pub returns-clause-runs : goal.returns-clause-runs
 returns-clause-runs g c = runs g c
 
 pub returns-clause-usage : goal.returns-clause-usage
-returns-clause-usage g c = usage_cause _ _ _ _ _ _ (runs g c)
+returns-clause-usage g c = usage_cause c.storms_never_rest.ensures _ _ _ _ _ _ (runs g c)
 
 pub returns-clause-no_command : goal.returns-clause-no_command
-returns-clause-no_command g c = usage_told _ _ _ _ _ _ (runs g c)
+returns-clause-no_command g c = usage_told c.storms_never_rest.ensures _ _ _ _ _ _ (runs g c)
 
 pub returns-clause-helped : goal.returns-clause-helped
 returns-clause-helped g c = help_told _ _ _ _ _ _ (runs g c)
 
 pub returns-clause-fault : goal.returns-clause-fault
-returns-clause-fault g c = fault_cause _ _ _ _ _ _ (runs g c)
+returns-clause-fault g c = fault_cause c.storms_never_rest.ensures _ _ _ _ _ _ (runs g c)
 
 pub returns-clause-read_failed : goal.returns-clause-read_failed
-returns-clause-read_failed g c = read_cause _ _ _ _ _ _ (runs g c)
+returns-clause-read_failed g c = read_cause c.storms_never_rest.ensures _ _ _ _ _ _ (runs g c)
 
 pub returns-clause-write_failed : goal.returns-clause-write_failed
-returns-clause-write_failed g c = write_cause _ _ _ _ _ _ (runs g c)
+returns-clause-write_failed g c = write_cause c.storms_never_rest.ensures _ _ _ _ _ _ (runs g c)
 
 pub returns-clause-limited : goal.returns-clause-limited
-returns-clause-limited g c = limit_cause _ _ _ _ _ _ (runs g c)
+returns-clause-limited g c = limit_cause c.storms_never_rest.ensures _ _ _ _ _ _ (runs g c)
 
 pub returns-clause-done : goal.returns-clause-done
-returns-clause-done g c = done_cause _ _ _ _ _ _ (runs g c) 0 (Zero refl)
+returns-clause-done g c = done_cause c.storms_never_rest.ensures _ _ _ _ _ _ (runs g c) 0 (Zero refl)
 
 pub returns-clause-refused : goal.returns-clause-refused
-returns-clause-refused g c = done_cause _ _ _ _ _ _ (runs g c) 1 (One refl)
+returns-clause-refused g c = done_cause c.storms_never_rest.ensures _ _ _ _ _ _ (runs g c) 1 (One refl)
 
 pub returns-clause-outgrown : goal.returns-clause-outgrown
-returns-clause-outgrown g c = done_cause _ _ _ _ _ _ (runs g c) 8 (Eight refl)
-
-pub returns-clause-stormed : goal.returns-clause-stormed
-returns-clause-stormed g c = stormed_cause _ _ _ _ _ _ (runs g c) c.storms_never_rest.ensures
-
-pub returns-clause-rewritten : goal.returns-clause-rewritten
-returns-clause-rewritten g c = rewritten_cause _ _ _ _ _ _ (runs g c)
-
-pub returns-clause-graphed : goal.returns-clause-graphed
-returns-clause-graphed g c = graphed_cause _ _ _ _ _ _ (runs g c)
-
-pub returns-clause-compared : goal.returns-clause-compared
-returns-clause-compared g c = compared_cause _ _ _ _ _ _ (runs g c)
-
-pub returns-clause-explained : goal.returns-clause-explained
-returns-clause-explained g c = explained_cause _ _ _ _ _ _ (runs g c)
+returns-clause-outgrown g c = done_cause c.storms_never_rest.ensures _ _ _ _ _ _ (runs g c) 8 (Eight refl)
 
 pub returns-clause-answer : goal.returns-clause-answer
 returns-clause-answer g c = gives_answer _ _ _ _ _ _ (runs g c)

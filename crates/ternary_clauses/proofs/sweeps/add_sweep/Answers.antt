@@ -21,7 +21,7 @@ same c =
 
 -- there are as many copies as gates
 copies : (c : After-deref) → AreCopies c.args.formula.now c.add_copies.new.formula c.in_ok-after.after.items (length (block_at c.args.looped.now.blocks c.args.block).gates)
-copies c = subst (AreCopies c.args.formula.now c.add_copies.new.formula c.in_ok-after.after.items) (ap (λ (d : CopiedLoop). length d.gates) (same c)) c.in_ok-after.ensures
+copies c = subst (AreCopies c.args.formula.now c.add_copies.new.formula c.in_ok-after.after.items) (ap (λ (d : CopiedLoop). length d.gates) (same c)) c.in_ok-after.ensures.copies
 
 pub invariant_of-copy : goal.invariant_of-copy
 invariant_of-copy g =
@@ -30,11 +30,11 @@ invariant_of-copy g =
     let is = c.cut.ensures.looped in
     grind (arith, After-deref, same c, block_rises l.net l.blocks is.blocks c.args.block c.requires.block, block_within l.net l.blocks is.blocks c.args.block c.requires.block, copies c)
 
-pub returns : goal.returns
-returns g =
-    let c : After-deref = (goal.at.returns g).After-deref in
+pub returns-clause-says : goal.returns-clause-says
+returns-clause-says g =
+    let c : After-deref = (goal.at.returns-clause-says g).After-deref in
     let l : Looped = c.args.looped.now in
     let is = c.cut.ensures.looped in
     sweep-says l.net l.blocks is.blocks l.cut is.cut c.args.block c.requires.block c.requires.looped c.args.rails.now c.args.before.now c.in_ok-after.after.items
     c.args.formula.now c.add_copies.new.formula g.bind_all.new.formula c.requires.rails_in c.requires.before_in c.requires.formula.some (copies c)
-    (subst (λ (d : CopiedLoop). AreCopied d c.add_copies.new.formula g.bind_all.new.formula (length d.gates)) (same c) g.in_ok-bind_all.ensures)
+    (subst (λ (d : CopiedLoop). AreCopied d c.add_copies.new.formula g.bind_all.new.formula (length d.gates)) (same c) g.in_ok-bind_all.ensures.copied)

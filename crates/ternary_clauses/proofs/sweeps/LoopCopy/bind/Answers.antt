@@ -31,4 +31,4 @@ returns-clause-copy c =
           (subst (λ (g : Gate). AllZip (IsSeen c.args.self.now) g.pins c.deref.result.now) c.gate-read.ensures.at seen);
       says_gate = says;
     })
-    (c.add_gate.ensures.says gate.cover (subst (λ (g : Gate). IsDiagramOf c.in_ok-diagram.diagram g.cover) c.gate-read.ensures.at c.in_ok-diagram.ensures)))
+    (c.add_gate.ensures.says gate.cover (subst (λ (g : Gate). IsDiagramOf c.in_ok-diagram.diagram g.cover) c.gate-read.ensures.at c.in_ok-diagram.ensures.diagram)))

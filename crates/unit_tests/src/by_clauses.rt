@@ -1,0 +1,333 @@
+//! The parts of a decision by clauses, on netlists whose answers are seen at a glance.
+
+ghost use Rattle.std.specs.Prelude.{◌≡◌, ◌<◌, ℕ, true, length, IfOk};
+ghost use Rattle.care_sets.specs.Binding.{IsCareOf};
+ghost use Rattle.clause_decision.specs.Scopes.{is_marked, IsScopeOf};
+ghost use Rattle.loops.specs.Blocks.{block_at};
+ghost use Rattle.netlist.specs.Netlists.{IsNetlist};
+ghost use Rattle.refusals.specs.Acceptance.{Accepts};
+
+use crate::looped::loops_of;
+use crate::texts::{care_by, net_of};
+use bdd_ops::Diagrams;
+use care_sets::Care;
+use clause_decision::{
+    Budget, First, Found, Pair, PairSearch, Scope, each_unknown, first_unknown, is_possible,
+    least_leaving, least_outside, least_unknown, sweeps_at, sweeps_fed_known, sweeps_needed,
+};
+use cyc_base::{Items, Sig};
+use loops::LoopedNetlist;
+use netlist::Netlist;
+use std::alloc::{AllocError, Global};
+use std::test::Fail;
+use verdict::{Judgement, Observe, judge};
+
+/// More conflicts than a search here has.
+const MANY: u64 = 1_000;
+
+/// A gate, and one that is 1 where x is, and unknown where it isn't.
+const KEEPS: &[u8] =
+    b".model m\n.inputs x\n.outputs b a\n.names x b\n0 1\n.names x a a\n1- 1\n-1 1\n.end\n";
+
+/// A latch that goes to 0 where x is 0.
+const FALLS: &[u8] = b".model m\n.inputs x\n.outputs d\n.latch d q 1\n.names x q d\n11 1\n.end\n";
+
+/// The same with any start.
+const FALLS_FROM_ANY: &[u8] =
+    b".model m\n.inputs x\n.outputs d\n.latch d q 3\n.names x q d\n11 1\n.end\n";
+
+/// A latch that stays.
+const STAYS: &[u8] = b".model m\n.inputs x\n.outputs d\n.latch d q 1\n.names q d\n1 1\n.end\n";
+
+/// Two units that share a loop: c says which of them comes first.
+const UNITS: &[u8] =
+    b".model m\n.inputs c x\n.outputs f g\n.names c x g f\n11- 1\n0-1 1\n.names c f x g\n11- 1\n0-1 1\n.end\n";
+
+/// A chain of four that x goes through up or down. Its cut wires are the second and the last; each way the second of them
+/// that x comes to is known after the second sweep.
+const CHAIN: &[u8] =
+    b".model m\n.inputs u x\n.outputs a\n.names u x b a\n11- 1\n0-1 1\n.names u a c b\n11- 1\n0-1 1\n.names u b d c\n11- 1\n0-1 1\n.names u c x d\n11- 1\n0-1 1\n.end\n";
+
+/// All vectors count, those where x is 1, none, and those where q is.
+const ANY: &[u8] = b".model assume\n.outputs ok\n.names ok\n1\n.end\n";
+
+const X_IS_ONE: &[u8] = b".model assume\n.inputs x\n.outputs ok\n.names x ok\n1 1\n.end\n";
+
+const NEVER: &[u8] = b".model assume\n.outputs ok\n.names ok\n.end\n";
+
+const Q_IS_ONE: &[u8] = b".model invariant\n.inputs q\n.outputs ok\n.names q ok\n1 1\n.end\n";
+
+/// The scope of all gates.
+#[tactic(auto, using(crate::proofs::ByClausesLemmas::all_closed, crate::proofs::ByClausesLemmas::none_known))]
+fn whole_scope(alloc: Global, net: &Netlist) -> Result<Scope, AllocError>
+    requires { IsNetlist net.now }
+    ensures scope { IfOk result (IsScopeOf net.now) }
+    ensures all { IfOk result (λ scope. (n : ℕ) → n < length net.now.gates → is_marked scope.gates n ≡ true) }
+{
+    let gates = vec![in alloc; true; net.gates() as usize]?;
+    let known = vec![in alloc; false; net.gates() as usize]?;
+    Ok(Scope {
+        gates: Items::of(gates),
+        known: Items::of(known),
+    })
+}
+
+/// Whether there is a care vector.
+fn possible(alloc: Global, text: &[u8], care: &[u8]) -> Result<Option<bool>, Fail> {
+    let net = net_of(alloc, text)?;
+    let care = care_by(alloc, &net, care)?;
+    Ok(is_possible(alloc, &net, &care, MANY)?)
+}
+
+#[test]
+fn care_vectors_are_found(rt: HostRuntime) -> Result<(), Fail> {
+    assert_eq!(rt; possible(rt.alloc(), KEEPS, X_IS_ONE)?, Some(true));
+    assert_eq!(rt; possible(rt.alloc(), KEEPS, NEVER)?, Some(false));
+    Ok(())
+}
+
+/// What the least vector is asked of.
+#[derive(Clone, Copy)]
+enum Asked {
+    /// The initial states outside the invariant.
+    Outside,
+    /// The care vectors at which the second gate is unknown.
+    Unknown,
+    /// Those whose next state leaves the invariant.
+    Leaving,
+}
+
+const VECTORS: u32 = 6;
+
+/// A netlist, its care file, what is asked of them, and the least vector, if there is one.
+fn vector_of(number: u32) -> (&'static [u8], &'static [u8], Asked, Option<&'static [bool]>) {
+    match number {
+        0 => (FALLS_FROM_ANY, Q_IS_ONE, Asked::Outside, Some(&[false])),
+        1 => (FALLS, Q_IS_ONE, Asked::Outside, None),
+        2 => (KEEPS, ANY, Asked::Unknown, Some(&[false])),
+        3 => (KEEPS, X_IS_ONE, Asked::Unknown, None),
+        4 => (FALLS, Q_IS_ONE, Asked::Leaving, Some(&[false, true])),
+        _ => (STAYS, Q_IS_ONE, Asked::Leaving, None),
+    }
+}
+
+/// Whether the second gate is unknown first at this vector.
+fn unknown(alloc: Global, net: &Netlist, care: &Care, scope: &Scope) -> Result<Found, Fail>
+    requires care { IsCareOf net.now care.now }
+    requires scope { IsScopeOf net.now scope.now }
+    requires all { (n : ℕ) → n < length net.now.gates → is_marked scope.now.gates n ≡ true }
+{
+    if net.gates() < 2 {
+        return Err(Fail::from("a gate is missing"));
+    }
+    Ok(least_unknown(alloc, net, care, scope, 1, MANY)?)
+}
+
+/// Whether all gates are known at each vector that counts.
+fn accepted(alloc: Global, net: &Netlist, care: &Care) -> Result<bool, Fail>
+    requires { IsCareOf net.now care.now }
+    ensures { IfOk result (λ known. known ≡ true → Accepts net.now care.now Observe.All) }
+{
+    let (blocks, cut) = loops_of(alloc, net)?;
+    let mut d = Diagrams::new(alloc, 0, 1)?;
+    match judge(alloc, &mut d, net, &blocks, &cut, care, 1_000, Observe::All)? {
+        Judgement::Accepted { .. } => Ok(true),
+        Judgement::Refused(_) => Ok(false),
+    }
+}
+
+/// The least care vector whose next state leaves the invariant, of a netlist whose wires are known at each vector.
+fn leaving(alloc: Global, net: &Netlist, care: &Care, scope: &Scope) -> Result<Found, Fail>
+    requires valid { IsNetlist net.now }
+    requires care { IsCareOf net.now care.now }
+    requires scope { IsScopeOf net.now scope.now }
+    requires all { (n : ℕ) → n < length net.now.gates → is_marked scope.now.gates n ≡ true }
+{
+    if !accepted(alloc, net, &Care::none())? {
+        return Err(Fail::from("a wire is unknown"));
+    }
+    Ok(least_leaving(alloc, net, care, scope, MANY)?)
+}
+
+fn least(alloc: Global, net: &Netlist, care: &Care, asked: Asked) -> Result<Found, Fail>
+    requires valid { IsNetlist net.now }
+    requires care { IsCareOf net.now care.now }
+{
+    let scope = whole_scope(alloc, net)?;
+    match asked {
+        Asked::Outside => Ok(least_outside(alloc, net, care, MANY)?),
+        Asked::Unknown => unknown(alloc, net, care, &scope),
+        Asked::Leaving => leaving(alloc, net, care, &scope),
+    }
+}
+
+fn least_on(alloc: Global, net: &Netlist, care: &[u8], asked: Asked) -> Result<Found, Fail>
+    requires { IsNetlist net.now }
+{
+    let care = care_by(alloc, net, care)?;
+    least(alloc, net, &care, asked)
+}
+
+/// Whether the least vector is the one of the table.
+fn is_least(alloc: Global, number: u32) -> Result<bool, Fail> {
+    let (text, care, asked, vector) = vector_of(number);
+    let net = net_of(alloc, text)?;
+    match least_on(alloc, &net, care, asked)? {
+        Found::Least(found) => Ok(vector == Some(found.as_slice())),
+        Found::NoVector => Ok(vector.is_none()),
+        Found::Unknown => Ok(false),
+    }
+}
+
+#[test]
+fn least_vectors_are_found(rt: HostRuntime) -> Result<(), Fail> {
+    for number in 0..VECTORS {
+        assert!(rt; is_least(rt.alloc(), number)?, "at {number}");
+    }
+    Ok(())
+}
+
+/// Whether the first gate is known, and this says whether the second one is unknown at some vector that counts.
+fn tells_unknown(alloc: Global, net: &Netlist, care: &Care, second: bool) -> Result<bool, Fail>
+    requires valid { IsNetlist net.now }
+    requires care { IsCareOf net.now care.now }
+{
+    if net.gates() < 2 {
+        return Err(Fail::from("a gate is missing"));
+    }
+    let scope = whole_scope(alloc, net)?;
+    let first = first_unknown(alloc, net, care, &scope, &[0, 1], MANY)?;
+    let each = each_unknown(alloc, net, care, &scope, &[0, 1], MANY)?;
+    let is_first = if second {
+        matches!(first, First::At(1))
+    } else {
+        matches!(first, First::Nowhere)
+    };
+    match each {
+        Some(each) => Ok(is_first && each.as_slice() == [false, second].as_slice()),
+        None => Ok(false),
+    }
+}
+
+fn is_told(alloc: Global, care: &[u8], second: bool) -> Result<bool, Fail> {
+    let net = net_of(alloc, KEEPS)?;
+    let care = care_by(alloc, &net, care)?;
+    tells_unknown(alloc, &net, &care, second)
+}
+
+#[test]
+fn unknown_gates_are_told(rt: HostRuntime) -> Result<(), Fail> {
+    assert!(rt; is_told(rt.alloc(), ANY, true)?);
+    assert!(rt; is_told(rt.alloc(), X_IS_ONE, false)?);
+    Ok(())
+}
+
+/// Whether the first block is a loop that needs so many sweeps: at the vector of zeros, on all vectors whose gates are known,
+/// and on those where only what feeds it is known to be.
+fn needs(alloc: Global, looped: &LoopedNetlist<'_>, care: &Care, sweeps: u32) -> Result<bool, Fail>
+    requires valid { IsNetlist looped.now.net }
+    requires care { IsCareOf looped.now.net care.now }
+    requires block { 0 < length looped.now.blocks.list }
+    requires looped { (block_at looped.now.blocks 0).looped ≡ true }
+    requires accepts { Accepts looped.now.net care.now Observe.All }
+{
+    let net = looped.net();
+    let scope = whole_scope(alloc, net)?;
+    let zeros = vec![in alloc; false; net.columns() as usize]?;
+    let at_zeros = sweeps_at(alloc, looped, 0, &zeros)?;
+    let needed = sweeps_needed(alloc, looped, care, &scope, 0, MANY)?;
+    let fed = sweeps_fed_known(alloc, looped, care, &scope, 0, MANY)?;
+    Ok(at_zeros == sweeps && needed == Some(sweeps) && fed == Some(sweeps))
+}
+
+fn has_sweeps(alloc: Global, looped: &LoopedNetlist<'_>, sweeps: u32) -> Result<bool, Fail>
+    requires { IsNetlist looped.now.net }
+{
+    let blocks = looped.blocks().list.items();
+    if blocks.is_empty() || !blocks[0].looped {
+        return Err(Fail::from("no loop comes first"));
+    }
+    let care = Care::none();
+    if !accepted(alloc, looped.net(), &care)? {
+        return Err(Fail::from("a wire is unknown"));
+    }
+    needs(alloc, looped, &care, sweeps)
+}
+
+/// Whether the loop of a netlist needs so many sweeps.
+fn needs_sweeps(alloc: Global, text: &[u8], sweeps: u32) -> Result<bool, Fail> {
+    let net = net_of(alloc, text)?;
+    let (blocks, cut) = loops_of(alloc, &net)?;
+    has_sweeps(alloc, &LoopedNetlist::new(&net, &blocks, &cut), sweeps)
+}
+
+#[test]
+fn sweeps_are_counted(rt: HostRuntime) -> Result<(), Fail> {
+    assert!(rt; needs_sweeps(rt.alloc(), UNITS, 1)?);
+    assert!(rt; needs_sweeps(rt.alloc(), CHAIN, 2)?);
+    Ok(())
+}
+
+/// Whether wires of a netlist are told never apart as they should be: by clauses of all gates, and where loops are tried by
+/// themselves before.
+fn told_apart(
+    alloc: Global,
+    looped: &LoopedNetlist<'_>,
+    here: u32,
+    there: u32,
+    never: bool,
+) -> Result<bool, Fail>
+    requires { IsNetlist looped.now.net }
+{
+    let net = looped.net();
+    if here >= net.count() || there >= net.count() {
+        return Err(Fail::from("a wire is missing"));
+    }
+    let pairs = [Pair {
+        here: Sig(here),
+        there: Sig(there),
+    }];
+    let search = PairSearch {
+        hints: &[],
+        pairs: &pairs,
+        budget: Budget {
+            few: MANY,
+            many: MANY,
+        },
+    };
+    let care = Care::none();
+    let scope = whole_scope(alloc, net)?;
+    let by_all = clause_decision::are_never_apart(alloc, net, &care, &scope, &search)?;
+    let by_loops = verdict::are_never_apart(alloc, looped, &care, &search)?;
+    Ok(by_all == never && by_loops == never)
+}
+
+/// The same of the wires x, b and a of the netlist whose gate a keeps its value, by number.
+fn keeps_apart(alloc: Global, here: u32, there: u32, never: bool) -> Result<bool, Fail> {
+    let net = net_of(alloc, KEEPS)?;
+    let (blocks, cut) = loops_of(alloc, &net)?;
+    told_apart(
+        alloc,
+        &LoopedNetlist::new(&net, &blocks, &cut),
+        here,
+        there,
+        never,
+    )
+}
+
+#[test]
+fn wires_are_told_apart(rt: HostRuntime) -> Result<(), Fail> {
+    assert!(rt;
+        keeps_apart(rt.alloc(), 0, 2, true)?,
+        "x is 1 where a is, and a isn't 0"
+    );
+    assert!(rt;
+        keeps_apart(rt.alloc(), 0, 1, false)?,
+        "b is the complement of x"
+    );
+    assert!(rt;
+        keeps_apart(rt.alloc(), 1, 2, false)?,
+        "b is 0 where a is 1"
+    );
+    Ok(())
+}
