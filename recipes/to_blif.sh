@@ -86,7 +86,8 @@ take() {
     read_files
     printf 'hierarchy -check -top %s' "$1"
     for it in ${parameters[@]+"${parameters[@]}"}; do printf ' -chparam %s %s' "${it%%=*}" "${it#*=}"; done
-    printf '\n%s\n' "rename -top $1"
+    echo
+    [ ${#parameters[@]} -eq 0 ] || echo "rename -top $1" # (a module with other parameters has a name of Yosys)
 }
 
 # The commands that make gates of it. Bits that are unknown become 0 before any pass that may choose a value for them.
@@ -157,7 +158,6 @@ convert() {
     { take "$1"; passes; } | run_yosys
     tell_warnings
     sed 's/^/to_blif: nothing drives, so it is 0: /; s/|/, /g' "$dir/open" >&2
-    grep -q '^\.model' "$dir/blif" || say "the module has nothing in it, so Yosys takes it for a black box"
     awk '$1 == ".subckt" { left[$2]++ }
         END { for (cell in left) { print "to_blif: Yosys left in: " left[cell] " of " cell; status = 1 } exit status }
     ' "$dir/blif" >&2 || exit 1
@@ -217,7 +217,7 @@ else
     if [ -z "$top" ]; then
         find_tops >"$dir/tops"
         case $(wc -l <"$dir/tops") in
-        0) say "no module in ${files[*]}, or each one is in another one" ;;
+        0) say "no module of ${files[*]} is a top: each is in another one, or has nothing in it, so that Yosys takes it for a black box" ;;
         1) top=$(cat "$dir/tops") ;;
         *) say "more than one module is in no other one: $(head -n 9 "$dir/tops" | paste -s -d ' ') - give the one to take behind the files" ;;
         esac
