@@ -78,10 +78,6 @@ flag_asked : (flag word : List ℕ) (known : Options) (rest : List (List ℕ)) �
 flag_asked flag word known [] is = grind arith
 flag_asked flag word known (value ∷ rest) is = grind arith
 
-flag_twice : (flag word : List ℕ) (known : Options) (rest : List (List ℕ)) → bytes_eq word flag ≡ true → flagged flag known true (word ∷ rest) ≡ None
-flag_twice flag word known [] is = grind arith
-flag_twice flag word known (value ∷ rest) is = grind arith
-
 option_asked : (flag word value : List ℕ) (known more : Options) (stood : Bool) (rest : List (List ℕ)) → bytes_eq word flag ≡ false → with_option word value known ≡ Some more
     → flagged flag known stood (word ∷ value ∷ rest) ≡ flagged flag more stood rest
 option_asked flag word value known more stood rest other is = grind arith
@@ -93,11 +89,6 @@ flag_behind flag [] word known one first is = absurd (omega (arith, one))
 flag_behind flag (w ∷ rest) word known one first is =
     flag_asked flag w known rest (ap (λ v. bytes_eq v flag) (sym first) ∙ is)
     ∙ ap (flagged flag known true) (sym (ap (λ n. take n rest) (let e : length (w ∷ rest) - 1 ≡ length rest = omega arith in e) ∙ take-length rest))
-
-pub flag_again : (flag : List ℕ) (words : List (List ℕ)) (word : List ℕ) (known : Options) → 1 ≤ length words → word ≡ get_or words 0 word → bytes_eq word flag ≡ true
-    → flagged flag known true words ≡ None
-flag_again flag [] word known one first is = absurd (omega (arith, one))
-flag_again flag (w ∷ rest) word known one first is = flag_twice flag w known rest (ap (λ v. bytes_eq v flag) (sym first) ∙ is)
 
 pub option_behind : (flag : List ℕ) (words : List (List ℕ)) (word again value : List ℕ) (known more : Options) (stood : Bool) → 2 ≤ length words
     → word ≡ get_or words 0 word → again ≡ get_or words 0 again → value ≡ get_or words 1 value → bytes_eq again flag ≡ false → with_option word value known ≡ Some more

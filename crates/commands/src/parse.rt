@@ -1,5 +1,5 @@
 // The grammar of the words.
-ghost use Rattle.std.specs.Prelude.{◌≡◌, ◌≤◌, ◌+◌, ◌-◌, ◌*◌, ◌&&◌, nat_le, true, false, MatchOption, IfSome, None, Some};
+ghost use Rattle.std.specs.Prelude.{◌≡◌, ◌≤◌, ◌+◌, ◌-◌, ◌*◌, ◌&&◌, bytes_eq, nat_le, true, false, MatchOption, IfSome, None, Some};
 ghost use Rattle.cyc_base.specs.declared.limits.TheConstants.{MAX_NODES as most_nodes};
 ghost use Rattle.commands.specs.Seen.{cells_seen, command_seen, options_seen, rounds_seen};
 ghost use Rattle.commands.specs.Words.{aiger_on as aiger_asked, cells as cells_asked, check_on as check_asked, command_alone as alone_asked, command_of, command_on as command_asked, delays_on as delays_asked, demo_on as demo_asked, equal_on as equal_asked, equal_with as equal_asked_with, file_of as file_asked, encoding_of as encoding_asked, explain_on as explain_asked, flagged as asked_flagged, form_of as form_asked, help_on as help_asked, loops_on as loops_asked, is_digit, is_file_word, no_options as asked_no_options, number_between as number_asked, kind_of as kind_asked, observe_of as observe_asked, options_of as options_asked, probe_of as probe_asked, rewrite_on as rewrite_asked, rounds as rounds_asked, sim_on as sim_asked, standard_input as standard_input_name, storm_on as storm_asked, storm_with as storm_asked_with, topic_of as topic_asked, unobserved as asked_unobserved, up_to, with_care as asked_with_care, with_nodes as asked_with_nodes, with_observe as asked_with_observe, with_option as asked_with_option};
@@ -187,7 +187,7 @@ fn flagged<'a>(
 {
     match words {
         [] => Some((known, stood)),
-        [word, rest @ ..] if word.bytes() == flag => {
+        [word, rest @ ..] if is_flag(word.bytes(), flag) => {
             if stood {
                 return None;
             }
@@ -199,6 +199,12 @@ fn flagged<'a>(
         }
         _ => None,
     }
+}
+
+fn is_flag(word: &[u8], flag: &[u8]) -> bool
+    ensures { result ≡ bytes_eq word.now flag.now }
+{
+    word == flag
 }
 
 // Loops are told as lines, or as a graph.
