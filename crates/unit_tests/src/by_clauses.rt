@@ -29,6 +29,9 @@ const MANY: u64 = 1_000;
 const KEEPS: &[u8] =
     b".model m\n.inputs x\n.outputs b a\n.names x b\n0 1\n.names x a a\n1- 1\n-1 1\n.end\n";
 
+/// Two gates of one function.
+const TWINS: &[u8] = b".model m\n.inputs x\n.outputs b c\n.names x b\n0 1\n.names x c\n0 1\n.end\n";
+
 /// A latch that goes to 0 where x is 0.
 const FALLS: &[u8] = b".model m\n.inputs x\n.outputs d\n.latch d q 1\n.names x q d\n11 1\n.end\n";
 
@@ -302,9 +305,15 @@ fn told_apart(
     Ok(by_all == never && by_loops == never)
 }
 
-/// The same of the wires x, b and a of the netlist whose gate a keeps its value, by number.
-fn keeps_apart(alloc: Global, here: u32, there: u32, never: bool) -> Result<bool, Fail> {
-    let net = net_of(alloc, KEEPS)?;
+/// The same of wires of a netlist's text, by number.
+fn keeps_apart(
+    alloc: Global,
+    text: &[u8],
+    here: u32,
+    there: u32,
+    never: bool,
+) -> Result<bool, Fail> {
+    let net = net_of(alloc, text)?;
     let (blocks, cut) = loops_of(alloc, &net)?;
     told_apart(
         alloc,
@@ -318,15 +327,15 @@ fn keeps_apart(alloc: Global, here: u32, there: u32, never: bool) -> Result<bool
 #[test]
 fn wires_are_told_apart(rt: HostRuntime) -> Result<(), Fail> {
     assert!(rt;
-        keeps_apart(rt.alloc(), 0, 2, true)?,
-        "x is 1 where a is, and a isn't 0"
+        keeps_apart(rt.alloc(), TWINS, 1, 2, true)?,
+        "both gates are the complement of x"
     );
     assert!(rt;
-        keeps_apart(rt.alloc(), 0, 1, false)?,
-        "b is the complement of x"
+        keeps_apart(rt.alloc(), TWINS, 0, 1, false)?,
+        "a gate is the complement of x"
     );
     assert!(rt;
-        keeps_apart(rt.alloc(), 1, 2, false)?,
+        keeps_apart(rt.alloc(), KEEPS, 1, 2, false)?,
         "b is 0 where a is 1"
     );
     Ok(())
