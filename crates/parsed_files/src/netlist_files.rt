@@ -1,5 +1,8 @@
 // The netlist of a netlist file.
-ghost use Rattle.std.specs.Prelude.{◌≡◌, ◌≤◌, ◌<◌, Ok, IfOk, IfErr, length, nat_lt};
+ghost use Rattle.std.specs.Prelude.{◌≡◌, ◌≢◌, ◌≤◌, ◌<◌, Ok, Err, IfOk, IfErr, MatchResult, length, nat_lt};
+ghost use Rattle.blif_read.specs.Reads.{reads};
+ghost use Rattle.blif_read.specs.Flattening.{CanBeFlattened};
+ghost use Rattle.blif_read.specs.declared.fault.BlifFault.TheVariants.{Memory};
 ghost use Rattle.netlist.specs.Netlists.{IsNetlist};
 ghost use Rattle.parsed_files.specs.Faults.{IsErrorOf};
 ghost use Rattle.parsed_files.specs.NetlistFiles.{netlist_of as netlist_meant, top_of};
@@ -7,7 +10,7 @@ ghost use Rattle.parsed_files.specs.Seen.{error_seen};
 
 use crate::errors::too_long;
 use crate::fault::FileError;
-use blif_read::{BlifModel, read};
+use blif_read::{BlifFault, BlifModel, Models, read};
 use cyc_base::{MAX_FILE_BYTES, Name};
 use flatten::flatten_owned;
 use netlist::Netlist;
@@ -59,6 +62,16 @@ pub fn netlist_of(alloc: Global, bytes: &[u8]) -> Result<Netlist, FileError>
     netlist_in(alloc, bytes)
 }
 
+// The models of a text, which is dropped once its lines stand.
+fn models_of(alloc: Global, bytes: Vec<u8>) -> Result<Models, BlifFault>
+    ensures models { MatchResult result
+        (λ models. reads bytes.items ≡ Ok models.list)
+        (λ fault. fault ≢ Memory → reads bytes.items ≡ Err fault) }
+    ensures flat { length bytes.items ≤ 4000000000 → IfOk result (λ models. CanBeFlattened models.list) }
+{
+    read(alloc, &bytes)
+}
+
 // The same, of a text that is dropped once its lines stand.
 fn netlist_in_owned(alloc: Global, bytes: Vec<u8>) -> Result<Netlist, FileError>
     requires { length bytes.items ≤ MAX_FILE_BYTES }
@@ -68,8 +81,7 @@ fn netlist_in_owned(alloc: Global, bytes: Vec<u8>) -> Result<Netlist, FileError>
     ensures latches { IfOk result (λ net. length net.latches ≤ 4000000) }
     ensures bad { IfErr result (λ error. IsErrorOf (netlist_meant bytes.items) (error_seen error)) }
 {
-    let models = read(alloc, &bytes)?;
-    drop(bytes);
+    let models = models_of(alloc, bytes)?;
     let top = top(models.list.items()).copy()?;
     Ok(flatten_owned(alloc, models, &top)?)
 }
