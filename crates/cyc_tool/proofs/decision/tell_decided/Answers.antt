@@ -14,8 +14,8 @@ returns-in-Ok c =
     let is = rw (c.net-net.ensures.net, c.blocks-blocks.ensures.blocks, c.cut-cut.ensures.cut) at (rw c.in-Ok.is at c.decide-decision.ensures.verdict) in
     IfOk-weaker c.tell_verdict.result _ _ (λ told decided. decided c.args.care.now is c.args.task.limit c.decide-decision.new.d) c.tell_verdict.ensures
 
-pub returns-in-Err : goal.returns-in-Err
-returns-in-Err c =
+pub returns : goal.returns
+returns c =
     let ensures = rw c.net-net.ensures.net at c.decide-decision.ensures in
     IfOk-weaker c.tell_limited.result _ _ (λ told same.
     limit_decides c.args.looped.now.net c.args.care.now c.args.task.limit c.args.task.observe (making_seen c.args.making) c.decide-decision.new.d told

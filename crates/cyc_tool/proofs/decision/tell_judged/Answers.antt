@@ -13,8 +13,8 @@ returns-in-Ok c =
     let is = rw c.net-net.ensures.net at (rw c.in-Ok.is at c.judge-judged.ensures.judgement) in
     IfOk-weaker c.tell_judgement.result _ _ (λ told decided. decided c.args.care.now is c.args.task.limit c.judge-judged.new.d) c.tell_judgement.ensures
 
-pub returns-in-Err : goal.returns-in-Err
-returns-in-Err c =
+pub returns : goal.returns
+returns c =
     let ensures = rw c.net-net.ensures.net at c.judge-judged.ensures in
     IfOk-weaker c.tell_limited.result _ _ (λ told same.
     limit_decides c.args.looped.now.net c.args.care.now c.args.task.limit c.args.task.observe (telling_seen c.args.telling) c.judge-judged.new.d told
