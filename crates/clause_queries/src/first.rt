@@ -1,4 +1,4 @@
-//! The first literal that can be true, by bisection.
+//! The first literal that can be true, by steps that double, and by bisection.
 
 ghost use Rattle.std.specs.Prelude.{ℕ, false, ◌≡◌, ◌<◌, ◌≤◌, ◌-◌, ◌*◌, ◌++◌, ◌∷◌, [], true, length, slice_index, IfOk};
 ghost use Rattle.ternary_clauses.specs.Formulas.{says};
@@ -19,11 +19,13 @@ pub enum First {
     Unknown,
 }
 
-// Where the first literal that can be true is: none before `low` can be, and the one at `high` can.
+// Where the first literal that can be true is: none before `low` can be, and the one at `high` can. Where it is asked next,
+// at most so many places past `low`, or in the middle.
 #[derive(Clone, Copy)]
 struct Interval {
     low: usize,
     high: usize,
+    step: usize,
 }
 
 // The first literal that is true in the model, of those up to one that is.
@@ -59,7 +61,7 @@ impl Query {
         self.ask(alloc, &assumed, conflicts)
     }
 
-    // Asks at the middle of an interval, which halves it. False where the solver gave up.
+    // Asks within an interval, at its middle at the latest, which makes it shorter. False where the solver gave up.
     fn halve(
         &mut self,
         alloc: Global,
@@ -77,7 +79,8 @@ impl Query {
         ensures interval { IsOpen self.old literals.now assumptions.now interval.new.low interval.new.high }
         ensures shorter { IfOk result (λ halved. halved ≡ true → interval.new.high - interval.new.low < interval.old.high - interval.old.low) }
     {
-        let middle = interval.low + (interval.high - interval.low) / 2;
+        let step = interval.step.min((interval.high - interval.low) / 2);
+        let middle = interval.low + step;
         match self.ask_with(alloc, assumptions, literals[middle], conflicts)? {
             Reply::Model(model) => {
                 interval.high = first_true(literals, &model, middle);
@@ -85,6 +88,7 @@ impl Query {
             }
             Reply::NoModel => {
                 interval.low = middle + 1;
+                interval.step = 2 * step + 1;
                 Ok(true)
             }
             Reply::Unknown => Ok(false),
@@ -137,7 +141,11 @@ impl Query {
         match self.ask_with(alloc, assumptions, literals[last], conflicts)? {
             Reply::Model(model) => {
                 let high = first_true(literals, &model, last);
-                let interval = Interval { low: 0, high };
+                let interval = Interval {
+                    low: 0,
+                    high,
+                    step: 0,
+                };
                 self.bisect(alloc, interval, literals, assumptions, conflicts)
             }
             Reply::NoModel => Ok(First::Nowhere),

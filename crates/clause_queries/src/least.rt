@@ -29,7 +29,7 @@ fn vector(alloc: Global, columns: &[u32], model: &[bool]) -> Result<Vec<bool>, A
 }
 
 // So many conflicts are spent at most on whether several columns can be at 0 together.
-const CONFLICTS_OF_SEVERAL: u64 = 1000;
+const CONFLICTS_OF_SEVERAL: u64 = 200;
 
 // The negations of some literals.
 fn negations(alloc: Global, literals: &[u32]) -> Result<Vec<u32>, AllocError>
@@ -156,7 +156,7 @@ impl Query {
         ensures unchanged { self.new ≡ self.old }
         ensures fixed { IfOk result (λ are_fixed. are_fixed ≡ true → (assumptions : List ℕ) → IsFixed self.old assumptions [] fixed.old.items model.old.items → IsFixed self.old assumptions columns.now fixed.new.items model.new.items) }
     {
-        let mut several = columns.len();
+        let mut several = 1;
         for place in 0..columns.len() {
             several = self.lower(alloc, fixed, model, &columns[place..], several, conflicts)?;
             if !self.fix_column(alloc, fixed, model, columns[place], conflicts)? {

@@ -8,12 +8,10 @@ pub returns-in-Model-clause-interval : goal.returns-in-Model-clause-interval
 returns-in-Model-clause-interval c =
     let low = c.args.interval.now.low in
     let high = c.args.interval.now.high in
-    let middle = low + (high - low) / 2 in
-    grind (arith, open-lower c.args.self.now c.args.literals.now c.args.assumptions.now low high middle c.first_true-interval.result c.in-Model.model.items c.requires.interval)
+    grind (arith, open-lower c.args.self.now c.args.literals.now c.args.assumptions.now low high (low + c.min-step.result) c.first_true-interval.result c.in-Model.model.items c.requires.interval)
 
 pub returns-in-NoModel-clause-interval : goal.returns-in-NoModel-clause-interval
 returns-in-NoModel-clause-interval c =
     let low = c.args.interval.now.low in
     let high = c.args.interval.now.high in
-    let middle = low + (high - low) / 2 in
-    grind (arith, open-higher c.args.self.now c.args.literals.now c.args.assumptions.now low high middle c.requires.rising c.requires.interval)
+    grind (arith, open-higher c.args.self.now c.args.literals.now c.args.assumptions.now low high (low + c.min-step.result) c.requires.rising c.requires.interval)
