@@ -49,37 +49,37 @@ struct LoopOnCare<'a> {
 /// The witness that a vector is, if it is one of care.
 fn witness_at(
     alloc: Global,
-    area: &LoopOnCare<'_>,
+    on_care: &LoopOnCare<'_>,
     vector: Vec<bool>,
 ) -> Result<Option<Witness>, AllocError>
-    requires care { IsCareOf area.now.block.now.net area.now.care.now }
-    requires readers { AreReaders area.now.block.now (gates_in area.now.block.now) area.now.readers.now }
-    requires vector { length vector.items ≡ columns area.now.block.now.net }
-    ensures { IfOk result (λ found. IfSome found (IsWitness area.now.block.now.net (loops_in area.now.block.now) area.now.care.now (gates_in area.now.block.now))) }
+    requires care { IsCareOf on_care.now.block.now.net on_care.now.care.now }
+    requires readers { AreReaders on_care.now.block.now (gates_in on_care.now.block.now) on_care.now.readers.now }
+    requires vector { length vector.items ≡ columns on_care.now.block.now.net }
+    ensures { IfOk result (λ found. IfSome found (IsWitness on_care.now.block.now.net (loops_in on_care.now.block.now) on_care.now.care.now (gates_in on_care.now.block.now))) }
 {
-    if !is_care_vector(alloc, area.block.net(), area.care, &vector)? {
+    if !is_care_vector(alloc, on_care.block.net(), on_care.care, &vector)? {
         return Ok(None);
     }
-    let count = count_at(alloc, area.block, area.readers, &vector)?;
+    let count = count_at(alloc, on_care.block, on_care.readers, &vector)?;
     Ok(Some(Witness { vector, count }))
 }
 
 /// A witness with the value of one column flipped, at which gates are known later.
 fn later_witness(
     alloc: Global,
-    area: &LoopOnCare<'_>,
+    on_care: &LoopOnCare<'_>,
     witness: &Witness,
     column: usize,
 ) -> Result<Option<Witness>, AllocError>
-    requires care { IsCareOf area.now.block.now.net area.now.care.now }
-    requires readers { AreReaders area.now.block.now (gates_in area.now.block.now) area.now.readers.now }
-    requires witness { IsWitness area.now.block.now.net (loops_in area.now.block.now) area.now.care.now (gates_in area.now.block.now) witness.now }
+    requires care { IsCareOf on_care.now.block.now.net on_care.now.care.now }
+    requires readers { AreReaders on_care.now.block.now (gates_in on_care.now.block.now) on_care.now.readers.now }
+    requires witness { IsWitness on_care.now.block.now.net (loops_in on_care.now.block.now) on_care.now.care.now (gates_in on_care.now.block.now) witness.now }
     requires column { column < length witness.now.vector.items }
-    ensures { IfOk result (λ found. IfSome found (IsWitness area.now.block.now.net (loops_in area.now.block.now) area.now.care.now (gates_in area.now.block.now))) }
+    ensures { IfOk result (λ found. IfSome found (IsWitness on_care.now.block.now.net (loops_in on_care.now.block.now) on_care.now.care.now (gates_in on_care.now.block.now))) }
 {
     let mut vector = witness.vector.to_vec(alloc)?;
     vector[column] = !vector[column];
-    match witness_at(alloc, area, vector)? {
+    match witness_at(alloc, on_care, vector)? {
         Some(other) if other.count.is_later(&witness.count) => Ok(Some(other)),
         _ => Ok(None),
     }
@@ -94,24 +94,24 @@ fn tries_for(block: &LoopedBlock<'_>, sweeps: u32) -> usize {
 /// The last of the witnesses that come one after another, each from the one before it.
 fn climb_from(
     alloc: Global,
-    area: &LoopOnCare<'_>,
+    on_care: &LoopOnCare<'_>,
     mut witness: Witness,
 ) -> Result<Witness, AllocError>
-    requires care { IsCareOf area.now.block.now.net area.now.care.now }
-    requires readers { AreReaders area.now.block.now (gates_in area.now.block.now) area.now.readers.now }
-    requires witness { IsWitness area.now.block.now.net (loops_in area.now.block.now) area.now.care.now (gates_in area.now.block.now) witness }
-    ensures { IfOk result (IsWitness area.now.block.now.net (loops_in area.now.block.now) area.now.care.now (gates_in area.now.block.now)) }
+    requires care { IsCareOf on_care.now.block.now.net on_care.now.care.now }
+    requires readers { AreReaders on_care.now.block.now (gates_in on_care.now.block.now) on_care.now.readers.now }
+    requires witness { IsWitness on_care.now.block.now.net (loops_in on_care.now.block.now) on_care.now.care.now (gates_in on_care.now.block.now) witness }
+    ensures { IfOk result (IsWitness on_care.now.block.now.net (loops_in on_care.now.block.now) on_care.now.care.now (gates_in on_care.now.block.now)) }
 {
-    let most = area.block.cut_count();
-    let width = area.block.net().columns() as usize;
+    let most = on_care.block.cut_count();
+    let width = on_care.block.net().columns() as usize;
     // How many tries in a row have failed.
     let mut failed: usize = 0;
-    for turn in 0..tries_for(area.block, most) {
+    for turn in 0..tries_for(on_care.block, most) {
         let sweeps = witness.count.sweeps;
-        if failed == width || sweeps >= most || turn >= tries_for(area.block, sweeps) {
+        if failed == width || sweeps >= most || turn >= tries_for(on_care.block, sweeps) {
             return Ok(witness);
         }
-        match later_witness(alloc, area, &witness, turn % width)? {
+        match later_witness(alloc, on_care, &witness, turn % width)? {
             Some(later) => {
                 witness = later;
                 failed = 0;
@@ -139,15 +139,15 @@ pub(crate) fn climb(
         return Ok(sweeps);
     }
     let readers = readers_in(alloc, block)?;
-    let area = LoopOnCare {
+    let on_care = LoopOnCare {
         block,
         care,
         readers: &readers,
     };
-    let Some(witness) = witness_at(alloc, &area, vector)? else {
+    let Some(witness) = witness_at(alloc, &on_care, vector)? else {
         return Ok(sweeps);
     };
-    let last = climb_from(alloc, &area, witness)?;
+    let last = climb_from(alloc, &on_care, witness)?;
     let more = last.count.sweeps;
     if sweeps < more { Ok(more) } else { Ok(sweeps) }
 }

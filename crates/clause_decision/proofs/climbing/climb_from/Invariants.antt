@@ -5,6 +5,6 @@ use Rattle.clause_decision.proofs.climbing.climb_from.Given as goal
 
 abbrev pub invariant-loop-turn : goal.invariant-loop-turn
 invariant-loop-turn l = record {
-  witness : IsWitness l.area.block.now.net (loops_in l.area.block.now) l.area.care.now (gates_in l.area.block.now) l.witness;
-  failed : l.failed ≤ columns l.area.block.now.net;
+  witness : IsWitness l.on_care.block.now.net (loops_in l.on_care.block.now) l.on_care.care.now (gates_in l.on_care.block.now) l.witness;
+  failed : l.failed ≤ columns l.on_care.block.now.net;
 }

@@ -5,6 +5,6 @@ use Rattle.clause_decision.proofs.climbing.witness_at.Goals as goal
 
 pub returns : goal.returns
 returns c =
-    let l : LoopAt = c.args.area.now.block.now in
+    let l : LoopAt = c.args.on_care.now.block.now in
     let v : List Bool = c.args.vector.items in
-    grind (arith, care_vector_decides l.net c.args.area.now.care.now v)
+    grind (arith, care_vector_decides l.net c.args.on_care.now.care.now v)
