@@ -227,7 +227,7 @@ fn sweeps_of_loop(
 }
 
 /// How many sweeps the loop at this place of the blocks needs on care, or none where the solver gives up after so many
-/// conflicts in one of its searches.
+/// conflicts in one of its searches, or its clauses are too many.
 ///
 /// The condition is that the care set and the scope are the netlist's, that the block is a loop whose gates are in the
 /// scope, that there is a care vector, and that no gate is unknown at one.
@@ -257,7 +257,7 @@ pub fn sweeps_needed(
 }
 
 /// How many sweeps the loop at this place of the blocks needs on care, or none where the solver gives up after so many
-/// conflicts in one of its searches. Its gates may be unknown at care vectors.
+/// conflicts in one of its searches, or its clauses are too many. Its gates may be unknown at care vectors.
 ///
 /// The condition is that the care set and the scope are the netlist's, that the block is a loop whose gates are in the
 /// scope, and that no gate from outside that feeds the loop is unknown at a care vector.
