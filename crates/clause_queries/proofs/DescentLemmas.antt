@@ -1,14 +1,15 @@
 -- Columns fixed one by one, and what the least vector is for tests.
-use Rattle.std.proofs.Common.{◌≡◌, ℕ, Bool, true, false, not, List, [], ◌∷◌, ◌++◌, length, Option, Some, None, refl, sym, ap, subst, ◌∙◌, true≢false, arith}
-use Rattle.std.specs.Prelude.{find, is_some}
+use Rattle.std.proofs.Common.{◌≡◌, ◌<◌, ◌*◌, ℕ, Bool, true, false, not, List, [], ◌∷◌, ◌++◌, length, get_or, map, Option, Some, None, refl, sym, ap, subst, ◌∙◌, true≢false, arith}
+use Rattle.std.specs.Prelude.{All, find, is_some}
 use Rattle.std.proofs.lemmas.List.{map-append, length-map}
-use Rattle.std.proofs.lemmas.List.Elements.{All-push}
+use Rattle.std.proofs.lemmas.List.Elements.{All-nil, All-head, All-tail, All-cons, All-push, All-append, All-map}
 use Rattle.std.proofs.lemmas.Bool.{not-true, false_from_ne_true}
 use Rattle.cyc_base.specs.Vectors.{vectors, AtMost}
 use Rattle.cyc_base.proofs.ListLemmas.{All-but_last}
 use Rattle.cyc_base.proofs.VectorLemmas.{find-none}
 use Rattle.ternary_clauses.specs.Formulas.{says, negation}
 use Rattle.ternary_clauses.proofs.ClauseLemmas.{says-negation}
+use Rattle.clause_queries.specs.Clauses.{IsWithin}
 use Rattle.clause_queries.specs.Queries.{Problem, IsModelUnder, HasNoModelUnder, IsPossible}
 use Rattle.clause_queries.specs.Vectors.{vector_of, Asks, IsLeastVector, IsFound, IsFirstOf, TellsWhetherAny}
 use Rattle.clause_queries.specs.declared.least.Found.{Found}
@@ -26,6 +27,23 @@ under-last p assumptions l m under = (All-but_last (λ x. says m x ≡ true) ass
 
 pub under-more : (p : Problem) (assumptions : List ℕ) (l : ℕ) (m : List Bool) → IsModelUnder p assumptions m → says m l ≡ true → IsModelUnder p (assumptions ++ l ∷ []) m
 under-more p assumptions l m under is_true = record { model = under.model; assumed = All-push (λ x. says m x ≡ true) assumptions l under.assumed is_true }
+
+All-first : {A : Type 0} (P : A → Type 0) (xs ys : List A) → All P (xs ++ ys) → All P xs
+All-first P [] ys all = All-nil P
+All-first P (x ∷ xs) ys all = grind (arith, All-first P xs ys (All-tail P x (xs ++ ys) all), All-tail, All-cons, All-head)
+
+negation-within : (variables l : ℕ) → l < 2 * variables → negation l < 2 * variables
+negation-within variables l within = grind arith
+
+-- literals, and the negations of others
+pub negations-within : (variables : ℕ) (ls others : List ℕ) → IsWithin variables ls → IsWithin variables others → IsWithin variables (ls ++ map negation others)
+negations-within variables ls others first second =
+    All-append (λ l. l < 2 * variables) ls (map negation others) first
+    (All-map (λ l. l < 2 * variables) negation others (λ k d less. negation-within variables (get_or others k d) (second k d less)))
+
+-- fewer assumptions
+pub under-first : (p : Problem) (assumptions more : List ℕ) (m : List Bool) → IsModelUnder p (assumptions ++ more) m → IsModelUnder p assumptions m
+under-first p assumptions more m under = record { model = under.model; assumed = All-first (λ x. says m x ≡ true) assumptions more under.assumed }
 
 -- ---- the descent
 
@@ -66,6 +84,16 @@ fixed-more p assumptions columns fixed model next column literal is under reads 
 
     wide : (m : List Bool) → length (vector_of columns m) ≡ length (vector_of columns next)
     wide m = length-map columns (says m) ∙ sym (length-map columns (says next))
+
+-- any model under what is fixed has the same vector
+pub fixed-again : (p : Problem) (assumptions columns fixed : List ℕ) (model next : List Bool) → IsFixed p assumptions columns fixed model → IsModelUnder p fixed next → IsFixed p assumptions columns fixed next
+fixed-again p assumptions columns fixed model next is under = record {
+  under = under;
+  assumed = is.assumed;
+  same = λ m u. is.same m u ∙ sym (is.same next under);
+  all = λ m u e. is.all m u (e ∙ is.same next under);
+  least = λ m u. subst (λ v. AtMost v (vector_of columns m)) (sym (is.same next under)) (is.least m u);
+}
 
 -- a model with 0 in the column
 pub fixed-low : (p : Problem) (assumptions columns fixed : List ℕ) (model next : List Bool) (column : ℕ) → IsFixed p assumptions columns fixed model →

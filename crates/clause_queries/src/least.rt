@@ -1,6 +1,7 @@
 //! The least vector of the models in some columns, column by column.
 
-ghost use Rattle.std.specs.Prelude.{◌≡◌, ◌<◌, ◌*◌, ◌++◌, ◌∷◌, [], ℕ, Bool, true, List, length, IfOk, OnOk};
+ghost use Rattle.std.specs.Prelude.{◌≡◌, ◌<◌, ◌*◌, ◌++◌, ◌∷◌, [], ℕ, Bool, true, List, length, map, IfOk, OnOk};
+ghost use Rattle.ternary_clauses.specs.Formulas.{negation as negation_of};
 ghost use Rattle.clause_queries.specs.Clauses.{IsWithin};
 ghost use Rattle.clause_queries.specs.Descent.{IsFixed};
 ghost use Rattle.clause_queries.specs.Queries.{IsModelUnder};
@@ -27,7 +28,86 @@ fn vector(alloc: Global, columns: &[u32], model: &[bool]) -> Result<Vec<bool>, A
     columns.iter().map(|c| value_of(model, *c)).collect(alloc)
 }
 
+// So many conflicts are spent at most on whether several columns can be at 0 together.
+const CONFLICTS_OF_SEVERAL: u64 = 1000;
+
+// The negations of some literals.
+fn negations(alloc: Global, literals: &[u32]) -> Result<Vec<u32>, AllocError>
+    ensures { IfOk result (λ negations. negations.items ≡ map negation_of literals.now) }
+{
+    literals.iter().map(|l| negation(*l)).collect(alloc)
+}
+
+// Literals, and after them the negations of others.
+fn with_negations(alloc: Global, literals: &[u32], others: &[u32]) -> Result<Vec<u32>, AllocError>
+    ensures { IfOk result (λ all. all.items ≡ literals.now ++ map negation_of others.now) }
+{
+    let mut all = literals.to_vec(alloc)?;
+    all.extend_from_slice(&negations(alloc, others)?)?;
+    Ok(all)
+}
+
+// Whether the first of the columns is at 1.
+fn is_first_high(columns: &[u32], model: &[bool]) -> bool {
+    columns.first().is_some_and(|c| value_of(model, *c))
+}
+
 impl Query {
+    // Looks for a model of what is fixed that has all of these columns at 0, and takes it for the last one. It tells whether
+    // there is one; soon it gives up.
+    fn try_low(
+        &mut self,
+        alloc: Global,
+        fixed: &[u32],
+        model: &mut Vec<bool>,
+        columns: &[u32],
+        conflicts: u64,
+    ) -> Result<bool, AllocError>
+        requires fixed { IsWithin self.old.variables fixed.now }
+        requires columns { IsWithin self.old.variables columns.now }
+        ensures unchanged { self.new ≡ self.old }
+        ensures model { IfOk result (λ _. IsModelUnder self.old fixed.now model.old.items → IsModelUnder self.old fixed.now model.new.items) }
+    {
+        let assumed = with_negations(alloc, fixed, columns)?;
+        match self.ask(alloc, &assumed, conflicts.min(CONFLICTS_OF_SEVERAL))? {
+            Reply::Model(lower) => {
+                *model = lower;
+                Ok(true)
+            }
+            Reply::NoModel => Ok(false),
+            Reply::Unknown => Ok(false),
+        }
+    }
+
+    // Where the first of the columns to come is at 1, looks for a model of what is fixed that has several of them at 0:
+    // twice as many as the last time, or half of that, and so on. It tells how many it found.
+    fn lower(
+        &mut self,
+        alloc: Global,
+        fixed: &[u32],
+        model: &mut Vec<bool>,
+        columns: &[u32],
+        last: usize,
+        conflicts: u64,
+    ) -> Result<usize, AllocError>
+        requires fixed { IsWithin self.old.variables fixed.now }
+        requires columns { IsWithin self.old.variables columns.now }
+        ensures unchanged { self.new ≡ self.old }
+        ensures model { IfOk result (λ _. IsModelUnder self.old fixed.now model.old.items → IsModelUnder self.old fixed.now model.new.items) }
+    {
+        if !is_first_high(columns, model) {
+            return Ok(last);
+        }
+        let mut count = last.saturating_mul(2).min(columns.len());
+        while count > 1 {
+            if self.try_low(alloc, fixed, model, &columns[..count], conflicts)? {
+                return Ok(count);
+            }
+            count /= 2;
+        }
+        Ok(1)
+    }
+
     // Fixes one more column as low as what is fixed permits: at 0 where the last model has 0 or a new one has, and else
     // at 1. The model is one of what is fixed. False where the solver gave up.
     fn fix_column(
@@ -76,8 +156,10 @@ impl Query {
         ensures unchanged { self.new ≡ self.old }
         ensures fixed { IfOk result (λ are_fixed. are_fixed ≡ true → (assumptions : List ℕ) → IsFixed self.old assumptions [] fixed.old.items model.old.items → IsFixed self.old assumptions columns.now fixed.new.items model.new.items) }
     {
-        for column in columns {
-            if !self.fix_column(alloc, fixed, model, *column, conflicts)? {
+        let mut several = columns.len();
+        for place in 0..columns.len() {
+            several = self.lower(alloc, fixed, model, &columns[place..], several, conflicts)?;
+            if !self.fix_column(alloc, fixed, model, columns[place], conflicts)? {
                 return Ok(false);
             }
         }
@@ -107,8 +189,7 @@ impl Query {
     }
 
     /// The least vector that models with each assumption true have in these columns, 0 before 1, column by column.
-    /// The solver gives up after so many conflicts in one of its searches, of which there are at most one more than
-    /// columns.
+    /// The solver gives up after so many conflicts in one of the searches for one column.
     pub fn least_vector(
         &mut self,
         alloc: Global,

@@ -15,5 +15,5 @@ mod sizes;
 pub use aig_core::{AigFault, Built};
 pub use graphs::graph;
 pub use rewriting::rewrite;
-pub use sizes::{rewritten_gates, rewritten_size};
+pub use sizes::rewritten_gates;
 pub use unroll::UnrollFault;
