@@ -4,7 +4,7 @@ use Rattle.cyc_tool.proofs.Common.{nat_le, if◌then◌else◌, Option, Arena, P
 use Rattle.commands.specs.declared.encoding.Encoding.{Encoding}
 use Rattle.std.specs.Prelude.{◌+◌, IsSomeAnd, length}
 use Rattle.std.proofs.lemmas.Option.{none-some}
-use Rattle.accepted_runs.proofs.HarmlessLemmas.{accepted_is_harmless}
+use Rattle.schedules.proofs.HarmlessLemmas.{accepted_is_harmless}
 use Rattle.cyc_base.specs.declared.limits.TheConstants.{MAX_REWRITTEN_ITEMS}
 use Rattle.aig_core.specs.declared.building.Built.{Built}
 use Rattle.rewriting.specs.Graphs.{graph_of, most_ands}

@@ -2,7 +2,7 @@
 use Rattle.std.specs.Prelude.{◌≡◌, ◌≢◌, ◌≤◌, ◌⊎◌, codes, ℕ, Bool, List, Some, None, IfSome, IsSomeAnd}
 use Rattle.std.specs.declared.option.Option.{Option}
 use Rattle.bdd_store.specs.Arena.{Arena}
-use Rattle.accepted_runs.specs.Harmless.{IsHarmless}
+use Rattle.schedules.specs.Harmless.{IsHarmless}
 use Rattle.cyc_io.specs.Files.{Files}
 use Rattle.refusals.specs.Refusals.{IsUnknownAt, Proves}
 use Rattle.refusals.specs.declared.refusal.Refusal.{Refusal}

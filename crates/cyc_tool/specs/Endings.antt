@@ -16,7 +16,7 @@ use Rattle.netlist.specs.declared.parts.Parts.{Parts}
 use Rattle.loops.specs.Listed.{first_gates}
 use Rattle.blif_write.specs.Written.{written}
 use Rattle.aig_core.specs.declared.building.Built.{Built}
-use Rattle.aiger_write.specs.Text.{aiger_text, binary_text}
+use Rattle.aig_core.specs.Text.{aiger_text, binary_text}
 use Rattle.commands.specs.declared.encoding.Encoding.{Encoding}
 use Rattle.commands.specs.declared.encoding.Encoding.TheVariants.{Ascii, Binary}
 use Rattle.refusals.specs.Refusals.{loose_gates}
