@@ -337,21 +337,33 @@ def held_open(net, given):
         held -= out
 
 
-def shortest_cycle(net, wires, goal):
+def matter(net, wires, signal):
+    """The gates on those unknown pins of a gate of which, at some values of all of these, a flip flips the gate."""
+    pins, cover = net.gates[signal - net.first]
+    choices = [(0, 1) if wires[pin] == UNKNOWN else (wires[pin],) for pin in pins]
+    flip = lambda bits, place: (*bits[:place], 1 - bits[place], *bits[place + 1 :])
+    return {
+        pin
+        for place, pin in enumerate(pins)
+        if wires[pin] == UNKNOWN and any(value(cover, bits) != value(cover, flip(bits, place)) for bits in itertools.product(*choices))
+    }
+
+
+def distances(reads, start, most):
+    """How many steps lead from a gate back to each gate that leads to it."""
+    found, front = {}, [start]
+    for far in range(1, most + 1):
+        front = [pin for signal in front for pin in reads[signal] if found.setdefault(pin, far) == far]
+        front = list(dict.fromkeys(front))
+        if not front:
+            break
+    return found
+
+
+def shortest_cycle(reads, goal):
     """The number of gates on a shortest cycle of unknown gates that leads to a gate."""
-    unknown = [signal for signal in range(net.first, len(wires)) if wires[signal] == UNKNOWN]
-    reads = {signal: [pin for pin in net.gates[signal - net.first][0] if pin in unknown] for signal in unknown}
-
-    def distances(start):
-        found, front = {}, [start]
-        for far in itertools.count(1):
-            front = [pin for signal in front for pin in reads[signal] if found.setdefault(pin, far) == far]
-            front = list(dict.fromkeys(front))
-            if not front or far > len(unknown):
-                return found
-
-    leading = {goal, *distances(goal)}
-    return min(distances(signal).get(signal, len(wires) + 1) for signal in leading)
+    leading = {goal, *distances(reads, goal, len(reads))}
+    return min(distances(reads, signal, len(reads)).get(signal, len(reads) + 1) for signal in leading)
 
 
 def why_explained_wrong(net, text):
@@ -366,17 +378,23 @@ def why_explained_wrong(net, text):
     if list(parts) not in (["cycle", "needs"], ["cycle", "reaches", "needs"]):
         return f"its lines are {list(parts)}"
     cycle, way = [number[name] for name in parts["cycle"]], [number[name] for name in parts.get("reaches", [])]
-    reads = lambda signal, pin: signal >= net.first and pin in net.gates[signal - net.first][0]
-    if any(wires[signal] != UNKNOWN for signal in cycle + way):
+    unknown = [signal for signal in range(net.first, len(wires)) if wires[signal] == UNKNOWN]
+    reads = {signal: matter(net, wires, signal) for signal in unknown}
+    if any(signal not in reads for signal in cycle + way):
         return "it shows a known wire"
-    if not all(reads(signal, pin) for signal, pin in zip(cycle, cycle[-1:] + cycle[:-1])):
+    if not all(pin in reads[signal] for signal, pin in zip(cycle, cycle[-1:] + cycle[:-1])):
         return "its cycle is none"
-    if len(cycle) != shortest_cycle(net, wires, goal):
-        return f"a shortest cycle has {shortest_cycle(net, wires, goal)} gates"
-    if way and not (any(reads(way[0], pin) for pin in cycle) and all(map(reads, way[1:], way)) and not set(way) & set(cycle)):
+    if len(cycle) != shortest_cycle(reads, goal):
+        return f"a shortest cycle has {shortest_cycle(reads, goal)} gates"
+    if way and not (reads[way[0]] & set(cycle) and all(pin in reads[signal] for signal, pin in zip(way[1:], way))):
         return "its way is none"
+    if len({*cycle, *way}) != len(cycle + way):
+        return "a gate is on it twice"
     if goal not in (way[-1:] or cycle):
         return "it doesn't lead to the wire"
+    back = {goal: 0, **{signal: far for signal, far in distances(reads, goal, len(reads)).items() if signal != goal}}
+    if len(way) != min(back.get(signal, len(reads)) for signal in cycle):
+        return "a shorter way leads to the wire"
     given = [UNKNOWN] * net.first
     for need in parts["needs"]:
         name, bit = need.split("=")

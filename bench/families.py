@@ -20,6 +20,7 @@ Two units share a loop where each may be fed by the other's output and a select 
   three_units N        two adders of N bits and a rotation in any order, which a word of three bits chooses
   four_units N         three adders of N bits and a rotation in any order, which a word of five bits chooses
   multiplied_select N  two adders of eight bits, the select being a middle bit of a product of N bits
+  carry_either_way N   an adder of N bits whose carry runs up or down, as one wire says
   looped_multiplier N  a multiplier of N bits and an adder that share a loop
   equal_words N        a loop closed where a = b, and b = c, and not a = c, for words of N bits
   equal_pairs N        a loop closed where a = b and b = c
@@ -584,6 +585,21 @@ def parity(n):
         return chain, m.gate(NOT, "opposite", tree[0])
 
     return closed_by("parity", bits, add_selects)
+
+
+@family()
+def carry_either_way(n):
+    a, b = operands(n)
+    m = Model("carry_either_way", ["up", *itertools.chain(*zip(a, b)), "x"], numbered("s", n))
+    for i in range(n):
+        below = f"u{i - 1}" if i else "x"
+        above = f"d{i + 1}" if i < n - 1 else "x"
+        m.gate(CHOOSE, f"c{i}", "up", below, above)
+        m.gate(CARRY, f"k{i}", a[i], b[i], f"c{i}")
+        m.gate(COPY, f"u{i}", f"k{i}")
+        m.gate(COPY, f"d{i}", f"k{i}")
+        m.gate(SUM, f"s{i}", a[i], b[i], f"c{i}")
+    return m, None
 
 
 @family()

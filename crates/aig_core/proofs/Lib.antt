@@ -1,9 +1,13 @@
-pub mod Common
-pub mod GraphLemmas
-pub mod ConjunctionLemmas
-pub mod LawLemmas
-pub mod AnswerLemmas
-pub mod CoverLemmas
-pub mod DepthLemmas
-pub mod OrderLemmas
-pub mod BuildingLemmas
+mod Common
+mod GraphLemmas
+mod ConjunctionLemmas
+mod LawLemmas
+mod AnswerLemmas
+mod CoverLemmas
+mod DepthLemmas
+mod OrderLemmas
+mod BuildingLemmas
+mod TextLemmas
+mod GroupLemmas
+mod ReadingLemmas
+mod CircuitLemmas

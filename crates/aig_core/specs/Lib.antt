@@ -6,5 +6,8 @@ pub mod Covers
 pub mod Depth
 pub mod Building
 pub mod Answers
+pub mod Circuits
+pub mod Text
+pub mod Reading
 -- The code's own: what its parts say to each other.
 pub mod Tasks

@@ -8,11 +8,10 @@ use bdd_ops::Diagrams;
 use cyc_base::Name;
 use cyc_io::{HostShelf, HostSink, TextSink};
 use cyc_tool::run;
-use probes::{Glitches, LastRound, Probe, Trace};
+use probes::{Glitches, LastRound, Probe, Trace, VcdOut, one_of_each_kind};
 use std::alloc::{AllocError, Global};
 use std::io;
 use std::io::Write;
-use vcd_out::{VcdOut, one_of_each_kind};
 
 // The words of a line.
 fn words_of(alloc: Global, line: &str) -> Result<Vec<Name>, AllocError> {

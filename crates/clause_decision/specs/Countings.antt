@@ -9,6 +9,7 @@ use Rattle.refusals.specs.Acceptance.{SomeCareVector}
 use Rattle.ternary_clauses.specs.declared.formula.Rails.{Rails}
 use Rattle.clause_queries.specs.declared.query.Reply.{Reply}
 use Rattle.clause_queries.specs.declared.query.Reply.TheVariants as replies
+use Rattle.clause_decision.specs.declared.climbing.Witness.{Witness}
 use Rattle.clause_decision.specs.declared.counting.Needed.{Needed}
 use Rattle.clause_decision.specs.declared.counting.Needed.TheVariants as needs
 use Rattle.clause_decision.specs.declared.counting.Sign.{Sign}
@@ -16,6 +17,7 @@ use Rattle.clause_decision.specs.declared.counting.Sign.TheVariants as signs
 use Rattle.clause_decision.specs.declared.sweeping.Swept.{Swept}
 use Rattle.clause_decision.specs.Changes.{AreFedKnown}
 use Rattle.clause_decision.specs.Cones.{vector_in}
+use Rattle.clause_decision.specs.Simulations.{IsCountAt}
 use Rattle.clause_decision.specs.Scopes.{AreKnownOnCare}
 use Rattle.clause_decision.specs.Sweeping.{IsLeastCount, NeedsMore}
 use Rattle.clause_decision.specs.Sweepings.{IsSwept}
@@ -63,3 +65,8 @@ TellsNeeded net loops care gates k needs.Unknown = Unit {0}
 pub record IsCountedTo (net : Parts) (care : CareSet) (marks : List Bool) (loops : Loops) (gates : List ℕ) (s : Swept) (made k : ℕ) (found : Needed) : Type 0 where
   pub swept : IsSwept net care marks loops gates s made
   pub tells : TellsNeeded net loops care gates k found
+
+-- a care vector, and how many sweeps the loop of these gates needs there
+pub record IsWitness (net : Parts) (loops : Loops) (care : CareSet) (gates : List ℕ) (w : Witness) : Type 0 where
+  pub counts : IsCareVector net care w.vector.items
+  pub is : IsCountAt net loops w.vector.items gates w.count.sweeps

@@ -200,7 +200,8 @@ fn ask_all(alloc: Global, asked: &Asked, budget: Budget) -> Result<bool, AllocEr
     ask_pairs(alloc, &mut query, &literals, budget)
 }
 
-/// Whether at no care vector one wire of one of these pairs is 0 and its other wire 1. False says nothing of them.
+/// Whether at no care vector one wire of one of these pairs is 0 and its other wire 1. False says nothing of them, and comes
+/// too where their clauses are too many.
 ///
 /// Each pair is asked for with few conflicts. Where no model has them apart, and the solver gave up on some, the hints are
 /// asked for one by one, with few conflicts each, and then the pairs with more; and where that is too few, both once again

@@ -111,7 +111,7 @@ fn care_question(alloc: Global, net: &Netlist, care: &Care) -> Result<Question, 
     })
 }
 
-/// Whether there is a care vector, or none where the solver gives up after so many conflicts.
+/// Whether there is a care vector, or none where the solver gives up after so many conflicts, or its clauses are too many.
 ///
 /// The condition is that the care set is the netlist's.
 pub fn is_possible(

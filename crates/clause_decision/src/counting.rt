@@ -17,9 +17,10 @@ ghost use Rattle.clause_decision.specs.Sweeping.{IsLeastCount};
 ghost use Rattle.clause_decision.specs.Sweepings.{AreCopies, IsSweepable, IsSwept, IsSweptOn};
 
 use crate::changing::ask_changes;
+use crate::climbing::climb;
 use crate::looped_block::LoopedBlock;
 use crate::scope::Scope;
-use crate::simulating::count_at;
+use crate::simulating::sweeps_in;
 use crate::sweeping::{Swept, ask_open, sweep_on, unswept};
 use care_sets::Care;
 use clause_queries::Reply;
@@ -95,17 +96,20 @@ fn needed_by(
     alloc: Global,
     swept: &Swept,
     block: &LoopedBlock<'_>,
+    care: &Care,
     reply: Reply,
 ) -> Result<Needed, AllocError>
-    requires { length swept.now.cone.rails.items ≡ count block.now.net }
-    ensures { (care : CareSet) (k : ℕ) → TellsTooFew block.now.net (loops_in block.now) care (gates_in block.now) swept.now.cone.rails.items k reply →
-        NeedAtLeast block.now.net (loops_in block.now) care (gates_in block.now) k →
-        IfOk result (TellsNeeded block.now.net (loops_in block.now) care (gates_in block.now) k) }
+    requires care { IsCareOf block.now.net care.now }
+    requires rails { length swept.now.cone.rails.items ≡ count block.now.net }
+    ensures { (k : ℕ) → TellsTooFew block.now.net (loops_in block.now) care.now (gates_in block.now) swept.now.cone.rails.items k reply →
+        NeedAtLeast block.now.net (loops_in block.now) care.now (gates_in block.now) k →
+        IfOk result (TellsNeeded block.now.net (loops_in block.now) care.now (gates_in block.now) k) }
 {
     match reply {
         Reply::Model(model) => {
             let vector = swept.cone.vector_in(alloc, block.net(), &model)?;
-            Ok(Needed::AtLeast(count_at(alloc, block, &vector)?))
+            let sweeps = sweeps_in(alloc, block, &vector)?;
+            Ok(Needed::AtLeast(climb(alloc, block, care, vector, sweeps)?))
         }
         Reply::NoModel => Ok(Needed::These),
         Reply::Unknown => Ok(Needed::Unknown),
@@ -118,28 +122,30 @@ fn next_needed(
     alloc: Global,
     swept: &mut Swept,
     block: &LoopedBlock<'_>,
+    care: &Care,
     search: Search,
     sweeps: u32,
     needed: u32,
 ) -> Result<Needed, ClausesFault>
+    requires care { IsCareOf block.now.net care.now }
     requires swept { IsSweepable block.now.net (gates_in block.now) swept.old }
     requires some { 0 < length block.now.cuts }
     requires needed { sweeps ≤ needed }
-    ensures { (care : CareSet) (scope : TheScope) (k : ℕ) → IsScopeOf block.now.net scope → AreInScope block.now.net scope (gates_in block.now) →
-        Serves search.sign block.now.net care (gates_in block.now) →
-        IsSwept block.now.net care scope.gates (loops_in block.now) (gates_in block.now) swept.old k → k + first_number search.sign ≡ sweeps →
-        NeedAtLeast block.now.net (loops_in block.now) care (gates_in block.now) needed →
-        IfOk result (IsCountedTo block.now.net care scope.gates (loops_in block.now) (gates_in block.now) swept.new (k + 1) sweeps) }
+    ensures { (scope : TheScope) (k : ℕ) → IsScopeOf block.now.net scope → AreInScope block.now.net scope (gates_in block.now) →
+        Serves search.sign block.now.net care.now (gates_in block.now) →
+        IsSwept block.now.net care.now scope.gates (loops_in block.now) (gates_in block.now) swept.old k → k + first_number search.sign ≡ sweeps →
+        NeedAtLeast block.now.net (loops_in block.now) care.now (gates_in block.now) needed →
+        IfOk result (IsCountedTo block.now.net care.now scope.gates (loops_in block.now) (gates_in block.now) swept.new (k + 1) sweeps) }
 {
     let before = sweep_on(alloc, swept, block)?;
     if sweeps < needed {
         return Ok(Needed::AtLeast(needed));
     }
     let reply = ask_after(alloc, swept, block, &before, search)?;
-    Ok(needed_by(alloc, swept, block, reply)?)
+    Ok(needed_by(alloc, swept, block, care, reply)?)
 }
 
-/// How many sweeps are needed at least: those at the vector of zeros, if it is one of care.
+/// How many sweeps are needed at least: those at the vector of zeros, if it is one of care, or near it.
 fn first_needed(
     alloc: Global,
     block: &LoopedBlock<'_>,
@@ -155,7 +161,8 @@ fn first_needed(
     if !is_care_vector(alloc, net, care, &zeros)? {
         return Ok(first_of(sign));
     }
-    count_at(alloc, block, &zeros)
+    let sweeps = sweeps_in(alloc, block, &zeros)?;
+    climb(alloc, block, care, zeros, sweeps)
 }
 
 /// How many sweeps a loop needs on care. As many as it has cut wires are enough.
@@ -180,7 +187,7 @@ fn count_sweeps(
     }
     let mut swept = unswept(alloc, block.net(), care, scope, block.gates())?;
     for sweeps in first_of(search.sign)..most {
-        match next_needed(alloc, &mut swept, block, search, sweeps, needed)? {
+        match next_needed(alloc, &mut swept, block, care, search, sweeps, needed)? {
             Needed::These => return Ok(Some(sweeps)),
             Needed::AtLeast(number) => needed = number,
             Needed::Unknown => return Ok(None),
@@ -220,7 +227,7 @@ fn sweeps_of_loop(
 }
 
 /// How many sweeps the loop at this place of the blocks needs on care, or none where the solver gives up after so many
-/// conflicts in one of its searches.
+/// conflicts in one of its searches, or its clauses are too many.
 ///
 /// The condition is that the care set and the scope are the netlist's, that the block is a loop whose gates are in the
 /// scope, that there is a care vector, and that no gate is unknown at one.
@@ -250,7 +257,7 @@ pub fn sweeps_needed(
 }
 
 /// How many sweeps the loop at this place of the blocks needs on care, or none where the solver gives up after so many
-/// conflicts in one of its searches. Its gates may be unknown at care vectors.
+/// conflicts in one of its searches, or its clauses are too many. Its gates may be unknown at care vectors.
 ///
 /// The condition is that the care set and the scope are the netlist's, that the block is a loop whose gates are in the
 /// scope, and that no gate from outside that feeds the loop is unknown at a care vector.

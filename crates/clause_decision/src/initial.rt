@@ -73,7 +73,7 @@ fn outside_question(alloc: Global, net: &Netlist, care: &Care) -> Result<Questio
 }
 
 /// The least state that the inits permit and that isn't in the invariant. The solver gives up after so many conflicts
-/// in one of its searches.
+/// in one of its searches, or where its clauses are too many.
 ///
 /// The condition is that the care set is the netlist's.
 pub fn least_outside(

@@ -79,7 +79,7 @@ fn leaving_question(
 }
 
 /// The least care vector whose next state isn't in the invariant. The solver gives up after so many conflicts in one of
-/// its searches.
+/// its searches, or where its clauses are too many.
 ///
 /// The condition is that the care set and the scope are the netlist's, that the scope has the gates that drive the
 /// latches which the invariant reads, and that on care what the latches load is known.

@@ -10,6 +10,7 @@
 mod apart;
 mod care;
 mod changing;
+mod climbing;
 mod cones;
 mod counting;
 mod initial;

@@ -106,7 +106,8 @@ fn new_value(
     }
 }
 
-/// Sets the gates that wait, and those that then read something new, and answers which cut wires have changed.
+/// Sets the gates that wait, and those that then read something new, and answers which cut wires have changed. `settled`
+/// counts the gates that are set.
 ///
 /// A gate becomes known at most once in all sweeps of a loop, and only then do its readers wait. So all sweeps together
 /// compute each gate at most once more than it has pins in the loop.
@@ -116,6 +117,7 @@ fn sweep(
     before: &[Trit],
     after: &mut [Trit],
     mut waiting: Vec<u32>,
+    settled: &mut u64,
 ) -> Result<Vec<u32>, AllocError>
     requires block { IsLoopAt simulation.now.block.now }
     requires readers { AreReaders simulation.now.block.now (gates_in simulation.now.block.now) simulation.now.readers.now }
@@ -126,6 +128,7 @@ fn sweep(
     while let Some(gate) = waiting.pop() {
         if let Some(value) = new_value(alloc, simulation, before, after, gate)? {
             after[gate as usize] = value;
+            *settled = settled.saturating_add(1);
             if simulation.block.is_cut(gate) {
                 changed.push(gate)?;
             } else {
@@ -157,8 +160,67 @@ fn show(
     Ok(waiting)
 }
 
-/// How many sweeps a loop needs at a vector. So many as it has cut wires are enough.
+/// How many sweeps a loop needs at a vector, and how late its gates are known there.
+#[derive(Clone, Copy)]
+pub(crate) struct Count {
+    pub sweeps: u32,
+    /// The sum over its gates of the sweep that sets each. No clause speaks of it.
+    pub delay: u64,
+}
+
+impl Count {
+    /// Whether gates are known later than by another count, sweeps first.
+    pub(crate) fn is_later(&self, other: &Count) -> bool {
+        self.sweeps > other.sweeps || self.sweeps == other.sweeps && self.delay > other.delay
+    }
+}
+
+/// How many sweeps a loop with these readers needs at a vector. So many as it has cut wires are enough.
 pub(crate) fn count_at(
+    alloc: Global,
+    block: &LoopedBlock<'_>,
+    readers: &[GateList],
+    vector: &[bool],
+) -> Result<Count, AllocError>
+    requires readers { AreReaders block.now (gates_in block.now) readers.now }
+    requires vector { length vector.now ≡ columns block.now.net }
+    ensures { IfOk result (λ count. IsCountAt block.now.net (loops_in block.now) vector.now (gates_in block.now) count.sweeps) }
+{
+    let most = block.cut_count();
+    let outside = settle_at(alloc, block.net(), vector)?;
+    let simulation = Simulation {
+        block,
+        readers,
+        outside: &outside,
+    };
+    let mut before = vec![in alloc; Trit::X; block.net().gates() as usize]?;
+    let mut after = vec![in alloc; Trit::X; block.net().gates() as usize]?;
+    let mut waiting = block.gates().to_vec(alloc)?;
+    let mut delay: u64 = 0;
+    for sweeps in 0..most {
+        let mut settled: u64 = 0;
+        let changed = sweep(
+            alloc,
+            &simulation,
+            &before,
+            &mut after,
+            waiting,
+            &mut settled,
+        )?;
+        delay = delay.saturating_add(settled.saturating_mul(u64::from(sweeps)));
+        if changed.is_empty() {
+            return Ok(Count { sweeps, delay });
+        }
+        waiting = show(alloc, readers, &changed, &mut before, &after)?;
+    }
+    Ok(Count {
+        sweeps: most,
+        delay,
+    })
+}
+
+/// How many sweeps a loop needs at a vector.
+pub(crate) fn sweeps_in(
     alloc: Global,
     block: &LoopedBlock<'_>,
     vector: &[bool],
@@ -166,25 +228,9 @@ pub(crate) fn count_at(
     requires { length vector.now ≡ columns block.now.net }
     ensures { IfOk result (IsCountAt block.now.net (loops_in block.now) vector.now (gates_in block.now)) }
 {
-    let most = block.cut_count();
-    let outside = settle_at(alloc, block.net(), vector)?;
     let readers = readers_in(alloc, block)?;
-    let simulation = Simulation {
-        block,
-        readers: &readers,
-        outside: &outside,
-    };
-    let mut before = vec![in alloc; Trit::X; block.net().gates() as usize]?;
-    let mut after = vec![in alloc; Trit::X; block.net().gates() as usize]?;
-    let mut waiting = block.gates().to_vec(alloc)?;
-    for sweeps in 0..most {
-        let changed = sweep(alloc, &simulation, &before, &mut after, waiting)?;
-        if changed.is_empty() {
-            return Ok(sweeps);
-        }
-        waiting = show(alloc, &readers, &changed, &mut before, &after)?;
-    }
-    Ok(most)
+    let count = count_at(alloc, block, &readers, vector)?;
+    Ok(count.sweeps)
 }
 
 /// How many sweeps the loop at this place of the blocks needs at a vector, by ternary simulation.
@@ -202,5 +248,5 @@ pub fn sweeps_at(
     ensures { IfOk result (IsCountAt looped.now.net (loops_by looped.now.blocks looped.now.cut) vector.now (block_at looped.now.blocks block).gates) }
 {
     let block = LoopedBlock::of(alloc, looped, block)?;
-    count_at(alloc, &block, vector)
+    sweeps_in(alloc, &block, vector)
 }

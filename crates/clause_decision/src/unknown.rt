@@ -117,7 +117,7 @@ fn ask_first(alloc: Global, asked: &Unknowns, conflicts: u64) -> Result<First, A
 }
 
 /// The place of the first of these gates that is unknown at some care vector. The solver gives up after so many
-/// conflicts in one of its searches.
+/// conflicts in one of its searches, or where its clauses are too many.
 ///
 /// The condition is that the care set and the scope are the netlist's, and that the gates are in the scope.
 pub fn first_unknown(
@@ -159,7 +159,7 @@ fn ask_each(
 }
 
 /// For each of these gates whether it is unknown at some care vector, or none where the solver gives up after so many
-/// conflicts in one of its searches.
+/// conflicts in one of its searches, or its clauses are too many.
 ///
 /// The condition is that the care set and the scope are the netlist's, and that the gates are in the scope.
 pub fn each_unknown(
@@ -211,7 +211,8 @@ fn unknown_question(
     })
 }
 
-/// The least care vector at which a gate is unknown. The solver gives up after so many conflicts in one of its searches.
+/// The least care vector at which a gate is unknown. The solver gives up after so many conflicts in one of its searches, or
+/// where its clauses are too many.
 ///
 /// The condition is that the care set and the scope are the netlist's, and that the gate is in the scope.
 pub fn least_unknown(

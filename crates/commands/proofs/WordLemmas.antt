@@ -5,7 +5,7 @@ use Rattle.std.proofs.Math.Seq.{take-length}
 use Rattle.std.specs.List.{list_all}
 use Rattle.std.specs.Option.{option_and_then}
 use Rattle.std.specs.Str.{bytes_eq}
-use Rattle.commands.specs.Words.{Options, Check, Rewrite, Equal, Storm, command_of, command_on, flagged, file_of, is_file_word, no_options, is_digit, with_digits, up_to, with_option, options_of, check_on, rewrite_on, unobserved, equal_with, storm_with}
+use Rattle.commands.specs.Words.{Options, Purpose, Decide, Equal, command_in, command_on, flagged, is_file_word, no_options, is_digit, with_digits, up_to, with_option, options_of, decide_on, unobserved, equal_with}
 
 -- more digits make no less of a number
 no_less : (n : ℕ) (digits : List ℕ) → n ≤ with_digits n digits
@@ -40,19 +40,12 @@ pub no_more_options : (word value : List ℕ) (known : Options) (rest : List (Li
 no_more_options word value known rest is = ap (option_and_then (λ o. options_of o rest)) is
 
 -- the commands that decide, with their options
-pub check_asked : (file : List ℕ) (rest : List (List ℕ)) (options : Options) → options_of no_options rest ≡ Some options
-    → check_on file rest ≡ Some (Check file options)
-check_asked file rest options found = ap (option_map (Check file)) found
+pub decide_asked : (purpose : Purpose) (file : List ℕ) (rest : List (List ℕ)) (options : Options) → options_of no_options rest ≡ Some options
+    → decide_on purpose file rest ≡ Some (Decide file options purpose)
+decide_asked purpose file rest options found = ap (option_map (λ o. Decide file o purpose)) found
 
-pub check_not_asked : (file : List ℕ) (rest : List (List ℕ)) → options_of no_options rest ≡ None → check_on file rest ≡ None
-check_not_asked file rest found = ap (option_map (Check file)) found
-
-pub rewrite_asked : (file : List ℕ) (rest : List (List ℕ)) (options : Options) → options_of no_options rest ≡ Some options
-    → rewrite_on file rest ≡ Some (Rewrite file options)
-rewrite_asked file rest options found = ap (option_map (Rewrite file)) found
-
-pub rewrite_not_asked : (file : List ℕ) (rest : List (List ℕ)) → options_of no_options rest ≡ None → rewrite_on file rest ≡ None
-rewrite_not_asked file rest found = ap (option_map (Rewrite file)) found
+pub decide_not_asked : (purpose : Purpose) (file : List ℕ) (rest : List (List ℕ)) → options_of no_options rest ≡ None → decide_on purpose file rest ≡ None
+decide_not_asked purpose file rest found = ap (option_map (λ o. Decide file o purpose)) found
 
 pub equal_asked : (file second : List ℕ) (rest : List (List ℕ)) (options known : Options) → options_of no_options rest ≡ Some options
     → unobserved options ≡ Some known → equal_with file second rest ≡ Some (Equal file second known)
@@ -64,13 +57,6 @@ equal_not_asked file second rest none = ap (λ o. option_map (Equal file second)
 pub equal_observed : (file second : List ℕ) (rest : List (List ℕ)) (options : Options) → options_of no_options rest ≡ Some options
     → unobserved options ≡ None → equal_with file second rest ≡ None
 equal_observed file second rest options found observed = grind arith
-
-pub storm_asked : (file : List ℕ) (rounds : ℕ) (rest : List (List ℕ)) (options : Options) → options_of no_options rest ≡ Some options
-    → storm_with file rounds rest ≡ Some (Storm file rounds options)
-storm_asked file rounds rest options found = ap (option_map (Storm file rounds)) found
-
-pub storm_not_asked : (file : List ℕ) (rounds : ℕ) (rest : List (List ℕ)) → options_of no_options rest ≡ None → storm_with file rounds rest ≡ None
-storm_not_asked file rounds rest found = ap (option_map (Storm file rounds)) found
 
 -- options and a flag, word by word
 flag_asked : (flag word : List ℕ) (known : Options) (rest : List (List ℕ)) → bytes_eq word flag ≡ true
@@ -101,10 +87,10 @@ option_behind flag (w ∷ v ∷ rest) word again value known more stood two firs
 
 -- a command on a word, and the words behind it
 pub command_behind : (words : List (List ℕ)) (command word : List ℕ) → 2 ≤ length words → command ≡ get_or words 0 command → word ≡ get_or words 1 word
-    → is_file_word word ≡ true → command_of words ≡ command_on command (file_of word) (take (length words - 2) (drop 2 words))
+    → is_file_word word ≡ true → command_in words ≡ command_on command word (take (length words - 2) (drop 2 words))
 command_behind [] command word two first second file = absurd (omega (arith, two))
 command_behind (c ∷ []) command word two first second file = absurd (omega (arith, two))
 command_behind (c ∷ w ∷ rest) command word two first second file =
-    ap (λ t. if t then command_on c (file_of w) rest else None) (ap is_file_word (sym second) ∙ file)
-    ∙ ap₂ (λ a b. command_on a (file_of b) rest) (sym first) (sym second)
-    ∙ ap (command_on command (file_of word)) (sym (ap (λ n. take n rest) (let e : length (c ∷ w ∷ rest) - 2 ≡ length rest = omega arith in e) ∙ take-length rest))
+    ap (λ t. if t then command_on c w rest else None) (ap is_file_word (sym second) ∙ file)
+    ∙ ap₂ (λ a b. command_on a b rest) (sym first) (sym second)
+    ∙ ap (command_on command word) (sym (ap (λ n. take n rest) (let e : length (c ∷ w ∷ rest) - 2 ≡ length rest = omega arith in e) ∙ take-length rest))

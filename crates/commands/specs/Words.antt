@@ -1,5 +1,5 @@
 -- What the words of a call ask for.
-use Rattle.std.specs.Prelude.{ℕ, ◌+◌, ◌-◌, ◌*◌, List, [], ◌∷◌, ◌&&◌, ◌==◌, not, length, Some, None, is_none, nat_eq, nat_le, codes, if◌then◌else◌, Bool, true, false, option_map}
+use Rattle.std.specs.Prelude.{ℕ, ◌+◌, ◌-◌, ◌*◌, List, [], ◌∷◌, ◌&&◌, ◌==◌, not, length, map, Some, None, is_none, nat_eq, nat_le, codes, if◌then◌else◌, Bool, true, false, option_map}
 use Rattle.std.specs.List.{list_all, starts_with}
 use Rattle.std.specs.Option.{option_and_then}
 use Rattle.std.specs.Str.{bytes_eq}
@@ -25,16 +25,25 @@ pub record Options : Type 0 where
 abbrev pub no_options : Options
 no_options = record { care = None; nodes = None; observe = None }
 
+-- what a netlist is decided for
+pub data Purpose : Type 0 where
+  -- to tell the verdict
+  Judges : Purpose
+  -- to write it without loops
+  Rewrites : Purpose
+  -- to write its and-inverter graph, without loops
+  WritesGraph : Encoding → Purpose
+  -- to show why a refused wire is undetermined, as lines or as a graph
+  Explains : Form → Purpose
+  -- to tell that the ring arbiter of so many cells is accepted
+  Demonstrates : ℕ → Purpose
+  -- to write a schedule of so many rounds on which a refused wire never rests
+  Storms : ℕ → Purpose
+
 -- a command with its words
 pub data Command : Type 0 where
-  -- decides the netlist of a file
-  Check : List ℕ → Options → Command
-  -- decides it, and writes it without loops
-  Rewrite : List ℕ → Options → Command
-  -- decides it, and writes its and-inverter graph, without loops, in a form of AIGER
-  Aiger : List ℕ → Options → Encoding → Command
-  -- decides it, and shows why a refused wire is undetermined
-  Explain : List ℕ → Options → Form → Command
+  -- decides the netlist of a file, for a purpose
+  Decide : List ℕ → Options → Purpose → Command
   -- compares the netlist of a file with that of a second one
   Equal : List ℕ → List ℕ → Options → Command
   -- writes its flat netlist
@@ -47,8 +56,6 @@ pub data Command : Type 0 where
   Delays : List ℕ → List ℕ → List ℕ → Option Kind → Command
   -- decides the ring arbiter of so many cells
   Demo : ℕ → Command
-  -- decides the netlist of a file, and writes a schedule of so many rounds on which a refused wire never rests
-  Storm : List ℕ → ℕ → Options → Command
   -- tells what each command does
   Help : Command
   -- tells what this one does
@@ -95,7 +102,7 @@ observe_of word =
 abbrev pub with_care : List ℕ → Options → Option Options
 with_care value known =
     if is_file_word value && is_none known.care
-    then Some (record { care = Some (file_of value); nodes = known.nodes; observe = known.observe }) else None
+    then Some (record { care = Some value; nodes = known.nodes; observe = known.observe }) else None
 
 abbrev pub with_nodes : List ℕ → Options → Option Options
 with_nodes value known =
@@ -123,11 +130,9 @@ options_of known [] = Some known
 options_of known (word ∷ []) = None
 options_of known (word ∷ value ∷ rest) = option_and_then (λ more. options_of more rest) (with_option word value known)
 
-abbrev pub check_on : List ℕ → List (List ℕ) → Option Command
-check_on file rest = option_map (Check file) (options_of no_options rest)
-
-abbrev pub rewrite_on : List ℕ → List (List ℕ) → Option Command
-rewrite_on file rest = option_map (Rewrite file) (options_of no_options rest)
+-- a decision may have options
+abbrev pub decide_on : Purpose → List ℕ → List (List ℕ) → Option Command
+decide_on purpose file rest = option_map (λ options. Decide file options purpose) (options_of no_options rest)
 
 -- These options, and whether the flag stands among them, an option without a value that comes once at most: beside those
 -- that are known, and behind words where it stood already or didn't.
@@ -144,7 +149,7 @@ encoding_of true = encoding.Binary
 encoding_of false = encoding.Ascii
 
 abbrev pub aiger_on : List ℕ → List (List ℕ) → Option Command
-aiger_on file rest = option_map (λ found. Aiger file found.0 (encoding_of found.1)) (flagged (codes "--binary") no_options false rest)
+aiger_on file rest = option_map (λ found. Decide file found.0 (WritesGraph (encoding_of found.1))) (flagged (codes "--binary") no_options false rest)
 
 -- an explanation is told as lines, or as a graph where `--dot` stands among its options
 abbrev pub form_of : Bool → Form
@@ -152,7 +157,7 @@ form_of true = form.Dot
 form_of false = form.Lines
 
 abbrev pub explain_on : List ℕ → List (List ℕ) → Option Command
-explain_on file rest = option_map (λ found. Explain file found.0 (form_of found.1)) (flagged (codes "--dot") no_options false rest)
+explain_on file rest = option_map (λ found. Decide file found.0 (Explains (form_of found.1))) (flagged (codes "--dot") no_options false rest)
 
 -- loops are told as lines, or as a graph
 abbrev pub loops_on : List ℕ → List (List ℕ) → Option Command
@@ -169,11 +174,11 @@ equal_with file second rest = option_map (Equal file second) (option_and_then un
 
 abbrev pub equal_on : List ℕ → List (List ℕ) → Option Command
 equal_on file [] = None
-equal_on file (second ∷ rest) = if is_file_word second then equal_with file (file_of second) rest else None
+equal_on file (second ∷ rest) = if is_file_word second then equal_with file second rest else None
 
 -- a simulation wants one more file
 abbrev pub sim_on : List ℕ → List (List ℕ) → Option Command
-sim_on file (vectors ∷ []) = if is_file_word vectors then Some (Sim file (file_of vectors)) else None
+sim_on file (vectors ∷ []) = if is_file_word vectors then Some (Sim file vectors) else None
 sim_on file other = None
 
 abbrev pub kind_of : List ℕ → Option Kind
@@ -193,7 +198,7 @@ probe_of other = None
 -- a play wants two more, and may have a probe
 abbrev pub delays_on : List ℕ → List (List ℕ) → Option Command
 delays_on file (vectors ∷ schedule ∷ rest) =
-    if is_file_word vectors && is_file_word schedule then option_map (Delays file (file_of vectors) (file_of schedule)) (probe_of rest) else None
+    if is_file_word vectors && is_file_word schedule then option_map (Delays file vectors schedule) (probe_of rest) else None
 delays_on file other = None
 
 -- a demonstration wants a number of cells alone
@@ -208,12 +213,9 @@ demo_on word other = None
 abbrev pub rounds : List ℕ → Option ℕ
 rounds word = number_between 1 10000 word
 
-abbrev pub storm_with : List ℕ → ℕ → List (List ℕ) → Option Command
-storm_with file number rest = option_map (Storm file number) (options_of no_options rest)
-
 abbrev pub storm_on : List ℕ → List (List ℕ) → Option Command
 storm_on file [] = None
-storm_on file (word ∷ rest) = option_and_then (λ number. storm_with file number rest) (rounds word)
+storm_on file (word ∷ rest) = option_and_then (λ number. decide_on (Storms number) file rest) (rounds word)
 
 -- what each command's name tells of
 abbrev pub topic_of : List ℕ → Option Topic
@@ -239,8 +241,8 @@ help_on word other = None
 -- the command of this name on a word, with the words behind it
 abbrev pub command_on : List ℕ → List ℕ → List (List ℕ) → Option Command
 command_on command word rest =
-    if bytes_eq command (codes "check") then check_on word rest
-    else if bytes_eq command (codes "rewrite") then rewrite_on word rest
+    if bytes_eq command (codes "check") then decide_on Judges word rest
+    else if bytes_eq command (codes "rewrite") then decide_on Rewrites word rest
     else if bytes_eq command (codes "aiger") then aiger_on word rest
     else if bytes_eq command (codes "explain") then explain_on word rest
     else if bytes_eq command (codes "equal") then equal_on word rest
@@ -260,8 +262,12 @@ command_alone word =
     else if bytes_eq word (codes "--version") then Some Version
     else None
 
--- nothing for words outside the grammar
+-- the command of words in which each file has its name, or nothing for words outside the grammar
+abbrev pub command_in : List (List ℕ) → Option Command
+command_in (word ∷ []) = command_alone word
+command_in (command ∷ word ∷ rest) = if is_file_word word then command_on command word rest else None
+command_in [] = None
+
+-- and of the words of a call
 abbrev pub command_of : List (List ℕ) → Option Command
-command_of (word ∷ []) = command_alone word
-command_of (command ∷ word ∷ rest) = if is_file_word word then command_on command (file_of word) rest else None
-command_of [] = None
+command_of words = command_in (map file_of words)

@@ -1,8 +1,8 @@
 ghost use Rattle.std.specs.Prelude.{◌≤◌, unwrap_or};
 
-use crate::encoding::Encoding;
 use crate::form::Form;
 use crate::kind::Kind;
+use crate::purpose::Purpose;
 use crate::topic::Topic;
 use cyc_base::Name;
 use refusals::Observe;
@@ -39,14 +39,8 @@ pub struct Rounds {
 /// A command with its words. Files stand in the order in which they are read.
 #[derive(Clone, Copy, Drop)]
 pub enum Command<'a> {
-    /// Decides the netlist of this file.
-    Check(&'a Name, Options<'a>),
-    /// Decides it, and writes it without loops.
-    Rewrite(&'a Name, Options<'a>),
-    /// Decides it, and writes its and-inverter graph, without loops, in a form of AIGER.
-    Aiger(&'a Name, Options<'a>, Encoding),
-    /// Decides it, and shows why a refused wire is undetermined.
-    Explain(&'a Name, Options<'a>, Form),
+    /// Decides the netlist of this file, and does what it is decided for.
+    Decide(&'a Name, Options<'a>, Purpose),
     /// Compares the netlist of this file with that of a second one. All wires are observed.
     Equal(&'a Name, &'a Name, Options<'a>),
     /// Writes its flat netlist.
@@ -60,8 +54,6 @@ pub enum Command<'a> {
     Delays(&'a Name, &'a Name, &'a Name, Option<Kind>),
     /// Decides the ring arbiter of so many cells.
     Demo(Cells),
-    /// Decides the netlist of this file, and writes a schedule of so many rounds on which a refused wire never rests.
-    Storm(&'a Name, Rounds, Options<'a>),
     /// Tells what each command does.
     Help,
     /// Tells what this one does.

@@ -1,13 +1,14 @@
 // The grammar of the words.
 ghost use Rattle.std.specs.Prelude.{◌≡◌, ◌≤◌, ◌+◌, ◌-◌, ◌*◌, ◌&&◌, bytes_eq, nat_le, true, false, MatchOption, IfSome, None, Some};
 ghost use Rattle.cyc_base.specs.declared.limits.TheConstants.{MAX_NODES as most_nodes};
-ghost use Rattle.commands.specs.Seen.{cells_seen, command_seen, options_seen, rounds_seen};
-ghost use Rattle.commands.specs.Words.{aiger_on as aiger_asked, cells as cells_asked, check_on as check_asked, command_alone as alone_asked, command_of, command_on as command_asked, delays_on as delays_asked, demo_on as demo_asked, equal_on as equal_asked, equal_with as equal_asked_with, file_of as file_asked, encoding_of as encoding_asked, explain_on as explain_asked, flagged as asked_flagged, form_of as form_asked, help_on as help_asked, loops_on as loops_asked, is_digit, is_file_word, no_options as asked_no_options, number_between as number_asked, kind_of as kind_asked, observe_of as observe_asked, options_of as options_asked, probe_of as probe_asked, rewrite_on as rewrite_asked, rounds as rounds_asked, sim_on as sim_asked, standard_input as standard_input_name, storm_on as storm_asked, storm_with as storm_asked_with, topic_of as topic_asked, unobserved as asked_unobserved, up_to, with_care as asked_with_care, with_nodes as asked_with_nodes, with_observe as asked_with_observe, with_option as asked_with_option};
+ghost use Rattle.commands.specs.Seen.{cells_seen, command_seen, options_seen, purpose_seen, rounds_seen};
+ghost use Rattle.commands.specs.Words.{aiger_on as aiger_asked, cells as cells_asked, command_alone as alone_asked, command_in, command_on as command_asked, decide_on as decide_asked, delays_on as delays_asked, demo_on as demo_asked, equal_on as equal_asked, equal_with as equal_asked_with, encoding_of as encoding_asked, explain_on as explain_asked, flagged as asked_flagged, form_of as form_asked, help_on as help_asked, loops_on as loops_asked, is_digit, is_file_word, no_options as asked_no_options, number_between as number_asked, kind_of as kind_asked, observe_of as observe_asked, options_of as options_asked, probe_of as probe_asked, rounds as rounds_asked, sim_on as sim_asked, storm_on as storm_asked, topic_of as topic_asked, unobserved as asked_unobserved, up_to, with_care as asked_with_care, with_nodes as asked_with_nodes, with_observe as asked_with_observe, with_option as asked_with_option};
 
 use crate::command::{Cells, Command, Options, Rounds};
 use crate::encoding::Encoding;
 use crate::form::Form;
 use crate::kind::Kind;
+use crate::purpose::{Making, Purpose, Telling};
 use crate::topic::Topic;
 use cyc_base::{MAX_NODES, MAX_RING_CELLS, MIN_NODES, MIN_RING_CELLS, Name};
 use refusals::Observe;
@@ -15,20 +16,15 @@ use refusals::Observe;
 /// The most rounds of a storm.
 const MAX_ROUNDS: u32 = 10_000;
 
-/// Standard input, as a file.
-pub const STANDARD_INPUT: &[u8] = b"/dev/stdin";
-
 /// The command that the words ask for, or nothing for words outside the grammar. A file that is `-` is standard input,
-/// whose name is given.
-pub fn command_of_words<'a>(words: &'a [Name], standard_input: &'a Name) -> Option<Command<'a>>
-    requires { standard_input.now ≡ standard_input_name }
-    ensures { MatchOption result (command_of words.now ≡ None) (λ command. command_of words.now ≡ Some (command_seen command)) }
+/// which `files_named` gives its name before.
+pub fn command_of_words<'a>(words: &'a [Name]) -> Option<Command<'a>>
+    ensures { MatchOption result (command_in words.now ≡ None) (λ command. command_in words.now ≡ Some (command_seen command)) }
 {
     match words {
         [word] => command_alone(word.bytes()),
         [command, word, rest @ ..] if is_file(word.bytes()) => {
-            let word = file_of(word, standard_input);
-            command_on(command.bytes(), word, rest, standard_input)
+            command_on(command.bytes(), word, rest)
         }
         _ => None,
     }
@@ -47,30 +43,26 @@ fn command_alone<'a>(word: &[u8]) -> Option<Command<'a>>
 }
 
 // The command of this name on a word, with the words behind it.
-fn command_on<'a>(
-    command: &[u8],
-    word: &'a Name,
-    rest: &'a [Name],
-    standard_input: &'a Name,
-) -> Option<Command<'a>>
-    requires { standard_input.now ≡ standard_input_name }
+fn command_on<'a>(command: &[u8], word: &'a Name, rest: &'a [Name]) -> Option<Command<'a>>
     ensures { MatchOption result (command_asked command.now word.now rest.now ≡ None)
         (λ asked. command_asked command.now word.now rest.now ≡ Some (command_seen asked)) }
 {
     if command == b"check".as_slice() {
-        return check_on(word, rest, standard_input);
+        let purpose = Purpose::Tell(Telling::Judge);
+        return decide_on(word, purpose, rest);
     }
     if command == b"rewrite".as_slice() {
-        return rewrite_on(word, rest, standard_input);
+        let purpose = Purpose::Make(Making::Rewrite);
+        return decide_on(word, purpose, rest);
     }
     if command == b"aiger".as_slice() {
-        return aiger_on(word, rest, standard_input);
+        return aiger_on(word, rest);
     }
     if command == b"explain".as_slice() {
-        return explain_on(word, rest, standard_input);
+        return explain_on(word, rest);
     }
     if command == b"equal".as_slice() {
-        return equal_on(word, rest, standard_input);
+        return equal_on(word, rest);
     }
     if command == b"flat".as_slice() && rest.is_empty() {
         return Some(Command::Flat(word));
@@ -79,33 +71,21 @@ fn command_on<'a>(
         return loops_on(word, rest);
     }
     if command == b"sim".as_slice() {
-        return sim_on(word, rest, standard_input);
+        return sim_on(word, rest);
     }
     if command == b"delays".as_slice() {
-        return delays_on(word, rest, standard_input);
+        return delays_on(word, rest);
     }
     if command == b"demo".as_slice() {
         return demo_on(word, rest);
     }
     if command == b"storm".as_slice() {
-        return storm_on(word, rest, standard_input);
+        return storm_on(word, rest);
     }
     if command == b"help".as_slice() {
         return help_on(word, rest);
     }
     None
-}
-
-// The file that a word names.
-fn file_of<'a>(word: &'a Name, standard_input: &'a Name) -> &'a Name
-    requires { standard_input.now ≡ standard_input_name }
-    ensures { result.now ≡ file_asked word.now }
-{
-    if word.bytes() == b"-".as_slice() {
-        standard_input
-    } else {
-        word
-    }
 }
 
 fn no_options<'a>() -> Options<'a>
@@ -118,33 +98,23 @@ fn no_options<'a>() -> Options<'a>
     }
 }
 
-#[tactic(auto, using(crate::proofs::WordLemmas::check_asked, crate::proofs::WordLemmas::check_not_asked))]
-fn check_on<'a>(file: &'a Name, rest: &'a [Name], standard_input: &'a Name) -> Option<Command<'a>>
-    requires { standard_input.now ≡ standard_input_name }
-    ensures { MatchOption result (check_asked file.now rest.now ≡ None)
-        (λ asked. check_asked file.now rest.now ≡ Some (command_seen asked)) }
+// A decision may have options.
+#[tactic(auto, using(crate::proofs::WordLemmas::decide_asked, crate::proofs::WordLemmas::decide_not_asked))]
+fn decide_on<'a>(file: &'a Name, purpose: Purpose, rest: &'a [Name]) -> Option<Command<'a>>
+    ensures { MatchOption result (decide_asked (purpose_seen purpose) file.now rest.now ≡ None)
+        (λ asked. decide_asked (purpose_seen purpose) file.now rest.now ≡ Some (command_seen asked)) }
 {
-    let options = options_of(no_options(), rest, standard_input)?;
-    Some(Command::Check(file, options))
+    let options = options_of(no_options(), rest)?;
+    Some(Command::Decide(file, options, purpose))
 }
 
-#[tactic(auto, using(crate::proofs::WordLemmas::rewrite_asked, crate::proofs::WordLemmas::rewrite_not_asked))]
-fn rewrite_on<'a>(file: &'a Name, rest: &'a [Name], standard_input: &'a Name) -> Option<Command<'a>>
-    requires { standard_input.now ≡ standard_input_name }
-    ensures { MatchOption result (rewrite_asked file.now rest.now ≡ None)
-        (λ asked. rewrite_asked file.now rest.now ≡ Some (command_seen asked)) }
-{
-    let options = options_of(no_options(), rest, standard_input)?;
-    Some(Command::Rewrite(file, options))
-}
-
-fn aiger_on<'a>(file: &'a Name, rest: &'a [Name], standard_input: &'a Name) -> Option<Command<'a>>
-    requires { standard_input.now ≡ standard_input_name }
+fn aiger_on<'a>(file: &'a Name, rest: &'a [Name]) -> Option<Command<'a>>
     ensures { MatchOption result (aiger_asked file.now rest.now ≡ None)
         (λ asked. aiger_asked file.now rest.now ≡ Some (command_seen asked)) }
 {
-    let (options, binary) = flagged(b"--binary", no_options(), false, rest, standard_input)?;
-    Some(Command::Aiger(file, options, encoding_of(binary)))
+    let (options, binary) = flagged(b"--binary", no_options(), false, rest)?;
+    let purpose = Purpose::Make(Making::Aiger(encoding_of(binary)));
+    Some(Command::Decide(file, options, purpose))
 }
 
 fn encoding_of(binary: bool) -> Encoding
@@ -157,13 +127,13 @@ fn encoding_of(binary: bool) -> Encoding
     }
 }
 
-fn explain_on<'a>(file: &'a Name, rest: &'a [Name], standard_input: &'a Name) -> Option<Command<'a>>
-    requires { standard_input.now ≡ standard_input_name }
+fn explain_on<'a>(file: &'a Name, rest: &'a [Name]) -> Option<Command<'a>>
     ensures { MatchOption result (explain_asked file.now rest.now ≡ None)
         (λ asked. explain_asked file.now rest.now ≡ Some (command_seen asked)) }
 {
-    let (options, dot) = flagged(b"--dot", no_options(), false, rest, standard_input)?;
-    Some(Command::Explain(file, options, form_of(dot)))
+    let (options, dot) = flagged(b"--dot", no_options(), false, rest)?;
+    let purpose = Purpose::Make(Making::Explain(form_of(dot)));
+    Some(Command::Decide(file, options, purpose))
 }
 
 fn form_of(dot: bool) -> Form
@@ -179,9 +149,7 @@ fn flagged<'a>(
     known: Options<'a>,
     stood: bool,
     words: &'a [Name],
-    standard_input: &'a Name,
 ) -> Option<(Options<'a>, bool)>
-    requires { standard_input.now ≡ standard_input_name }
     ensures { MatchOption result (asked_flagged flag.now (options_seen known.entry) stood words.now ≡ None)
         (λ found. asked_flagged flag.now (options_seen known.entry) stood words.now ≡ Some (options_seen found.0, found.1)) }
 {
@@ -191,11 +159,11 @@ fn flagged<'a>(
             if stood {
                 return None;
             }
-            flagged(flag, known, true, rest, standard_input)
+            flagged(flag, known, true, rest)
         }
         [word, value, rest @ ..] => {
-            let more = with_option(word.bytes(), value, known, standard_input)?;
-            flagged(flag, more, stood, rest, standard_input)
+            let more = with_option(word.bytes(), value, known)?;
+            flagged(flag, more, stood, rest)
         }
         _ => None,
     }
@@ -220,32 +188,22 @@ fn loops_on<'a>(file: &'a Name, rest: &'a [Name]) -> Option<Command<'a>>
 }
 
 // A comparison wants one more file, and may have options.
-fn equal_on<'a>(file: &'a Name, rest: &'a [Name], standard_input: &'a Name) -> Option<Command<'a>>
-    requires { standard_input.now ≡ standard_input_name }
+fn equal_on<'a>(file: &'a Name, rest: &'a [Name]) -> Option<Command<'a>>
     ensures { MatchOption result (equal_asked file.now rest.now ≡ None)
         (λ asked. equal_asked file.now rest.now ≡ Some (command_seen asked)) }
 {
     match rest {
-        [second, rest @ ..] if is_file(second.bytes()) => {
-            let second = file_of(second, standard_input);
-            equal_with(file, second, rest, standard_input)
-        }
+        [second, rest @ ..] if is_file(second.bytes()) => equal_with(file, second, rest),
         _ => None,
     }
 }
 
 #[tactic(auto, using(crate::proofs::WordLemmas::equal_asked, crate::proofs::WordLemmas::equal_not_asked, crate::proofs::WordLemmas::equal_observed))]
-fn equal_with<'a>(
-    file: &'a Name,
-    second: &'a Name,
-    rest: &'a [Name],
-    standard_input: &'a Name,
-) -> Option<Command<'a>>
-    requires { standard_input.now ≡ standard_input_name }
+fn equal_with<'a>(file: &'a Name, second: &'a Name, rest: &'a [Name]) -> Option<Command<'a>>
     ensures { MatchOption result (equal_asked_with file.now second.now rest.now ≡ None)
         (λ asked. equal_asked_with file.now second.now rest.now ≡ Some (command_seen asked)) }
 {
-    let known = options_of(no_options(), rest, standard_input)?;
+    let known = options_of(no_options(), rest)?;
     let options = unobserved(known)?;
     Some(Command::Equal(file, second, options))
 }
@@ -263,29 +221,23 @@ fn unobserved<'a>(options: Options<'a>) -> Option<Options<'a>>
 }
 
 // A simulation wants one more file.
-fn sim_on<'a>(file: &'a Name, rest: &'a [Name], standard_input: &'a Name) -> Option<Command<'a>>
-    requires { standard_input.now ≡ standard_input_name }
+fn sim_on<'a>(file: &'a Name, rest: &'a [Name]) -> Option<Command<'a>>
     ensures { MatchOption result (sim_asked file.now rest.now ≡ None)
         (λ asked. sim_asked file.now rest.now ≡ Some (command_seen asked)) }
 {
     match rest {
-        [vectors] if is_file(vectors.bytes()) => {
-            Some(Command::Sim(file, file_of(vectors, standard_input)))
-        }
+        [vectors] if is_file(vectors.bytes()) => { Some(Command::Sim(file, vectors)) }
         _ => None,
     }
 }
 
 // A play wants two more, and may have a probe.
-fn delays_on<'a>(file: &'a Name, rest: &'a [Name], standard_input: &'a Name) -> Option<Command<'a>>
-    requires { standard_input.now ≡ standard_input_name }
+fn delays_on<'a>(file: &'a Name, rest: &'a [Name]) -> Option<Command<'a>>
     ensures { MatchOption result (delays_asked file.now rest.now ≡ None)
         (λ asked. delays_asked file.now rest.now ≡ Some (command_seen asked)) }
 {
     match rest {
         [vectors, schedule, rest @ ..] if is_file(vectors.bytes()) && is_file(schedule.bytes()) => {
-            let vectors = file_of(vectors, standard_input);
-            let schedule = file_of(schedule, standard_input);
             Some(Command::Delays(file, vectors, schedule, probe_of(rest)?))
         }
         _ => None,
@@ -333,30 +285,17 @@ fn demo_on<'a>(word: &Name, rest: &'a [Name]) -> Option<Command<'a>>
 }
 
 // A storm wants a number of rounds, and may have options.
-fn storm_on<'a>(file: &'a Name, rest: &'a [Name], standard_input: &'a Name) -> Option<Command<'a>>
-    requires { standard_input.now ≡ standard_input_name }
+fn storm_on<'a>(file: &'a Name, rest: &'a [Name]) -> Option<Command<'a>>
     ensures { MatchOption result (storm_asked file.now rest.now ≡ None)
         (λ asked. storm_asked file.now rest.now ≡ Some (command_seen asked)) }
 {
     match rest {
-        [word, rest @ ..] => storm_with(file, rounds(word.bytes())?, rest, standard_input),
+        [word, rest @ ..] => {
+            let purpose = Purpose::Tell(Telling::Storm(rounds(word.bytes())?));
+            decide_on(file, purpose, rest)
+        }
         [] => None,
     }
-}
-
-#[tactic(auto, using(crate::proofs::WordLemmas::storm_asked, crate::proofs::WordLemmas::storm_not_asked))]
-fn storm_with<'a>(
-    file: &'a Name,
-    rounds: Rounds,
-    rest: &'a [Name],
-    standard_input: &'a Name,
-) -> Option<Command<'a>>
-    requires { standard_input.now ≡ standard_input_name }
-    ensures { MatchOption result (storm_asked_with file.now (rounds_seen rounds) rest.now ≡ None)
-        (λ asked. storm_asked_with file.now (rounds_seen rounds) rest.now ≡ Some (command_seen asked)) }
-{
-    let options = options_of(no_options(), rest, standard_input)?;
-    Some(Command::Storm(file, rounds, options))
 }
 
 // Help wants the name of a command alone.
@@ -417,38 +356,27 @@ fn cells(word: &[u8]) -> Option<Cells>
 // The options that these words give beside those that are known. They recurse at most once for each option, since each
 // comes once.
 #[tactic(auto, using(crate::proofs::WordLemmas::more_options, crate::proofs::WordLemmas::no_more_options))]
-fn options_of<'a>(
-    known: Options<'a>,
-    words: &'a [Name],
-    standard_input: &'a Name,
-) -> Option<Options<'a>>
-    requires { standard_input.now ≡ standard_input_name }
+fn options_of<'a>(known: Options<'a>, words: &'a [Name]) -> Option<Options<'a>>
     ensures { MatchOption result (options_asked (options_seen known.entry) words.now ≡ None)
         (λ options. options_asked (options_seen known.entry) words.now ≡ Some (options_seen options)) }
 {
     match words {
         [] => Some(known),
         [word, value, rest @ ..] => {
-            let more = with_option(word.bytes(), value, known, standard_input)?;
-            options_of(more, rest, standard_input)
+            let more = with_option(word.bytes(), value, known)?;
+            options_of(more, rest)
         },
         _ => None,
     }
 }
 
 // An option with its value, beside those that are known.
-fn with_option<'a>(
-    word: &[u8],
-    value: &'a Name,
-    known: Options<'a>,
-    standard_input: &'a Name,
-) -> Option<Options<'a>>
-    requires { standard_input.now ≡ standard_input_name }
+fn with_option<'a>(word: &[u8], value: &'a Name, known: Options<'a>) -> Option<Options<'a>>
     ensures { MatchOption result (asked_with_option word.now value.now (options_seen known.entry) ≡ None)
         (λ options. asked_with_option word.now value.now (options_seen known.entry) ≡ Some (options_seen options)) }
 {
     if word == b"--care".as_slice() {
-        return with_care(value, known, standard_input);
+        return with_care(value, known);
     }
     if word == b"--nodes".as_slice() {
         return with_nodes(value, known);
@@ -459,18 +387,13 @@ fn with_option<'a>(
     None
 }
 
-fn with_care<'a>(
-    value: &'a Name,
-    known: Options<'a>,
-    standard_input: &'a Name,
-) -> Option<Options<'a>>
-    requires { standard_input.now ≡ standard_input_name }
+fn with_care<'a>(value: &'a Name, known: Options<'a>) -> Option<Options<'a>>
     ensures { MatchOption result (asked_with_care value.now (options_seen known.entry) ≡ None)
         (λ options. asked_with_care value.now (options_seen known.entry) ≡ Some (options_seen options)) }
 {
     if is_file(value.bytes()) && known.care.is_none() {
         Some(Options {
-            care: Some(file_of(value, standard_input)),
+            care: Some(value),
             nodes: known.nodes,
             observe: known.observe,
         })

@@ -4,7 +4,7 @@ use Rattle.cyc_tool.proofs.Common.{nat_le, if◌then◌else◌, Option, Arena, P
 use Rattle.commands.specs.declared.encoding.Encoding.{Encoding}
 use Rattle.std.specs.Prelude.{◌+◌, IsSomeAnd, length}
 use Rattle.std.proofs.lemmas.Option.{none-some}
-use Rattle.accepted_runs.proofs.HarmlessLemmas.{accepted_is_harmless}
+use Rattle.schedules.proofs.HarmlessLemmas.{accepted_is_harmless}
 use Rattle.cyc_base.specs.declared.limits.TheConstants.{MAX_REWRITTEN_ITEMS}
 use Rattle.aig_core.specs.declared.building.Built.{Built}
 use Rattle.rewriting.specs.Graphs.{graph_of, most_ands}
@@ -28,7 +28,7 @@ use Rattle.cyc_tool.specs.Storms.{events_of, events_told, storm_text}
 use Rattle.cyc_tool.specs.Plans.{PrintsBeside, Refuses, Declines, Decision, Comparison}
 use Rattle.cyc_tool.specs.Requests.{Request}
 use Rattle.report.specs.Help.{help_text, topic_text, version_text}
-use Rattle.commands.specs.Words.{Check, Rewrite, Aiger, Explain, Equal, Flat, Loops, Sim, Delays, Demo, Storm, Help, HelpOn, Version, command_of}
+use Rattle.commands.specs.Words.{Decide, Equal, Flat, Loops, Sim, Delays, Demo, Help, HelpOn, Version, command_of}
 
 abbrev status_of : Outcome → ℕ
 status_of end = end.status
@@ -394,15 +394,11 @@ help_told request shelf nodes out err status runs = by_command (command_of reque
     by_command (Some Help) comes = told_by help_text comes
     by_command (Some (HelpOn topic)) comes = told_by (topic_text topic) comes
     by_command (Some Version) comes = told_by version_text comes
-    by_command (Some (Check file options)) comes = tt
-    by_command (Some (Rewrite file options)) comes = tt
-    by_command (Some (Aiger file options encoding)) comes = tt
-    by_command (Some (Explain file options form)) comes = tt
+    by_command (Some (Decide file options purpose)) comes = tt
     by_command (Some (Equal file second options)) comes = tt
     by_command (Some (Flat file)) comes = tt
     by_command (Some (Loops file form)) comes = tt
     by_command (Some (Sim file vectors)) comes = tt
     by_command (Some (Delays file vectors recorded probe)) comes = tt
     by_command (Some (Demo cells)) comes = tt
-    by_command (Some (Storm file rounds options)) comes = tt
     by_command None comes = tt

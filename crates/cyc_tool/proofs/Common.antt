@@ -1,8 +1,8 @@
 -- The names that most proofs of this crate cite, passed on from one place. Declares nothing.
 pub use Rattle.bdd_store.specs.Arena.{Arena}
 pub use Rattle.blif_write.specs.Written.{written}
-pub use Rattle.commands.specs.Seen.{cells_seen, options_seen}
-pub use Rattle.commands.specs.Words.{Command}
+pub use Rattle.commands.specs.Seen.{cells_seen, options_seen, purpose_seen}
+pub use Rattle.commands.specs.Words.{Command, Demonstrates, Explains, Judges, Purpose, Rewrites, Storms, WritesGraph}
 pub use Rattle.commands.specs.declared.form.Form.{Form}
 pub use Rattle.parsed_files.specs.Faults.{IsErrorOf}
 pub use Rattle.parsed_files.specs.NetlistFiles.{netlist_of}
@@ -14,11 +14,11 @@ pub use Rattle.cyc_io.specs.Faults.{Counts}
 pub use Rattle.cyc_io.specs.Files.{Files}
 pub use Rattle.cyc_tool.specs.Answer.{told}
 pub use Rattle.cyc_tool.specs.Calls.{AreGiven, ComesTo, EndsAt, Follows, Found, IsCompared, IsDecided, Limit, Runs, ShelfCall, Unfinished, rest_of}
-pub use Rattle.cyc_tool.specs.Plans.{Compares, Decides, Demonstrates, Ending, Ends, Explains, Faulty, WantsMemory, Judges, Outgrows, Plan, Prints, Purpose, Reads, Rewrites, Storms, WritesGraph, plan_of, with_netlist, with_vectors}
+pub use Rattle.cyc_tool.specs.Plans.{Compares, Decides, Ending, Ends, Faulty, WantsMemory, Outgrows, Plan, Prints, Reads, plan_of, with_netlist, with_vectors}
 pub use Rattle.cyc_tool.specs.Plays.{delays_text, known, played}
 pub use Rattle.cyc_tool.specs.Reading.{GoesOn, StopsIn}
 pub use Rattle.cyc_tool.specs.Requests.{Shows}
-pub use Rattle.cyc_tool.specs.Seen.{end_of, outcome_of, purpose_seen, stop_outcome}
+pub use Rattle.cyc_tool.specs.Seen.{end_of, outcome_of, stop_outcome}
 pub use Rattle.cyc_tool.specs.Texts.{Outcome, no_memory}
 pub use Rattle.delay_core.specs.declared.plan.Schedule.{Schedule}
 pub use Rattle.netlist.specs.Fixpoint.{fix}

@@ -10,10 +10,10 @@ use Rattle.refusals.specs.Refusals.{refusal}
 use Rattle.refusals.specs.declared.refusal.Refusal.{Refusal}
 use Rattle.refusals.specs.declared.refusal.Refusal.TheVariants.{Undetermined}
 use Rattle.report.specs.Messages.{too_large_text}
-use Rattle.commands.specs.Words.{command_of}
+use Rattle.commands.specs.Words.{command_of, Purpose, Explains}
 use Rattle.commands.specs.declared.form.Form.{Form}
 use Rattle.cyc_tool.specs.Endings.{accepted_told, refused_told, wire_explained, comparison_told}
-use Rattle.cyc_tool.specs.Plans.{Ending, Prints, PrintsBeside, Refuses, Declines, Outgrows, Decision, Purpose, Explains, Comparison, Plan, Reads, Faulty, WantsMemory, Ends, Decides, Compares, plan_of}
+use Rattle.cyc_tool.specs.Plans.{Ending, Prints, PrintsBeside, Refuses, Declines, Outgrows, Decision, Comparison, Plan, Reads, Faulty, WantsMemory, Ends, Decides, Compares, plan_of}
 use Rattle.cyc_tool.specs.Requests.{Request}
 use Rattle.cyc_tool.specs.Texts.{Outcome, on_out, on_both, on_err, usage, has_fault, no_memory, read_failed}
 

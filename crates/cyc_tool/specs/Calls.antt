@@ -11,7 +11,7 @@ use Rattle.bdd_store.specs.Arena.{Arena}
 use Rattle.netlist.specs.Netlists.{IsNetlist}
 use Rattle.verdict.specs.Causes.{IsOutOfNodes}
 use Rattle.verdict.specs.Enough.{IsBelowEnough}
-use Rattle.commands.specs.Words.{Command, Check, Rewrite, Aiger, Explain, Equal, Demo, Storm, command_of}
+use Rattle.commands.specs.Words.{Decide, Command, Equal, Demo, command_of, Purpose, Judges, Rewrites, WritesGraph, Explains, Demonstrates, Storms}
 use Rattle.parsed_files.specs.NetlistFiles.{netlist_of}
 use Rattle.cyc_base.specs.declared.limits.TheConstants.{MAX_REWRITTEN_ITEMS}
 use Rattle.refusals.specs.declared.refusal.Refusal.{Refusal}
@@ -21,7 +21,7 @@ use Rattle.rewriting.specs.Graphs.{graph_of, most_ands, IsGraphing}
 use Rattle.rewriting.specs.Rewriting.{rewritten, rewritten_size, IsRewriting}
 use Rattle.cyc_tool.specs.Answer.{told, verdict_of, IsVerdictOutcome, compared}
 use Rattle.cyc_tool.specs.Endings.{accepted_told}
-use Rattle.cyc_tool.specs.Plans.{Role, Netlist, Care, Vectors, Recorded, Decision, Purpose, Judges, Rewrites, WritesGraph, Explains, Demonstrates, Storms, Comparison, Plan, Reads, Faulty, WantsMemory, Ends, Decides, Compares, plan_of}
+use Rattle.cyc_tool.specs.Plans.{Role, Netlist, Care, Vectors, Recorded, Decision, Comparison, Plan, Reads, Faulty, WantsMemory, Ends, Decides, Compares, plan_of}
 use Rattle.cyc_tool.specs.Requests.{Request, Shows}
 use Rattle.cyc_tool.specs.Texts.{Outcome, usage, has_fault, read_failed, limit_reached, no_memory}
 
@@ -152,13 +152,9 @@ ComesTo shows (Some command) shelf nodes end = Follows (plan_of shows command) s
 
 -- A command that decides a netlist or compares two uses the diagrams. Any other leaves them as they were, and so do words outside the grammar.
 abbrev pub KeepsNodes : Option Command → Arena → Arena → Type 0
-KeepsNodes (Some (Check file options)) before now = Unit {0}
-KeepsNodes (Some (Rewrite file options)) before now = Unit {0}
-KeepsNodes (Some (Aiger file options encoding)) before now = Unit {0}
-KeepsNodes (Some (Explain file options form)) before now = Unit {0}
+KeepsNodes (Some (Decide file options purpose)) before now = Unit {0}
 KeepsNodes (Some (Equal file second options)) before now = Unit {0}
 KeepsNodes (Some (Demo cells)) before now = Unit {0}
-KeepsNodes (Some (Storm file rounds options)) before now = Unit {0}
 KeepsNodes other before now = now ≡ before
 
 -- This was told whole.

@@ -2,14 +2,14 @@
 use Rattle.std.specs.Prelude.{◌≡◌, ◌≢◌, ◌≤◌, ◌⊎◌, codes, ℕ, Bool, List, Some, None, IfSome, IsSomeAnd}
 use Rattle.std.specs.declared.option.Option.{Option}
 use Rattle.bdd_store.specs.Arena.{Arena}
-use Rattle.accepted_runs.specs.Harmless.{IsHarmless}
+use Rattle.schedules.specs.Harmless.{IsHarmless}
 use Rattle.cyc_io.specs.Files.{Files}
 use Rattle.refusals.specs.Refusals.{IsUnknownAt, Proves}
 use Rattle.refusals.specs.declared.refusal.Refusal.{Refusal}
 use Rattle.refusals.specs.declared.refusal.Refusal.TheVariants.{EmptyCare, Undetermined}
 use Rattle.verdict.specs.Enough.{IsEnough}
 use Rattle.blif_write.specs.Written.{written}
-use Rattle.commands.specs.Words.{Command, Help, HelpOn, Version, command_of}
+use Rattle.commands.specs.Words.{Command, Help, HelpOn, Version, command_of, Purpose, Rewrites, WritesGraph, Storms}
 use Rattle.cyc_base.specs.declared.sig.Sig.{Sig}
 use Rattle.storm.specs.Laws.{PlaysAsStorm}
 use Rattle.storm.specs.Storms.{storm_of}
@@ -23,7 +23,7 @@ use Rattle.rewriting.specs.Rewriting.{rewritten, IsRewriting}
 use Rattle.cyc_tool.specs.Answer.{told, verdict_of, IsVerdictOutcome, compared, IsAnswer}
 use Rattle.cyc_tool.specs.Calls.{ShelfCall, SinkCall, ReadFailed, WriteFailed, Takes, AreGiven, rest_of, IsLimited, IsTold}
 use Rattle.cyc_tool.specs.Endings.{accepted_told, graph_text}
-use Rattle.cyc_tool.specs.Plans.{Decision, Purpose, Rewrites, WritesGraph, Storms, Comparison, Plan, Reads, Faulty, Ends, Decides, Compares, plan_of}
+use Rattle.cyc_tool.specs.Plans.{Decision, Comparison, Plan, Reads, Faulty, Ends, Decides, Compares, plan_of}
 use Rattle.cyc_tool.specs.Requests.{Request}
 use Rattle.cyc_tool.specs.Texts.{Outcome, no_memory}
 

@@ -16,7 +16,7 @@ use Rattle.netlist.specs.declared.parts.Parts.{Parts}
 use Rattle.loops.specs.Listed.{first_gates}
 use Rattle.blif_write.specs.Written.{written}
 use Rattle.aig_core.specs.declared.building.Built.{Built}
-use Rattle.aiger_write.specs.Text.{aiger_text, binary_text}
+use Rattle.aig_core.specs.Text.{aiger_text, binary_text}
 use Rattle.commands.specs.declared.encoding.Encoding.{Encoding}
 use Rattle.commands.specs.declared.encoding.Encoding.TheVariants.{Ascii, Binary}
 use Rattle.refusals.specs.Refusals.{loose_gates}
@@ -32,7 +32,8 @@ use Rattle.storm.specs.Storms.{most_events}
 use Rattle.rewriting.specs.Graphs.{graph_of, most_ands}
 use Rattle.rewriting.specs.Rewriting.{rewritten, rewritten_size, sweeps_needed}
 use Rattle.equality.specs.Told.{are_equal, found_text}
-use Rattle.cyc_tool.specs.Plans.{Ending, Prints, Refuses, Declines, Outgrows, Decision, Purpose, Judges, Rewrites, WritesGraph, Explains, Demonstrates, Storms, Comparison}
+use Rattle.commands.specs.Words.{Purpose, Judges, Rewrites, WritesGraph, Explains, Demonstrates, Storms}
+use Rattle.cyc_tool.specs.Plans.{Ending, Prints, Refuses, Declines, Outgrows, Decision, Comparison}
 use Rattle.cyc_tool.specs.Storms.{events_of, events_told, storm_text}
 
 -- a number that is told only where the outputs alone are observed

@@ -14,8 +14,7 @@ use Rattle.blif_write.specs.Written.{written}
 use Rattle.care_sets.specs.Care.{CareSet}
 use Rattle.refusals.specs.declared.observe.Observe.{Observe}
 use Rattle.refusals.specs.declared.observe.Observe.TheVariants as observe
-use Rattle.commands.specs.Words.{Options, Command, Check, Rewrite, Aiger, Explain, Equal, Flat, Loops, Sim, Delays, Demo, Storm, Help, HelpOn, Version}
-use Rattle.commands.specs.declared.encoding.Encoding.{Encoding}
+use Rattle.commands.specs.Words.{Options, Purpose, Demonstrates, Command, Decide, Equal, Flat, Loops, Sim, Delays, Demo, Help, HelpOn, Version}
 use Rattle.commands.specs.declared.form.Form.{Form}
 use Rattle.commands.specs.declared.form.Form.TheVariants.{Lines, Dot}
 use Rattle.parsed_files.specs.CareFiles.{no_care, care_of}
@@ -56,21 +55,6 @@ pub record Decision : Type 0 where
   pub care : CareSet
   pub limit : ℕ
   pub observe : Observe
-
--- what a netlist is decided for
-pub data Purpose : Type 0 where
-  -- to tell the verdict
-  Judges : Purpose
-  -- to write it without loops
-  Rewrites : Purpose
-  -- to write its and-inverter graph, without loops
-  WritesGraph : Encoding → Purpose
-  -- to show why a refused wire is undetermined, as lines or as a graph
-  Explains : Form → Purpose
-  -- to tell that the ring arbiter of so many cells is accepted
-  Demonstrates : ℕ → Purpose
-  -- to write a schedule of so many rounds on which a refused wire never rests
-  Storms : ℕ → Purpose
 
 -- two netlists to be compared on a care set of the first, with at most so many nodes
 pub record Comparison : Type 0 where
@@ -208,17 +192,13 @@ ring_deciding cells = using ring_file (netlist_of (ring_text cells)) (ring_decid
 -- The files of a command are read in the order netlist, second netlist, care file, vectors, schedule, and all faults of one are looked
 -- for before the next is read.
 abbrev pub plan_of : Shows → Command → Plan
-plan_of shows (Check file options) = deciding file options Judges
-plan_of shows (Rewrite file options) = deciding file options Rewrites
-plan_of shows (Aiger file options encoding) = deciding file options (WritesGraph encoding)
-plan_of shows (Explain file options form) = deciding file options (Explains form)
+plan_of shows (Decide file options purpose) = deciding file options purpose
 plan_of shows (Equal file second options) = comparing file second options
 plan_of shows (Flat file) = flattening file
 plan_of shows (Loops file form) = finding_loops form file
 plan_of shows (Sim file vectors) = simulating file vectors
 plan_of shows (Delays file vectors recorded probe) = replaying shows probe file vectors recorded
 plan_of shows (Demo cells) = ring_deciding cells
-plan_of shows (Storm file rounds options) = deciding file options (Storms rounds)
 plan_of shows Help = Ends (Prints help_text)
 plan_of shows (HelpOn topic) = Ends (Prints (topic_text topic))
 plan_of shows Version = Ends (Prints version_text)

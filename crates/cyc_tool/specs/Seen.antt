@@ -8,7 +8,7 @@ use Rattle.aig_core.specs.declared.fault.AigFault.{AigFault}
 use Rattle.aig_core.specs.declared.fault.AigFault.TheVariants.{TooLarge as ManyAnds, Memory as NoRoom}
 use Rattle.commands.specs.declared.encoding.Encoding.{Encoding}
 use Rattle.blif_write.specs.Written.{written}
-use Rattle.commands.specs.Seen.{cells_seen, rounds_seen}
+use Rattle.commands.specs.Words.{Purpose, Explains}
 use Rattle.commands.specs.declared.form.Form.{Form}
 use Rattle.loops.specs.declared.structure.Blocks.{Blocks}
 use Rattle.refusals.specs.Refusals.{IsRefusalOf}
@@ -32,32 +32,12 @@ use Rattle.verdict.specs.declared.verdict.Verdict.TheVariants.{Accepted, Refused
 use Rattle.cyc_tool.specs.Answer.{told as done, IsWireExplained}
 use Rattle.cyc_tool.specs.Plans as plans
 use Rattle.cyc_tool.specs.Texts as texts
-use Rattle.cyc_tool.specs.declared.decision.Making.{Making}
-use Rattle.cyc_tool.specs.declared.decision.Making.TheVariants.{Rewrite, Aiger, Explain, Demonstrate}
-use Rattle.cyc_tool.specs.declared.decision.Purpose.{Purpose}
-use Rattle.cyc_tool.specs.declared.decision.Purpose.TheVariants.{Tell, Make}
-use Rattle.cyc_tool.specs.declared.decision.Telling.{Telling}
-use Rattle.cyc_tool.specs.declared.decision.Telling.TheVariants.{Judge, Storm}
 use Rattle.cyc_tool.specs.declared.outcome.Outcome.{Outcome}
 use Rattle.cyc_tool.specs.declared.outcome.Stop.{Stop}
 use Rattle.cyc_tool.specs.declared.outcome.Stop.TheVariants.{At, Memory}
 
 abbrev pub outcome_of : Outcome → texts.Outcome
 outcome_of told = record { status = told.status; out = told.out.items; err = told.err.items }
-
-abbrev pub telling_seen : Telling → plans.Purpose
-telling_seen Judge = plans.Judges
-telling_seen (Storm rounds) = plans.Storms (rounds_seen rounds)
-
-abbrev pub making_seen : Making → plans.Purpose
-making_seen Rewrite = plans.Rewrites
-making_seen (Aiger encoding) = plans.WritesGraph encoding
-making_seen (Explain form) = plans.Explains form
-making_seen (Demonstrate cells) = plans.Demonstrates (cells_seen cells)
-
-abbrev pub purpose_seen : Purpose → plans.Purpose
-purpose_seen (Tell telling) = telling_seen telling
-purpose_seen (Make making) = making_seen making
 
 -- what is told of a netlist that isn't made: its size
 abbrev pub IsOutgrown : UnrollFault → Outcome → Type 0
@@ -82,11 +62,11 @@ IsToldOfGraph encoding other (Err fault) told = IsOverfull fault told
 -- what is told of a refusal to explain it: a wire that is undetermined at the vector is told with why
 abbrev pub IsRefusalExplained : Form → Parts → Refusal → texts.Outcome → Type 0
 IsRefusalExplained form net (Undetermined v wire) end = wire_of (fix net (bits v)) wire ≡ X → IsWireExplained form net v wire end
-IsRefusalExplained form net refused end = end ≡ done (refused_told net (plans.Explains form) refused)
+IsRefusalExplained form net refused end = end ≡ done (refused_told net (Explains form) refused)
 
 -- what is told of a refusal for a purpose
-abbrev pub IsRefusalTold : Parts → plans.Purpose → Refusal → texts.Outcome → Type 0
-IsRefusalTold net (plans.Explains form) refused end = IsRefusalExplained form net refused end
+abbrev pub IsRefusalTold : Parts → Purpose → Refusal → texts.Outcome → Type 0
+IsRefusalTold net (Explains form) refused end = IsRefusalExplained form net refused end
 IsRefusalTold net purpose refused end = end ≡ done (refused_told net purpose refused)
 
 -- what is told of a decision without a verdict: the limit that it met

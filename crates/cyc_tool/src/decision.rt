@@ -5,7 +5,8 @@ ghost use Rattle.aig_core.specs.Building.{columns};
 ghost use Rattle.bdd_store.specs.Arena.{Arena};
 ghost use Rattle.care_sets.specs.Binding.{IsCareOf};
 ghost use Rattle.care_sets.specs.Care.{CareSet};
-ghost use Rattle.commands.specs.Seen.{cells_seen};
+ghost use Rattle.commands.specs.Seen.{cells_seen, making_seen, purpose_seen, telling_seen};
+ghost use Rattle.commands.specs.Words.{Rewrites, WritesGraph};
 ghost use Rattle.cyc_base.specs.declared.limits.TheConstants.{MAX_NODES as most_nodes};
 ghost use Rattle.netlist.specs.Netlists.{IsNetlist};
 ghost use Rattle.netlist.specs.Walks.{IsLoopFree};
@@ -19,8 +20,8 @@ ghost use Rattle.verdict.specs.Verdicts.{AreLoose, AreSweepsOnCare, IsAcceptance
 ghost use Rattle.cyc_tool.specs.Answer.{told as done};
 ghost use Rattle.cyc_tool.specs.Calls.{IsAccepted, IsDecided};
 ghost use Rattle.cyc_tool.specs.Endings.{count_of_loops, where_outputs};
-ghost use Rattle.cyc_tool.specs.Plans.{Declines, Prints, Rewrites, WritesGraph};
-ghost use Rattle.cyc_tool.specs.Seen.{IsLimitOf, IsOutgrown, IsOverfull, IsRefusalTold, IsSaid, IsShown, IsTellable, IsToldOf, IsToldOfGraph, making_seen, outcome_of, purpose_seen, telling_seen};
+ghost use Rattle.cyc_tool.specs.Plans.{Declines, Prints};
+ghost use Rattle.cyc_tool.specs.Seen.{IsLimitOf, IsOutgrown, IsOverfull, IsRefusalTold, IsSaid, IsShown, IsTellable, IsToldOf, IsToldOfGraph, outcome_of};
 
 use crate::explained::{tell_explained, tell_loops_explained};
 use crate::outcome::Outcome;
@@ -32,7 +33,7 @@ use crate::texts::{
 };
 use bdd_ops::Diagrams;
 use care_sets::Care;
-use commands::{Cells, Encoding, Form, Rounds};
+use commands::{Cells, Encoding, Making, Purpose, Telling};
 use cyc_io::TextSink;
 use fixpoint::SweepCounts;
 use loops::{LoopedNetlist, find_blocks, find_cut};
@@ -46,35 +47,6 @@ use verdict::{DecideFault, Judgement, Verdict, decide, judge};
 
 // The first number of ANDs that a graph can't have.
 const TOO_MANY_ANDS: u64 = 4_000_001;
-
-// What a netlist is judged for: its verdict says all.
-#[derive(Clone, Copy, Drop)]
-pub(crate) enum Telling {
-    // To tell the verdict.
-    Judge,
-    // To write a schedule of so many rounds on which a refused wire never rests.
-    Storm(Rounds),
-}
-
-// What a netlist is decided for whose sweeps are wanted, where it is accepted.
-#[derive(Clone, Copy, Drop)]
-pub(crate) enum Making {
-    // To write it without loops.
-    Rewrite,
-    // To write its and-inverter graph, without loops, in a form of AIGER.
-    Aiger(Encoding),
-    // To show why a refused wire is undetermined, or what loops an accepted netlist has.
-    Explain(Form),
-    // To tell that the ring arbiter of so many cells is accepted.
-    Demonstrate(Cells),
-}
-
-// What a verdict is wanted for.
-#[derive(Clone, Copy, Drop)]
-pub(crate) enum Purpose {
-    Tell(Telling),
-    Make(Making),
-}
 
 // What is asked of a decision.
 #[derive(Clone, Copy, Drop)]

@@ -19,7 +19,7 @@ use cyc_base::{Name, Trits};
 use cyc_io::{ReadFault, Shelf, read_whole};
 use delay_core::Schedule;
 use netlist::Netlist;
-use parsed_files::{FileError, care_of, netlist_of_owned, schedule_of, too_long, vectors_of};
+use parsed_files::{FileError, care_of, netlist_of, schedule_of, too_long, vectors_of};
 use std::alloc::Global;
 
 // Where a call ends at an error of this file.
@@ -64,7 +64,7 @@ pub(crate) fn read_netlist<S: Shelf>(
     ensures same { S.files shelf.new ≡ S.files shelf.old }
 {
     let bytes = read_text(alloc, shelf, file)?;
-    match netlist_of_owned(alloc, bytes) {
+    match netlist_of(alloc, bytes) {
         Ok(net) => Ok(net),
         Err(error) => Err(stop_at(alloc, file, error)),
     }

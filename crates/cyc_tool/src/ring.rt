@@ -12,12 +12,12 @@ ghost use Rattle.cyc_tool.specs.Plans.{ring_care_file, ring_deciding, ring_decid
 ghost use Rattle.cyc_tool.specs.Reading.{FollowsStill, IsStoppedBy};
 ghost use Rattle.cyc_tool.specs.Seen.{end_of, stop_outcome};
 
-use crate::decision::{Making, Purpose, Task, tell_decision};
+use crate::decision::{Task, tell_decision};
 use crate::outcome::{Outcome, Stop, or_stop};
 use crate::reading::stop_at;
 use bdd_ops::Diagrams;
 use care_sets::Care;
-use commands::Cells;
+use commands::{Cells, Making, Purpose};
 use cyc_base::{DEFAULT_NODES, Name};
 use maker::ring;
 use netlist::Netlist;
@@ -35,11 +35,11 @@ fn ring_texts(alloc: Global, cells: Cells) -> Result<(Vec<u8>, Vec<u8>), AllocEr
     }
 }
 
-fn ring_netlist(alloc: Global, text: &[u8]) -> Result<Netlist, Stop>
-    ensures good { IfOk result (λ net. netlist_meant text.now ≡ Ok net) }
+fn ring_netlist(alloc: Global, text: Vec<u8>) -> Result<Netlist, Stop>
+    ensures good { IfOk result (λ net. netlist_meant text.items ≡ Ok net) }
     ensures valid { IfOk result IsNetlist }
     ensures columns { IfOk result (λ net. columns net ≤ 1000000000) }
-    ensures bad { IfErr result (λ stop. IsStoppedBy ring_file (netlist_meant text.now) (stop_outcome stop)) }
+    ensures bad { IfErr result (λ stop. IsStoppedBy ring_file (netlist_meant text.items) (stop_outcome stop)) }
 {
     let file = Name::copied_from(alloc, b"ring.blif")?;
     match netlist_of(alloc, text) {
@@ -85,11 +85,11 @@ fn decide_ring_on(
 fn decide_ring(
     alloc: Global,
     cells: Cells,
-    text: &[u8],
+    text: Vec<u8>,
     care: &[u8],
     d: &mut Diagrams,
 ) -> Result<Outcome, Stop>
-    requires text { text.now ≡ ring_text (cells_seen cells) }
+    requires text { text.items ≡ ring_text (cells_seen cells) }
     requires care { care.now ≡ care_text (cells_seen cells) }
     ensures { FollowsStill (ring_deciding (cells_seen cells)) d.new (end_of result) }
 {
@@ -101,6 +101,6 @@ fn decide_ring(
 pub(crate) fn demo(alloc: Global, cells: Cells, d: &mut Diagrams) -> Result<Outcome, Stop>
     ensures { FollowsStill (ring_deciding (cells_seen cells)) d.new (end_of result) }
 {
-    let texts = ring_texts(alloc, cells)?;
-    decide_ring(alloc, cells, &texts.0, &texts.1, d)
+    let (text, care) = ring_texts(alloc, cells)?;
+    decide_ring(alloc, cells, text, &care, d)
 }

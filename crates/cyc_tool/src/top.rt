@@ -1,6 +1,6 @@
 // The top call.
 ghost use Rattle.std.specs.Prelude.{◌≡◌, ◌⊎◌, ◌≤◌, [], All, None, Some, length};
-ghost use Rattle.commands.specs.Seen.{options_seen};
+ghost use Rattle.commands.specs.Seen.{command_seen, options_seen, purpose_seen};
 ghost use Rattle.commands.specs.Words.{command_of};
 ghost use Rattle.delay_core.specs.Changes.{changes};
 ghost use Rattle.sched_text.specs.Fitting.{FitsNetlist};
@@ -8,13 +8,13 @@ ghost use Rattle.cyc_tool.specs.Calls.{shelf_call, sink_call, ComesTo, Follows, 
 ghost use Rattle.cyc_tool.specs.Causes.{GivesAnswer, IsComplete, IsDoneWith, IsFaulty, IsHelpedBy, IsUnread, IsWithoutCommand, MeetsLimit, NoneFell, Reaches};
 ghost use Rattle.cyc_tool.specs.Hearing.{HearCommand, HearPlay, HearRun};
 ghost use Rattle.cyc_tool.specs.Plays.{AreInputs};
-ghost use Rattle.cyc_tool.specs.Plans.{deciding, finding_loops, flattening, play_on, playing, replaying, simulating};
+ghost use Rattle.cyc_tool.specs.Plans.{deciding, finding_loops, flattening, plan_of, play_on, playing, replaying, simulating};
 ghost use Rattle.cyc_tool.specs.Reading.{FollowsAlone, FollowsStillAlone};
 ghost use Rattle.cyc_tool.specs.Requests.{Shows, request, shown_by};
-ghost use Rattle.cyc_tool.specs.Seen.{end_of, outcome_of, purpose_seen, stop_outcome};
+ghost use Rattle.cyc_tool.specs.Seen.{end_of, outcome_of, stop_outcome};
 
 use crate::compared::compare_files;
-use crate::decision::{Making, Purpose, Task, Telling, tell_decision};
+use crate::decision::{Task, tell_decision};
 use crate::outcome::{Outcome, Stop, or_stop};
 use crate::plays::{RecordedRun, known, played, probed};
 use crate::reading::{read_care, read_netlist, read_schedule_file, read_vector_file, stop_at};
@@ -25,7 +25,7 @@ use crate::texts::{
     tell_usage, tell_version,
 };
 use bdd_ops::Diagrams;
-use commands::{Command, Form, Options, STANDARD_INPUT, command_of_words};
+use commands::{Command, Form, Options, Purpose, command_of_words, files_named};
 use cyc_base::{Bits, DEFAULT_NODES, Name};
 use cyc_io::{Shelf, Sink, write_whole};
 use netlist::Netlist;
@@ -199,65 +199,24 @@ fn delays<S: Shelf>(
     play_file(alloc, shelf, &net, &inputs, replay, probes)
 }
 
-// Does what the words ask for.
+// Does what a command asks for.
 fn carry_out<S: Shelf>(
     alloc: Global,
-    words: &[Name],
+    command: Command<'_>,
     shelf: &mut S,
     d: &mut Diagrams,
     probes: &mut [Box<dyn Probe>],
 ) -> Result<Outcome, Stop>
     requires { All (λ probe. heard probe ≡ []) probes.old }
-    ensures comes { ComesTo (shown_by kind text probes.old) (command_of words.now) (shelf_call S.files S.faults shelf.old shelf.new) d.new (end_of result) }
-    ensures heard { HearCommand kind heard text (command_of words.now) (shelf_call S.files S.faults shelf.old shelf.new)
+    ensures comes { Follows (plan_of (shown_by kind text probes.old) (command_seen command)) (shelf_call S.files S.faults shelf.old shelf.new) d.new (end_of result) }
+    ensures heard { HearCommand kind heard text (Some (command_seen command)) (shelf_call S.files S.faults shelf.old shelf.new)
         probes.old probes.new }
     ensures same { S.files shelf.new ≡ S.files shelf.old }
-    ensures kept { KeepsNodes (command_of words.now) d.old d.new }
+    ensures kept { KeepsNodes (Some (command_seen command)) d.old d.new }
 {
-    let standard_input = Name::copied_from(alloc, STANDARD_INPUT)?;
-    let Some(command) = command_of_words(words, &standard_input) else {
-        return or_stop(tell_usage(alloc));
-    };
     match command {
-        Command::Check(netlist, options) => {
-            decide_file(
-                alloc,
-                shelf,
-                netlist,
-                options,
-                Purpose::Tell(Telling::Judge),
-                d,
-            )
-        }
-        Command::Rewrite(netlist, options) => {
-            decide_file(
-                alloc,
-                shelf,
-                netlist,
-                options,
-                Purpose::Make(Making::Rewrite),
-                d,
-            )
-        }
-        Command::Aiger(netlist, options, encoding) => {
-            decide_file(
-                alloc,
-                shelf,
-                netlist,
-                options,
-                Purpose::Make(Making::Aiger(encoding)),
-                d,
-            )
-        }
-        Command::Explain(netlist, options, form) => {
-            decide_file(
-                alloc,
-                shelf,
-                netlist,
-                options,
-                Purpose::Make(Making::Explain(form)),
-                d,
-            )
+        Command::Decide(netlist, options, purpose) => {
+            decide_file(alloc, shelf, netlist, options, purpose, d)
         }
         Command::Equal(netlist, second, options) => {
             compare_files(alloc, shelf, netlist, second, options, d)
@@ -275,19 +234,31 @@ fn carry_out<S: Shelf>(
             delays(alloc, shelf, &replay, probes)
         }
         Command::Demo(cells) => demo(alloc, cells, d),
-        Command::Storm(netlist, rounds, options) => {
-            decide_file(
-                alloc,
-                shelf,
-                netlist,
-                options,
-                Purpose::Tell(Telling::Storm(rounds)),
-                d,
-            )
-        }
         Command::Help => or_stop(tell_help(alloc)),
         Command::HelpOn(topic) => or_stop(tell_topic(alloc, topic)),
         Command::Version => or_stop(tell_version(alloc)),
+    }
+}
+
+// Does what the words ask for.
+fn carry_out_words<S: Shelf>(
+    alloc: Global,
+    words: &[Name],
+    shelf: &mut S,
+    d: &mut Diagrams,
+    probes: &mut [Box<dyn Probe>],
+) -> Result<Outcome, Stop>
+    requires { All (λ probe. heard probe ≡ []) probes.old }
+    ensures comes { ComesTo (shown_by kind text probes.old) (command_of words.now) (shelf_call S.files S.faults shelf.old shelf.new) d.new (end_of result) }
+    ensures heard { HearCommand kind heard text (command_of words.now) (shelf_call S.files S.faults shelf.old shelf.new)
+        probes.old probes.new }
+    ensures same { S.files shelf.new ≡ S.files shelf.old }
+    ensures kept { KeepsNodes (command_of words.now) d.old d.new }
+{
+    let words = files_named(alloc, words)?;
+    match command_of_words(&words) {
+        Some(command) => carry_out(alloc, command, shelf, d, probes),
+        None => or_stop(tell_usage(alloc)),
     }
 }
 
@@ -412,6 +383,6 @@ pub fn run<S: Shelf, O: Sink, E: Sink>(
         (sink_call O.put O.faults out.old out.new) (sink_call E.put E.faults err.old err.new) }
 {
     storms_never_rest();
-    let end = carry_out(alloc, words, shelf, d, &mut probes);
+    let end = carry_out_words(alloc, words, shelf, d, &mut probes);
     tell_end(&end, out, err)
 }

@@ -20,9 +20,9 @@ use Rattle.refusals.proofs.ShowingLemmas.{care_vector_is}
 use Rattle.schedules.specs.Moments.{History, bit_at, newest}
 use Rattle.schedules.specs.Runs.{Tick, Played, gates_at, outputs_at, loaded_at, played, play, vector_of, IsFairTick}
 use Rattle.schedules.proofs.RunLemmas.{Fits, last_above, fits_next, run_fits}
-use Rattle.accepted_runs.specs.Laws.{FollowsFix}
-use Rattle.accepted_runs.proofs.CareLemmas.{care_is_kept, runs_follow_fix, follows_fix}
-use Rattle.accepted_runs.proofs.SameLemmas.{same_head, same_tail}
+use Rattle.schedules.specs.Accepted.{FollowsFix}
+use Rattle.schedules.proofs.CareLemmas.{care_is_kept, runs_follow_fix, follows_fix}
+use Rattle.schedules.proofs.SameLemmas.{same_head, same_tail}
 use Rattle.clause_decision.specs.declared.pairs.Pair.{Pair}
 use Rattle.equal.specs.declared.answer.Answer.TheVariants.{Latch as LatchAt}
 use Rattle.equal.specs.Matching.{latch_named, output_names}

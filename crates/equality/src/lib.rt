@@ -2,7 +2,7 @@
 //! their runs: over equal inputs, from equal latches, they have equal outputs and latches at each tick, by name, whatever
 //! their fair schedules.
 //!
-//! It stands on `equal`, which compares them, on `accepted_runs`, for what accepted netlists do in their runs, and on
+//! It stands on `equal`, which compares them, on `schedules`, for what accepted netlists do in their runs, and on
 //! `report`, for the texts of refusals and of vectors. The tool uses that `tell_equality` tells exactly what is found, and
 //! what that shows.
 #![tactic(auto)]

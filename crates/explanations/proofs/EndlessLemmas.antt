@@ -1,25 +1,25 @@
--- An unknown gate reads an unknown gate, and so a cycle leads to it.
-use Rattle.std.proofs.Common.{◌≡◌, ◌≢◌, ◌⊎◌, inl, inr, ℕ, zero, suc, ◌+◌, ◌-◌, ◌<◌, ◌≤◌, Bool, List, [], ◌∷◌, length, map, get_or, refl, ap, sym, ◌∙◌, subst, arith}
+-- An unknown gate reads an unknown gate that matters, and so a cycle leads to it.
+use Rattle.std.proofs.Common.{◌≡◌, ◌≢◌, ◌⊎◌, inl, inr, ℕ, zero, suc, ◌+◌, ◌-◌, ◌<◌, ◌≤◌, Bool, List, [], ◌∷◌, length, map, get_or, refl, ap, sym, ◌∙◌, subst, arith, Some}
 use Rattle.std.proofs.lemmas.Bool.{cases_eq, cases_lt}
-use Rattle.std.proofs.lemmas.List.{get_or_default}
+use Rattle.std.specs.List.{slice_get}
+use Rattle.std.proofs.lemmas.Option.{slice_get-get_or, slice_get_within}
+use Rattle.std.proofs.lemmas.List.{get_or_default, length-map}
 use Rattle.cyc_base.specs.declared.sig.Sig.{Sig}
 use Rattle.cyc_base.specs.declared.trit.Trit.{Trit}
 use Rattle.cyc_base.specs.declared.trit.Trit.TheVariants.{X}
-use Rattle.cyc_base.specs.Values.{bit, bits}
-use Rattle.cyc_base.proofs.OrderLemmas.{unknown_or_bit}
-use Rattle.cover_logic.specs.Covers.{value}
-use Rattle.cover_logic.specs.Extensions.{ext}
-use Rattle.cover_logic.proofs.ExtensionLemmas.{ext_at_bits}
+use Rattle.cyc_base.specs.Values.{bits}
 use Rattle.components.specs.Graphs.{Edge}
-use Rattle.short_cycles.specs.Cycles.{IsTrail, IsCycle, IsWay, ReachesNone}
+use Rattle.explanations.specs.Cycles.{IsTrail, IsCycle, IsWay, ReachesNone}
 use Rattle.netlist.specs.declared.parts.Parts.{Parts}
 use Rattle.netlist.specs.Fixpoint.{wire, fix, gate_value}
 use Rattle.netlist.specs.Netlists.{signal, count, gate_at, gate_sig, no_gate, IsNetlist}
 use Rattle.explanations.specs.Explained.{IsUnknown}
-use Rattle.explanations.specs.Graph.{OpenFeeds, IsOpenGraph}
+use Rattle.explanations.specs.Graph.{OpenSways, IsOpenGraph}
 use Rattle.explanations.proofs.HeldLemmas.{fix_at_gate}
 use Rattle.explanations.proofs.NeedLemmas.{column_is_known, width_of_bits}
-use Rattle.explanations.proofs.GraphLemmas.{feeds_edge}
+use Rattle.explanations.specs.Matters.{Matters}
+use Rattle.explanations.proofs.MatterLemmas.{unknown_matters}
+use Rattle.explanations.proofs.GraphLemmas.{sways_edge, swayed_unknown}
 
 -- ---- of more numbers than there are two are equal
 
@@ -201,51 +201,35 @@ module _ (graph : List (List ℕ)) (P : ℕ → Type 0) (on : (a : ℕ) → P a 
       let two = pigeonhole node (length graph) (λ k l. node-within k) in
       none (nodes two) (down 0 two.i) (nodes-cycle two) (walk-leads two)
 
--- ---- an unknown gate reads one
-
-some_unknown : (known : List Trit) (signals : List Sig) → ((k : ℕ) × (k < length signals) × ((d : Sig) → wire known (get_or signals k d) ≡ X)) ⊎ ((bs : List Bool) × (map (wire known) signals ≡ bits bs))
-some_unknown known [] = inr ([], refl)
-some_unknown known (s ∷ signals) =
-    elim (unknown_or_bit (wire known s)) [
-      | inl x ↦ inl (zero, omega arith, λ d. x)
-      | inr b ↦
-          elim (some_unknown known signals) [
-            | inl found ↦ (let l = found.1 in inl (suc found.0, omega arith, found.2))
-            | inr all ↦ inr (b.0 ∷ all.0, ap (λ t. t ∷ map (wire known) signals) b.1 ∙ ap (λ ts. bit b.0 ∷ ts) all.1)
-          ]
-    ]
-
-bit_is_known : (b : Bool) → bit b ≡ X → ⊥
-bit_is_known b e = grind arith
+-- ---- an unknown gate reads one that matters
 
 module _ (net : Parts) (v : List Bool) (valid : IsNetlist net) (width : length v ≡ length net.inputs + length net.latches) where
-  reads_unknown : (g : ℕ) → IsUnknown net (fix net (bits v)) g → (a : ℕ) × OpenFeeds net (fix net (bits v)) a g
+  reads_unknown : (g : ℕ) → IsUnknown net (fix net (bits v)) g → (a : ℕ) × OpenSways net (fix net (bits v)) a g
   reads_unknown g u =
+      let values = map (wire (fix net (bits v))) (gate_at net g).pins in
       let value_x : gate_value (fix net (bits v)) (gate_at net g) ≡ X = sym (fix_at_gate net (bits v) g (width_of_bits net v width) u.gate) ∙ u.unknown in
-      elim (some_unknown (fix net (bits v)) (gate_at net g).pins) [
-        | inr all ↦ absurd (bit_is_known (value (gate_at net g).cover all.0) (sym (ap (ext (gate_at net g).cover) all.1 ∙ ext_at_bits (gate_at net g).cover all.0) ∙ value_x))
-        | inl found ↦
-            let s : Sig = get_or (gate_at net g).pins found.0 (signal 0) in
-            let within : s.0 < count net = valid.pins g no_gate u.gate found.0 (signal 0) found.1 in
-            let x : wire (fix net (bits v)) s ≡ X = found.2 (signal 0) in
-            elim (cases_lt s.0 (length net.inputs + length net.latches)) [
-              | inl column ↦ absurd (column_is_known net v width s.0 column x)
-              | inr behind ↦
-                  let gate : s.0 - (length net.inputs + length net.latches) < length net.gates = omega arith in
-                  let number : length net.inputs + length net.latches + (s.0 - (length net.inputs + length net.latches)) ≡ s.0 = omega arith in
-                  let is : s ≡ gate_sig net (s.0 - (length net.inputs + length net.latches)) = ap signal (sym number) in (
-                    s.0 - (length net.inputs + length net.latches),
-                    record {
-                      feeds = record {
-                        source = gate;
-                        reader = u.gate;
-                        pin = (found.0, found.1, get_or_default (gate_at net g).pins found.0 (gate_sig net (s.0 - (length net.inputs + length net.latches))) (signal 0) found.1 ∙ is);
-                      };
-                      source = record { gate = gate; unknown = ap (λ (m : ℕ). get_or (fix net (bits v)) m X) number ∙ x };
-                      reader = u;
-                    },
-                  )
-            ]
+      let found = unknown_matters (gate_at net g).cover (map (wire (fix net (bits v))) (gate_at net g).pins) value_x in
+      let pin = found.0 in
+      let matters : Matters (gate_at net g).cover (map (wire (fix net (bits v))) (gate_at net g).pins) pin = found.1 in
+      let within : pin < length (gate_at net g).pins =
+      (let l = slice_get_within (map (wire (fix net (bits v))) (gate_at net g).pins) pin X matters.unknown in let m = length-map (gate_at net g).pins (wire (fix net (bits v))) in omega arith) in
+      let s : Sig = get_or (gate_at net g).pins pin (signal 0) in
+      let fits : s.0 < count net = valid.pins g no_gate u.gate pin (signal 0) within in
+      let at : slice_get (gate_at net g).pins pin ≡ Some s = slice_get-get_or (gate_at net g).pins pin (signal 0) within in
+      let x : wire (fix net (bits v)) s ≡ X = swayed_unknown (fix net (bits v)) (gate_at net g).pins pin s at matters.unknown in
+      elim (cases_lt s.0 (length net.inputs + length net.latches)) [
+        | inl column ↦ absurd (column_is_known net v width s.0 column x)
+        | inr behind ↦
+            let gate : s.0 - (length net.inputs + length net.latches) < length net.gates = omega arith in
+            let number : length net.inputs + length net.latches + (s.0 - (length net.inputs + length net.latches)) ≡ s.0 = omega arith in
+            let is : s ≡ gate_sig net (s.0 - (length net.inputs + length net.latches)) = ap signal (sym number) in (
+              s.0 - (length net.inputs + length net.latches),
+              record {
+                sways = record { source = gate; reader = u.gate; pin = pin; reads = at ∙ ap Some is; matters = matters };
+                source = record { gate = gate; unknown = ap (λ (m : ℕ). get_or (fix net (bits v)) m X) number ∙ x };
+                reader = u;
+              },
+            )
       ]
 
   -- so a cycle leads to it
@@ -256,5 +240,5 @@ module _ (net : Parts) (v : List Bool) (valid : IsNetlist net) (width : length v
       reaches_some graph (IsUnknown net (fix net (bits v)))
       (λ g w.
       let next = reads_unknown g w in
-      record { node = next.0; edge = feeds_edge net (fix net (bits v)) graph h g next.0 next.1; goes = next.1.source })
+      record { node = next.0; edge = sways_edge net (fix net (bits v)) graph h g next.0 next.1; goes = next.1.source })
       goal u (omega arith) none

@@ -1,69 +1,96 @@
 -- The graph of the unknown gates has the cycles and ways of the netlist's unknown gates.
-use Rattle.std.proofs.Common.{◌≡◌, inl, inr, ℕ, zero, suc, ◌+◌, ◌-◌, ◌<◌, Bool, List, [], ◌∷◌, ◌++◌, length, get_or, ap, sym, ◌∙◌, subst, arith}
-use Rattle.std.specs.List.{All, Contains}
+use Rattle.std.proofs.Common.{◌≡◌, inl, inr, ℕ, zero, suc, ◌+◌, ◌-◌, ◌<◌, ◌↔◌, Bool, true, List, [], ◌∷◌, ◌++◌, length, map, get_or, ap, sym, ◌∙◌, subst, arith, Some}
+use Rattle.std.specs.List.{All, Contains, slice_get}
+use Rattle.std.specs.Option.{option_map}
+use Rattle.std.proofs.lemmas.Option.{same_Some, slice_get-get_or, slice_get-map, slice_get_within, get_or_from_slice_get}
 use Rattle.std.proofs.lemmas.Bool.{cases_eq}
 use Rattle.std.proofs.lemmas.List.{get_or_append_left, get_or_push, get_or_default, length-append}
 use Rattle.std.proofs.lemmas.List.Elements.{Contains-append_left, Contains-push, Contains-push_cases, All-contains}
 use Rattle.cyc_base.specs.declared.sig.Sig.{Sig}
 use Rattle.cyc_base.specs.declared.trit.Trit.{Trit}
 use Rattle.components.specs.Graphs.{Edge, successors}
-use Rattle.short_cycles.specs.Cycles.{IsTrail, IsCycle, IsWay, IsShortest, last as last_node}
-use Rattle.short_cycles.specs.declared.shortest.ShortCycle.{ShortCycle}
+use Rattle.explanations.specs.Cycles.{IsTrail, IsCycle, IsWay, IsShortest, last}
+use Rattle.explanations.specs.declared.shortest.ShortCycle.{ShortCycle}
+use Rattle.netlist.specs.declared.parts.Gate.{Gate}
 use Rattle.netlist.specs.declared.parts.Parts.{Parts}
 use Rattle.netlist.specs.Netlists.{signal, count, gate_at, gate_sig, no_gate, IsNetlist}
-use Rattle.explanations.specs.Explained.{IsUnknown, IsLine, IsOpenCycle, Leads, last, AreNeeded, Explains}
+use Rattle.explanations.specs.Explained.{IsUnknown, IsLine, IsOpenCycle, Leads, AreNeeded, Explains}
 use Rattle.cyc_base.specs.Values.{bits}
-use Rattle.netlist.specs.Fixpoint.{fix}
-use Rattle.explanations.specs.Graph.{IsOpenSignal, HasOpenReads, OpenFeeds, ReadsOpen, IsOpenGraph}
+use Rattle.cyc_base.specs.declared.trit.Trit.TheVariants.{X}
+use Rattle.netlist.specs.Fixpoint.{wire, fix}
+use Rattle.explanations.specs.Matters.{Matters}
+use Rattle.explanations.specs.Graph.{IsOpenSignal, IsOpenRead, HasOpenReads, OpenSways, ReadsOpen, IsOpenGraph}
 
 -- ---- the gates on a gate's pins
 
-pub open_reads_more : (first : ℕ) (known : List Trit) (pins : List Sig) (n : ℕ) (pin : Sig) (reads : List ℕ) → n < length pins → ((d : Sig) → get_or pins n d ≡ pin) →
-    HasOpenReads first known pins n reads → IsOpenSignal first known pin.0 → HasOpenReads first known pins (n + 1) (reads ++ (pin.0 - first) ∷ [])
-open_reads_more first known pins n pin reads inside at h is = record {
-  all = λ k d l isk.
+pub open_reads_more : (first : ℕ) (known : List Trit) (gate : Gate) (n : ℕ) (reads : List ℕ) → n < length gate.pins → HasOpenReads first known gate n reads →
+    IsOpenRead first known gate n → HasOpenReads first known gate (n + 1) (reads ++ ((get_or gate.pins n (signal 0)).0 - first) ∷ [])
+open_reads_more first known gate n reads inside h is = record {
+  all = λ k isk open'.
       elim (cases_eq k n) [
-        | inl same ↦
-            let here : get_or pins k d ≡ pin = ap (λ m. get_or pins m d) same ∙ at d in
-            subst (λ (p : Sig). Contains (reads ++ (pin.0 - first) ∷ []) (p.0 - first)) (sym here) (Contains-push reads (pin.0 - first))
-        | inr apart ↦ Contains-append_left reads ((pin.0 - first) ∷ []) ((get_or pins k d).0 - first) (h.all k d (omega arith) isk)
+        | inl same ↦ subst (λ (j : ℕ). Contains (reads ++ ((get_or gate.pins n (signal 0)).0 - first) ∷ []) ((get_or gate.pins j (signal 0)).0 - first)) (sym same) (Contains-push reads ((get_or gate.pins n (signal 0)).0 - first))
+        | inr apart ↦ Contains-append_left reads (((get_or gate.pins n (signal 0)).0 - first) ∷ []) ((get_or gate.pins k (signal 0)).0 - first) (h.all k (omega arith) open')
       ];
   only = λ g c.
-      elim (Contains-push_cases reads (pin.0 - first) g c) [
+      elim (Contains-push_cases reads ((get_or gate.pins n (signal 0)).0 - first) g c) [
         | inl old ↦ h.only g old
         | inr new ↦
-            let behind = is.behind in
-            let number : pin.0 ≡ first + g = omega arith in
-            let sig : pin ≡ signal (first + g) = ap signal number in
-            (subst (λ (m : ℕ). IsOpenSignal first known m) number is, (n, inside, at (signal (first + g)) ∙ sig))
+            let behind = is.open_signal.behind in
+            let number : (get_or gate.pins n (signal 0)).0 ≡ first + g = omega arith in
+            let sig : get_or gate.pins n (signal 0) ≡ signal (first + g) = ap signal number in
+            record { pin = n; reads = slice_get-get_or gate.pins n (signal 0) inside ∙ ap Some sig; matters = is.matters }
       ];
 }
 
-pub open_reads_skip : (first : ℕ) (known : List Trit) (pins : List Sig) (n : ℕ) (pin : Sig) (reads : List ℕ) → ((d : Sig) → get_or pins n d ≡ pin) →
-    HasOpenReads first known pins n reads → ¬ IsOpenSignal first known pin.0 → HasOpenReads first known pins (n + 1) reads
-open_reads_skip first known pins n pin reads at h not_open = grind arith
+pub open_reads_skip : (first : ℕ) (known : List Trit) (gate : Gate) (n : ℕ) (reads : List ℕ) → HasOpenReads first known gate n reads →
+    (IsOpenRead first known gate n → ⊥) → HasOpenReads first known gate (n + 1) reads
+open_reads_skip first known gate n reads h none = record {
+  all = λ k isk open'.
+      elim (cases_eq k n) [
+        | inl same ↦ absurd (none (subst (λ (j : ℕ). IsOpenRead first known gate j) same open'))
+        | inr apart ↦ h.all k (omega arith) open'
+      ];
+  only = h.only;
+}
+
+pub open_reads_none : (first : ℕ) (known : List Trit) (gate : Gate) → HasOpenReads first known gate 0 []
+open_reads_none first known gate = record { all = λ k l. absurd (omega arith); only = λ g c. absurd (omega (arith, c.1)) }
+
+pub unknown_there : (known : List Trit) (pins : List Sig) (pin : ℕ) → pin < length pins → get_or known (get_or pins pin (signal 0)).0 X ≡ X → slice_get (map (wire known) pins) pin ≡ Some X
+unknown_there known pins pin l x = slice_get-map (wire known) pins pin ∙ ap (option_map (wire known)) (slice_get-get_or pins pin (signal 0) l) ∙ ap Some x
+
+pub open_read : (first : ℕ) (known : List Trit) (gate : Gate) (pin : ℕ) (b : Bool) → IsOpenSignal first known (get_or gate.pins pin (signal 0)).0 → (b ≡ true) ↔ Matters gate.cover (map (wire known) gate.pins) pin →
+    (b ≡ true) ↔ IsOpenRead first known gate pin
+open_read first known gate pin b is h = (λ e. record { open_signal = is; matters = h.0 e }, λ r. h.1 r.matters)
+
+-- the value of a signal on a pin that matters
+pub swayed_unknown : (known : List Trit) (pins : List Sig) (pin : ℕ) (s : Sig) → slice_get pins pin ≡ Some s → slice_get (map (wire known) pins) pin ≡ Some X → wire known s ≡ X
+swayed_unknown known pins pin s at x = same_Some (wire known s) X (ap (option_map (wire known)) (sym at) ∙ sym (slice_get-map (wire known) pins pin) ∙ x)
 
 pub reads_these : (net : Parts) (known : List Trit) (gate : ℕ) (reads : List ℕ) → IsNetlist net → gate < length net.gates → IsOpenSignal (length net.inputs + length net.latches) known (gate_sig net gate).0 →
-    HasOpenReads (length net.inputs + length net.latches) known (gate_at net gate).pins (length (gate_at net gate).pins) reads → ReadsOpen net known gate reads
+    HasOpenReads (length net.inputs + length net.latches) known (gate_at net gate) (length (gate_at net gate).pins) reads → ReadsOpen net known gate reads
 reads_these net known gate reads valid inside is h a = (
   λ c.
       let found = h.only a c in
-      let pin = found.1 in
-      let within : (get_or (gate_at net gate).pins pin.0 (signal (length net.inputs + length net.latches + a))).0 < count net = valid.pins gate no_gate inside pin.0 (signal (length net.inputs + length net.latches + a)) pin.1 in
-      let number : (get_or (gate_at net gate).pins pin.0 (signal (length net.inputs + length net.latches + a))).0 ≡ length net.inputs + length net.latches + a = ap (λ (s : Sig). s.0) pin.2 in
+      let within = slice_get_within (gate_at net gate).pins found.pin (gate_sig net a) found.reads in
+      let at : get_or (gate_at net gate).pins found.pin (gate_sig net a) ≡ gate_sig net a = get_or_from_slice_get (gate_at net gate).pins found.pin (gate_sig net a) (gate_sig net a) found.reads in
+      let number : (get_or (gate_at net gate).pins found.pin (gate_sig net a)).0 ≡ length net.inputs + length net.latches + a = ap (λ (s : Sig). s.0) at in
+      let fits : (get_or (gate_at net gate).pins found.pin (gate_sig net a)).0 < count net = valid.pins gate no_gate inside found.pin (gate_sig net a) within in
       let source : a < length net.gates = omega arith in
       record {
-        feeds = record { source = source; reader = inside; pin = pin };
-        source = record { gate = source; unknown = found.0.unknown };
+        sways = record { source = source; reader = inside; pin = found.pin; reads = found.reads; matters = found.matters };
+        source = record { gate = source; unknown = swayed_unknown known (gate_at net gate).pins found.pin (gate_sig net a) found.reads found.matters.unknown };
         reader = record { gate = inside; unknown = is.unknown };
       },
-  λ feeds.
-      let pin = feeds.feeds.pin in
-      let at : (get_or (gate_at net gate).pins pin.0 (gate_sig net a)).0 ≡ length net.inputs + length net.latches + a = ap (λ (s : Sig). s.0) pin.2 in
-      let number : (get_or (gate_at net gate).pins pin.0 (gate_sig net a)).0 - (length net.inputs + length net.latches) ≡ a = omega arith in
-      let open_pin : IsOpenSignal (length net.inputs + length net.latches) known (get_or (gate_at net gate).pins pin.0 (gate_sig net a)).0 =
-      subst (λ (m : ℕ). IsOpenSignal (length net.inputs + length net.latches) known m) (sym at) (record { behind = omega arith; unknown = feeds.source.unknown }) in
-      subst (λ (m : ℕ). Contains reads m) number (h.all pin.0 (gate_sig net a) pin.1 open_pin),
+  λ open'.
+      let sways = open'.sways in
+      let within = slice_get_within (gate_at net gate).pins sways.pin (gate_sig net a) sways.reads in
+      let at : get_or (gate_at net gate).pins sways.pin (signal 0) ≡ gate_sig net a = get_or_from_slice_get (gate_at net gate).pins sways.pin (gate_sig net a) (signal 0) sways.reads in
+      let there : (get_or (gate_at net gate).pins sways.pin (signal 0)).0 ≡ length net.inputs + length net.latches + a = ap (λ (s : Sig). s.0) at in
+      let number : (get_or (gate_at net gate).pins sways.pin (signal 0)).0 - (length net.inputs + length net.latches) ≡ a = omega arith in
+      let open_signal : IsOpenSignal (length net.inputs + length net.latches) known (get_or (gate_at net gate).pins sways.pin (signal 0)).0 =
+      subst (λ (m : ℕ). IsOpenSignal (length net.inputs + length net.latches) known m) (sym there) (record { behind = omega arith; unknown = open'.source.unknown }) in
+      subst (λ (m : ℕ). Contains reads m) number (h.all sways.pin within (record { open_signal = open_signal; matters = sways.matters })),
 )
 
 -- ---- the graph, node by node
@@ -86,24 +113,28 @@ open_graph_more net known n graph reads h r = record {
 -- ---- cycles and ways
 
 module _ (net : Parts) (known : List Trit) (graph : List (List ℕ)) (h : IsOpenGraph net known (length net.gates) graph) where
-  pub edge_feeds : (a b : ℕ) → Edge graph a b → OpenFeeds net known b a
-  edge_feeds a b edge = (let size = h.size in let l = edge.source in (h.reads a (omega arith) b).0 edge.listed)
+  pub edge_sways : (a b : ℕ) → Edge graph a b → OpenSways net known b a
+  edge_sways a b edge = (let size = h.size in let l = edge.source in (h.reads a (omega arith) b).0 edge.listed)
 
-  pub feeds_edge : (a b : ℕ) → OpenFeeds net known b a → Edge graph a b
-  feeds_edge a b feeds = grind arith
+  pub sways_edge : (a b : ℕ) → OpenSways net known b a → Edge graph a b
+  sways_edge a b sways =
+      let size = h.size in
+      let reader = sways.reader.gate in
+      let source = sways.source.gate in
+      record { source = omega arith; target = omega arith; listed = (h.reads a reader b).1 sways }
 
-  pub trail_line : (nodes : List ℕ) → IsTrail graph nodes → IsLine net nodes
-  trail_line nodes trail k l = (edge_feeds (get_or nodes (k + 1) 0) (get_or nodes k 0) (trail k l)).feeds
+  pub trail_line : (nodes : List ℕ) → IsTrail graph nodes → IsLine net known nodes
+  trail_line nodes trail k l = (edge_sways (get_or nodes (k + 1) 0) (get_or nodes k 0) (trail k l)).sways
 
   -- each node of a trail but the first is unknown
   behind_unknown : (nodes : List ℕ) → IsTrail graph nodes → (k : ℕ) → k + 1 < length nodes → IsUnknown net known (get_or nodes (k + 1) 0)
-  behind_unknown nodes trail k l = (edge_feeds (get_or nodes (k + 1) 0) (get_or nodes k 0) (trail k l)).reader
+  behind_unknown nodes trail k l = (edge_sways (get_or nodes (k + 1) 0) (get_or nodes k 0) (trail k l)).reader
 
-  line_trail : (nodes : List ℕ) → All (IsUnknown net known) nodes → IsLine net nodes → IsTrail graph nodes
-  line_trail nodes unknown line k l = grind (arith, feeds_edge (get_or nodes (k + 1) 0) (get_or nodes k 0))
+  line_trail : (nodes : List ℕ) → All (IsUnknown net known) nodes → IsLine net known nodes → IsTrail graph nodes
+  line_trail nodes unknown line k l = grind (arith, sways_edge (get_or nodes (k + 1) 0) (get_or nodes k 0))
 
   cycle_unknown : (nodes : List ℕ) → IsCycle graph nodes → (k : ℕ) → k < length nodes → IsUnknown net known (get_or nodes k 0)
-  cycle_unknown nodes cycle zero l = (edge_feeds (get_or nodes 0 0) (last_node nodes) cycle.closes).reader
+  cycle_unknown nodes cycle zero l = (edge_sways (get_or nodes 0 0) (last nodes) cycle.closes).reader
   cycle_unknown nodes cycle (suc k) l =
       subst (λ (m : ℕ). IsUnknown net known (get_or nodes m 0)) (omega arith) (behind_unknown nodes cycle.trail k (omega arith))
 
@@ -111,12 +142,12 @@ module _ (net : Parts) (known : List Trit) (graph : List (List ℕ)) (h : IsOpen
   open_cycle nodes cycle = record {
     some = cycle.some;
     line = trail_line nodes cycle.trail;
-    closes = (edge_feeds (get_or nodes 0 0) (last_node nodes) cycle.closes).feeds;
+    closes = (edge_sways (get_or nodes 0 0) (last nodes) cycle.closes).sways;
     unknown = λ k d l. subst (λ (g : ℕ). IsUnknown net known g) (get_or_default nodes k 0 d l) (cycle_unknown nodes cycle k l);
   }
 
   pub graph_cycle : (nodes : List ℕ) → IsOpenCycle net known nodes → IsCycle graph nodes
-  graph_cycle nodes cycle = grind (arith, line_trail nodes cycle.unknown cycle.line, feeds_edge (get_or nodes 0 0) (last nodes))
+  graph_cycle nodes cycle = grind (arith, line_trail nodes cycle.unknown cycle.line, sways_edge (get_or nodes 0 0) (last nodes))
 
   pub open_way : (cycle way : List ℕ) (goal : ℕ) → IsWay graph cycle way goal → Leads net known cycle way goal
   open_way cycle way goal leads = record {
@@ -153,6 +184,10 @@ explained net v graph goal found needs h shortest needed = record {
   cycle = open_cycle net (fix net (bits v)) graph h found.cycle shortest.cycle;
   leads = open_way net (fix net (bits v)) graph h found.cycle found.way goal shortest.way;
   off = shortest.off;
+  once = shortest.once;
+  shortest = λ way leads.
+      shortest.shortest way
+      (graph_way net (fix net (bits v)) graph h found.cycle way goal (open_cycle net (fix net (bits v)) graph h found.cycle shortest.cycle) leads);
   fewest = λ cycle way is leads.
       shortest.fewest cycle way (graph_cycle net (fix net (bits v)) graph h cycle is) (graph_way net (fix net (bits v)) graph h cycle way goal is leads);
   needs = needed;

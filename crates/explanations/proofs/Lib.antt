@@ -1,3 +1,6 @@
+pub mod SearchLemmas
+pub mod CycleLemmas
+pub mod MatterLemmas
 pub mod PinLemmas
 pub mod HeldLemmas
 pub mod NeedLemmas

@@ -6,8 +6,9 @@ use Rattle.cyc_base.specs.Values.{bits, EachBelow}
 use Rattle.netlist.specs.declared.parts.Parts.{Parts}
 use Rattle.netlist.specs.Fixpoint.{wire, fix}
 use Rattle.netlist.specs.Netlists.{count, gate_sig}
-use Rattle.netlist.specs.Walks.{Feeds}
 use Rattle.explanations.specs.declared.explanation.Explanation.{Explanation}
+use Rattle.explanations.specs.Cycles.{HasNoneTwice, last}
+use Rattle.explanations.specs.Matters.{Sways}
 use Rattle.explanations.specs.Held.{IsGreatest, AreMarked, HoldsOpen}
 
 -- a gate that is unknown where the signals have these values
@@ -15,25 +16,23 @@ pub record IsUnknown (net : Parts) (known : List Trit) (g : ℕ) : Type 0 where
   pub gate : g < length net.gates
   pub unknown : wire known (gate_sig net g) ≡ X
 
--- each gate of the list but the first reads the one before it
-abbrev pub IsLine : Parts → List ℕ → Type 0
-IsLine net gates = (k : ℕ) → k + 1 < length gates → Feeds net (slice_index gates k) (slice_index gates (k + 1))
+-- a flip of each gate of the list but the last may flip the next
+abbrev pub IsLine : Parts → List Trit → List ℕ → Type 0
+IsLine net known gates = (k : ℕ) → k + 1 < length gates → Sways net known (slice_index gates k) (slice_index gates (k + 1))
 
-abbrev pub last : List ℕ → ℕ
-last gates = slice_index gates (length gates - 1)
-
--- unknown gates of which each reads the one before it, and the first reads the last
+-- unknown gates of which a flip of each may flip the next, and of the last the first
 pub record IsOpenCycle (net : Parts) (known : List Trit) (gates : List ℕ) : Type 0 where
   pub some : 0 < length gates
-  pub line : IsLine net gates
-  pub closes : Feeds net (last gates) (slice_index gates 0)
+  pub line : IsLine net known gates
+  pub closes : Sways net known (last gates) (slice_index gates 0)
   pub unknown : All (IsUnknown net known) gates
 
--- unknown gates behind one of the cycle, of which each reads the one before it, up to a goal. Without any the goal is on the cycle.
+-- behind a gate of the cycle, unknown gates up to a goal, of which a flip of each may flip the next. Without any the goal
+-- is on the cycle.
 pub record Leads (net : Parts) (known : List Trit) (cycle way : List ℕ) (goal : ℕ) : Type 0 where
   pub start : ℕ
   pub on : Contains cycle start
-  pub line : IsLine net (start ∷ way)
+  pub line : IsLine net known (start ∷ way)
   pub ends : last (start ∷ way) ≡ goal
   pub unknown : All (IsUnknown net known) way
 
@@ -48,6 +47,8 @@ pub record Explains (net : Parts) (v : List Bool) (goal : ℕ) (why : Explanatio
   pub cycle : IsOpenCycle net (fix net (bits v)) why.cycle
   pub leads : Leads net (fix net (bits v)) why.cycle why.way goal
   pub off : All (λ g. ¬ Contains why.cycle g) why.way
+  pub once : HasNoneTwice why.way
+  pub shortest : (way : List ℕ) → Leads net (fix net (bits v)) why.cycle way goal → length why.way ≤ length way
   pub fewest : (cycle way : List ℕ) → IsOpenCycle net (fix net (bits v)) cycle → Leads net (fix net (bits v)) cycle way goal → length why.cycle ≤ length cycle
   pub needs : AreNeeded net v (why.cycle ++ why.way) why.needs
 

@@ -7,9 +7,9 @@ ghost use Rattle.explanations.specs.Explained.{Explains};
 
 use crate::graph::open_graph;
 use crate::needs::needs;
+use crate::shortest::shortest_cycle;
 use cyc_base::{Items, Trits};
 use netlist::Netlist;
-use short_cycles::shortest_cycle;
 use std::alloc::{AllocError, Global};
 use ternary_run::settle_at;
 

@@ -102,7 +102,7 @@ fn is_surely(alloc: Global, cover: &Cover, pins: &[Pin], wanted: bool) -> Result
     Ok(is_bit(value, wanted))
 }
 
-fn is_bit(value: Trit, wanted: bool) -> bool
+pub(crate) fn is_bit(value: Trit, wanted: bool) -> bool
     ensures { (result ≡ true) ↔ (value ≡ bit_of wanted) }
 {
     match value {

@@ -14,5 +14,5 @@ mod schedule_files;
 pub use care_files::care_of;
 pub use errors::{play_error, too_long};
 pub use fault::{Fault, FaultTail, FileError};
-pub use netlist_files::{netlist_of, netlist_of_owned};
+pub use netlist_files::netlist_of;
 pub use schedule_files::{schedule_of, vectors_of};

@@ -31,37 +31,6 @@ fn is_too_long(bytes: &[u8]) -> bool
     bytes.len() > MAX_FILE_BYTES
 }
 
-// The netlist of a text that isn't too long.
-fn netlist_in(alloc: Global, bytes: &[u8]) -> Result<Netlist, FileError>
-    requires { length bytes.now ≤ MAX_FILE_BYTES }
-    ensures good { IfOk result (λ net. netlist_meant bytes.now ≡ Ok net) }
-    ensures valid { IfOk result IsNetlist }
-    ensures inputs { IfOk result (λ net. length net.inputs ≤ 67108864) }
-    ensures latches { IfOk result (λ net. length net.latches ≤ 4000000) }
-    ensures bad { IfErr result (λ error. IsErrorOf (netlist_meant bytes.now) (error_seen error)) }
-{
-    let models = read(alloc, bytes)?;
-    let top = top(models.list.items()).copy()?;
-    Ok(flatten_owned(alloc, models, &top)?)
-}
-
-/// The netlist of a file at its first model, or the file's first fault: that it is over 67,108,864 bytes long, then
-/// that of its text, then that of flattening. A netlist has at most as many inputs as a file has bytes, and at most
-/// 4,000,000 latches.
-#[tactic(auto, using(crate::proofs::NetlistLemmas::netlist_of_long))]
-pub fn netlist_of(alloc: Global, bytes: &[u8]) -> Result<Netlist, FileError>
-    ensures good { IfOk result (λ net. netlist_meant bytes.now ≡ Ok net) }
-    ensures valid { IfOk result IsNetlist }
-    ensures inputs { IfOk result (λ net. length net.inputs ≤ 67108864) }
-    ensures latches { IfOk result (λ net. length net.latches ≤ 4000000) }
-    ensures bad { IfErr result (λ error. IsErrorOf (netlist_meant bytes.now) (error_seen error)) }
-{
-    if is_too_long(bytes) {
-        return Err(too_long());
-    }
-    netlist_in(alloc, bytes)
-}
-
 // The models of a text, which is dropped once its lines stand.
 fn models_of(alloc: Global, bytes: Vec<u8>) -> Result<Models, BlifFault>
     ensures models { MatchResult result
@@ -72,8 +41,8 @@ fn models_of(alloc: Global, bytes: Vec<u8>) -> Result<Models, BlifFault>
     read(alloc, &bytes)
 }
 
-// The same, of a text that is dropped once its lines stand.
-fn netlist_in_owned(alloc: Global, bytes: Vec<u8>) -> Result<Netlist, FileError>
+// The netlist of a text that isn't too long.
+fn netlist_in(alloc: Global, bytes: Vec<u8>) -> Result<Netlist, FileError>
     requires { length bytes.items ≤ MAX_FILE_BYTES }
     ensures good { IfOk result (λ net. netlist_meant bytes.items ≡ Ok net) }
     ensures valid { IfOk result IsNetlist }
@@ -86,9 +55,11 @@ fn netlist_in_owned(alloc: Global, bytes: Vec<u8>) -> Result<Netlist, FileError>
     Ok(flatten_owned(alloc, models, &top)?)
 }
 
-/// As `netlist_of`, of bytes that nothing else needs: they are dropped once the lines of the text stand.
+/// The netlist of a file at its first model, or the file's first fault: that it is over 67,108,864 bytes long, then
+/// that of its text, then that of flattening. A netlist has at most as many inputs as a file has bytes, and at most
+/// 4,000,000 latches. The bytes are dropped once the lines of the text stand.
 #[tactic(auto, using(crate::proofs::NetlistLemmas::netlist_of_long))]
-pub fn netlist_of_owned(alloc: Global, bytes: Vec<u8>) -> Result<Netlist, FileError>
+pub fn netlist_of(alloc: Global, bytes: Vec<u8>) -> Result<Netlist, FileError>
     ensures good { IfOk result (λ net. netlist_meant bytes.items ≡ Ok net) }
     ensures valid { IfOk result IsNetlist }
     ensures inputs { IfOk result (λ net. length net.inputs ≤ 67108864) }
@@ -98,5 +69,5 @@ pub fn netlist_of_owned(alloc: Global, bytes: Vec<u8>) -> Result<Netlist, FileEr
     if is_too_long(&bytes) {
         return Err(too_long());
     }
-    netlist_in_owned(alloc, bytes)
+    netlist_in(alloc, bytes)
 }

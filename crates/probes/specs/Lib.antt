@@ -3,5 +3,9 @@ pub mod Hearing
 pub mod Texts
 pub mod Showing
 pub mod Values
+pub mod Codes
+pub mod Dumps
+pub mod Kinds
+pub mod Reading
 -- The code's own: what its parts say to each other.
 pub mod Tables

@@ -28,11 +28,11 @@ words_of Storm = codes "storm FILE ROUNDS [--care CARE] [--nodes N] [--observe a
 
 -- what it does
 abbrev pub purpose_of : Topic → List ℕ
-purpose_of Check = codes "says that each loop is harmless, or prints a wire and a vector that show why not"
-purpose_of Rewrite = codes "writes an accepted netlist without loops, with the same outputs at every tick"
+purpose_of Check = codes "says that each loop is harmless within care, or prints what shows why not"
+purpose_of Rewrite = codes "writes an accepted netlist without loops, with the same outputs at every tick within care"
 purpose_of Aiger = codes "writes an accepted netlist as an and-inverter graph without loops, in AIGER's ASCII or binary form"
 purpose_of Explain = codes "does as check, and shows what leaves a refused wire unknown, or what each accepted loop needs"
-purpose_of Equal = codes "says that two netlists have the same outputs and latches at every tick, or prints what differs"
+purpose_of Equal = codes "says that two netlists have the same outputs and latches at every tick within care, or prints what differs"
 purpose_of Flat = codes "writes the netlist without its hierarchy"
 purpose_of Loops = codes "prints the loops and the wires that cut them open, with --dot as a graph for Graphviz"
 purpose_of Sim = codes "simulates the netlist with 0, 1 and x, tick by tick"

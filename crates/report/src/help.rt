@@ -100,15 +100,15 @@ fn purpose(topic: Topic) -> &'static [u8]
 {
     match topic {
         Topic::Check =>
-            b"says that each loop is harmless, or prints a wire and a vector that show why not",
+            b"says that each loop is harmless within care, or prints what shows why not",
         Topic::Rewrite =>
-            b"writes an accepted netlist without loops, with the same outputs at every tick",
+            b"writes an accepted netlist without loops, with the same outputs at every tick within care",
         Topic::Aiger =>
             b"writes an accepted netlist as an and-inverter graph without loops, in AIGER's ASCII or binary form",
         Topic::Explain =>
             b"does as check, and shows what leaves a refused wire unknown, or what each accepted loop needs",
         Topic::Equal =>
-            b"says that two netlists have the same outputs and latches at every tick, or prints what differs",
+            b"says that two netlists have the same outputs and latches at every tick within care, or prints what differs",
         Topic::Flat => b"writes the netlist without its hierarchy",
         Topic::Loops =>
             b"prints the loops and the wires that cut them open, with --dot as a graph for Graphviz",

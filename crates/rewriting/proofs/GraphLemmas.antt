@@ -17,9 +17,9 @@ use Rattle.refusals.specs.declared.observe.Observe.{Observe}
 use Rattle.refusals.specs.Acceptance.{Accepts}
 use Rattle.isolation.proofs.ExcerptLemmas.{known_list}
 use Rattle.schedules.specs.Settling.{HasSameInterface}
-use Rattle.accepted_runs.specs.Machines.{FitsFixpoint}
-use Rattle.accepted_runs.proofs.CareLemmas.{outputs_known}
-use Rattle.accepted_runs.proofs.MachineLemmas.{runs_are_machines}
+use Rattle.schedules.specs.Machines.{FitsFixpoint}
+use Rattle.schedules.proofs.CareLemmas.{outputs_known}
+use Rattle.schedules.proofs.MachineLemmas.{runs_are_machines}
 use Rattle.aig_core.specs.declared.building.Built.{Built}
 use Rattle.aig_core.specs.Answers.{FitsNetlist, HasValues}
 use Rattle.aig_core.specs.Building.{built, columns}

@@ -20,8 +20,8 @@ use Rattle.isolation.proofs.SettlingLemmas.{loops-are}
 use Rattle.care_sets.specs.Care.{CareSet, IsCareVector}
 use Rattle.refusals.proofs.RefusalLemmas.{length-bits}
 use Rattle.schedules.specs.Settling.{HasSameInterface, Same}
-use Rattle.accepted_runs.specs.Laws.{TellsAsMuch}
-use Rattle.accepted_runs.proofs.SameLemmas.{same_by_fixpoints}
+use Rattle.schedules.specs.Accepted.{TellsAsMuch}
+use Rattle.schedules.proofs.SameLemmas.{same_by_fixpoints}
 use Rattle.refusals.specs.declared.observe.Observe.{Observe}
 use Rattle.refusals.specs.Acceptance.{Accepts}
 use Rattle.blif_write.specs.Laws.{HasCovers, ReadsBack}

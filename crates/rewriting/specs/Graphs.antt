@@ -4,7 +4,7 @@ use Rattle.netlist.specs.declared.parts.Parts.{Parts}
 use Rattle.care_sets.specs.Care.{CareSet}
 use Rattle.schedules.specs.Runs.{Run, IsRun, inputs_of, latches_of, outputs_of}
 use Rattle.schedules.specs.Settling.{HasSameInterface, IsWithinCare}
-use Rattle.accepted_runs.specs.Machines.{Machine, states_over, shown_over}
+use Rattle.schedules.specs.Machines.{Machine, states_over, shown_over}
 use Rattle.aig_core.specs.declared.building.Built.{Built}
 use Rattle.aig_core.specs.Graphs.{den}
 use Rattle.aig_core.specs.Answers.{FitsNetlist}

@@ -5,10 +5,9 @@ ghost use Rattle.commands.specs.declared.kind.Kind.TheVariants as kinds;
 use crate::calls::{add_probe, call_probed, is};
 use delay_core::Change;
 use netlist::Netlist;
-use probes::{Kind, LastRound, Probe};
+use probes::{Kind, LastRound, Probe, put_code};
 use std::alloc::{AllocError, Global};
 use std::test::Fail;
-use vcd_out::put_code;
 
 /// Two units that share a loop.
 const UNITS: &str =

@@ -4,3 +4,6 @@ pub mod Fairness
 pub mod Runs
 pub mod Settling
 pub mod Laws
+pub mod Machines
+pub mod Accepted
+pub mod Harmless

@@ -3,8 +3,7 @@
 ghost use Rattle.aig_core.specs.Answers.{FitsNetlist};
 
 use crate::texts::net_of;
-use aig_core::{Built, build};
-use aiger_write::{write, write_binary};
+use aig_core::{Built, build, write_ascii, write_binary};
 use cyc_io::TextSink;
 use netlist::Netlist;
 use std::alloc::Global;
@@ -58,7 +57,7 @@ fn texts_are(alloc: Global, net: &Netlist, built: &Built, number: u32) -> Result
 {
     let mut lines = TextSink::new(alloc);
     let mut bytes = TextSink::new(alloc);
-    if write(net, built, &mut lines).is_err() || write_binary(net, built, &mut bytes).is_err() {
+    if write_ascii(net, built, &mut lines).is_err() || write_binary(net, built, &mut bytes).is_err() {
         return Err(Fail::from("a text is not written"));
     }
     let lines = lines.into_vec();

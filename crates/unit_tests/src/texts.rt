@@ -14,7 +14,7 @@ use std::test::Fail;
 pub fn net_of(alloc: Global, text: &[u8]) -> Result<Netlist, Fail>
     ensures { IfOk result IsNetlist }
 {
-    match netlist_of(alloc, text) {
+    match netlist_of(alloc, text.to_vec(alloc)?) {
         Ok(net) => Ok(net),
         Err(_) => Err(Fail::from("a text is no netlist")),
     }

@@ -46,6 +46,7 @@ abbrev pub counting_cost : Parts → CareSet → ℕ
 counting_cost net care = set_cost care + (solving_cost net + sweeps_cost net)
 
 -- the whole decision: both rails of each column, whose nodes are fewer than two functions of w nodes have, and then its
--- parts, with the fixpoint and the sweeps that are counted
+-- parts, with the fixpoint and the sweeps that are counted. It is at least what a judgement makes, and at least what
+-- counting does: each of these begins with new diagrams.
 abbrev pub decision_cost : Parts → CareSet → ℕ
 decision_cost net care = 2 + start_cost net care + 10 * (length net.gates + 2) * effort net + care_cost net care + 6 * length net.gates * (length net.gates + 2)

@@ -3,8 +3,8 @@
 //! All gates are observed, or what is seen from outside.
 //!
 //! It stands on `clause_decision`, on `fixpoint`, `isolation` and the diagrams below them, and on the definitions of
-//! `refusals`. The layer above uses that `decide` answers as the definition of acceptance and refusals says
-//! (`verdict`), and which wires are told never apart on care.
+//! `refusals`. The layer above uses that `judge` answers as the definition of acceptance and refusals says (`judgement`),
+//! that `decide` answers so with the sweeps (`verdict`), and which wires are told never apart on care.
 #![tactic(auto)]
 
 mod alone;

@@ -1,6 +1,6 @@
 use Rattle.std.proofs.Common.{refl, rules}
 use Rattle.commands.specs.declared.kind.Kind.TheVariants.{Trace, Glitches, Last, Vcd}
-use Rattle.vcd_out.proofs.BoxLemmas.{in_box}
+use Rattle.probes.proofs.BoxLemmas.{in_box}
 use Rattle.cases.proofs.status_of.OwnLists as boxes
 use Rattle.cases.proofs.status_of.Goals as goal
 

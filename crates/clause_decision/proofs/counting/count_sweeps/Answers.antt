@@ -25,7 +25,7 @@ loop-sweeps-init c =
 counted : (c : In_ok-next_needed) → IsCountedTo c.args.block.now.net c.args.care.now c.args.scope.now.gates (loops_in c.args.block.now) (gates_in c.args.block.now) c.next_needed.new.swept
     (c.loop-sweeps.sweeps - first_number c.args.search.sign + 1) c.loop-sweeps.sweeps c.in_ok-next_needed.field-0
 counted c =
-    c.in_ok-next_needed.ensures c.args.care.now c.args.scope.now (c.loop-sweeps.sweeps - first_number c.args.search.sign) c.requires.scope c.requires.within c.requires.serves c.loop-sweeps.invariant.swept
+    c.in_ok-next_needed.ensures c.args.scope.now (c.loop-sweeps.sweeps - first_number c.args.search.sign) c.requires.scope c.requires.within c.requires.serves c.loop-sweeps.invariant.swept
     (let first = c.loop-sweeps.invariant.first in omega (arith, first)) c.loop-sweeps.invariant.more
 
 pub returns-in-These : goal.returns-in-These

@@ -9,26 +9,23 @@ use Rattle.clause_decision.proofs.EventLemmas.{ready-first}
 use Rattle.clause_decision.proofs.LoopLemmas.{cuts-enough}
 use Rattle.clause_decision.proofs.SimulationLemmas.{changed-fits, changed-needs, still-fixed, swept-next, swept_at}
 use Rattle.clause_decision.proofs.simulating.count_at.Goals as goal
-use Rattle.clause_decision.proofs.simulating.count_at.Goals.{After-deref-2}
+use Rattle.clause_decision.proofs.simulating.count_at.Goals.{After-deref}
 
 -- what is outside of the loop is as in the fixpoint
-outside_is : (c : After-deref-2) → c.deref-2.result.now ≡ fix c.args.block.now.net (bits c.args.vector.now)
-outside_is c = c.deref-2.ensures.value ∙ c.in_ok-outside.ensures ∙ ap (λ (net : Parts). fix net (bits c.args.vector.now)) c.net.ensures.net
+outside_is : (c : After-deref) → c.deref.result.now ≡ fix c.args.block.now.net (bits c.args.vector.now)
+outside_is c = c.deref.ensures.value ∙ c.in_ok-outside.ensures ∙ ap (λ (net : Parts). fix net (bits c.args.vector.now)) c.net.ensures.net
 
 pub loop-sweeps-init : goal.loop-sweeps-init
 loop-sweeps-init c =
     let l : LoopAt = c.args.block.now in
     grind (arith, ready-first l (fix l.net (bits c.args.vector.now)))
 
-pub sweep-requires-clause-readers : goal.sweep-requires-clause-readers
-sweep-requires-clause-readers c = subst (λ (rows : List (List ℕ)). AreReaders c.args.block.now (gates_in c.args.block.now) rows) (sym c.deref.ensures.value) c.in_ok-readers.ensures
-
 pub invariant_of-simulation : goal.invariant_of-simulation
 invariant_of-simulation g =
-    let c : After-deref-2 = (goal.at.invariant_of-simulation g).After-deref-2 in
+    let c : After-deref = (goal.at.invariant_of-simulation g).After-deref in
     let l : LoopAt = c.args.block.now in
     let v : List Trit = bits c.args.vector.now in
-    grind (arith, After-deref-2, outside_is c, length-append v (fix_gates l.net v), length-map c.args.vector.now bit, length-fix l.net (loops_in l) v)
+    grind (arith, After-deref, outside_is c, length-append v (fix_gates l.net v), length-map c.args.vector.now bit, length-fix l.net (loops_in l) v)
 
 pub sweep-requires-clause-ready : goal.sweep-requires-clause-ready
 sweep-requires-clause-ready c = grind arith
@@ -45,24 +42,24 @@ returns-then-is_empty c =
     let changed : List ℕ = c.in_ok-changed.changed.items in
     let inv = c.loop-sweeps.invariant in
     let swept : IsSwept l outside before after changed =
-    swept_at l _ outside _ before after changed (outside_is (goal.at.returns-then-is_empty c).After-deref-2) c.deref-in-loop-sweeps.ensures.value c.in_ok-changed.ensures in
+    swept_at l _ outside _ before after changed (outside_is (goal.at.returns-then-is_empty c).After-deref) c.deref-in-loop-sweeps.ensures.value c.in_ok-changed.ensures in
     let none : length changed ≡ 0 = (let empty = c.if-is_empty.ensures in let own = c.in_ok-changed.changed.ok.0 in grind (arith, nat_tests)) in
     let next = swept-next l is (bits v) outside before after k refl swept.sweeping inv.at in
     record {
-      enough = still-fixed l is v (length-map v bit ∙ c.requires) before after k inv.at next
+      enough = still-fixed l is v (length-map v bit ∙ c.requires.vector) before after k inv.at next
           (λ n there cut. elim (swept.unseen.each n there cut) [ inl alike ↦ alike | inr listed ↦ absurd (omega (arith, listed.1, none)) ]);
       least = inv.more;
     }
 
 pub show-requires-clause-readers : goal.show-requires-clause-readers
-show-requires-clause-readers c k d low = grind (arith, changed-fits c.args.block.now c.cut_count-most.ensures.is _ _ _ _ c.deref-in-loop-sweeps-3.result.now c.deref-in-loop-sweeps-3.ensures.value c.in_ok-changed.ensures k d low)
+show-requires-clause-readers c k d low = grind (arith, changed-fits c.args.block.now c.cut_count-most.ensures.is _ _ _ _ c.deref-in-loop-sweeps-2.result.now c.deref-in-loop-sweeps-2.ensures.value c.in_ok-changed.ensures k d low)
 
 pub show-requires-clause-before : goal.show-requires-clause-before
-show-requires-clause-before c k d low = grind (arith, changed-fits c.args.block.now c.cut_count-most.ensures.is _ _ _ _ c.deref-in-loop-sweeps-3.result.now c.deref-in-loop-sweeps-3.ensures.value c.in_ok-changed.ensures k d low)
+show-requires-clause-before c k d low = grind (arith, changed-fits c.args.block.now c.cut_count-most.ensures.is _ _ _ _ c.deref-in-loop-sweeps-2.result.now c.deref-in-loop-sweeps-2.ensures.value c.in_ok-changed.ensures k d low)
 
 pub show-requires-clause-after : goal.show-requires-clause-after
 show-requires-clause-after c k d low =
-    grind (arith, changed-fits c.args.block.now c.cut_count-most.ensures.is _ _ _ _ c.deref-in-loop-sweeps-3.result.now c.deref-in-loop-sweeps-3.ensures.value c.in_ok-changed.ensures k d low, with_items_is c.loop-sweeps.after c.sweep.new.after)
+    grind (arith, changed-fits c.args.block.now c.cut_count-most.ensures.is _ _ _ _ c.deref-in-loop-sweeps-2.result.now c.deref-in-loop-sweeps-2.ensures.value c.in_ok-changed.ensures k d low, with_items_is c.loop-sweeps.after c.sweep.new.after)
 
 pub loop-sweeps-preserved : goal.loop-sweeps-preserved
 loop-sweeps-preserved c =
@@ -78,14 +75,13 @@ loop-sweeps-preserved c =
     let waiting : List ℕ = c.in_ok-waiting-2.waiting.items in
     let inv = c.loop-sweeps.invariant in
     let swept : IsSwept l outside before after changed =
-    swept_at l _ outside _ before after changed (outside_is (goal.at.loop-sweeps-preserved c).After-deref-2) c.deref-in-loop-sweeps.ensures.value c.in_ok-changed.ensures in
+    swept_at l _ outside _ before after changed (outside_is (goal.at.loop-sweeps-preserved c).After-deref) c.deref-in-loop-sweeps.ensures.value c.in_ok-changed.ensures in
     let owned : length after ≡ c.loop-sweeps.after.len = omega (arith, swept.sweeping.width_after, inv.ready.sweeping.width_after, c.loop-sweeps.after.ok.0) in
     let after_is = with_items_is c.loop-sweeps.after after owned in
-    let read : c.deref-in-loop-sweeps-4.result.now ≡ after = c.deref-in-loop-sweeps-4.ensures.value ∙ after_is in
-    let readers : AreReaders l (gates_in l) c.deref-in-loop-sweeps-2.result.now = subst (λ (rows : List (List ℕ)). AreReaders l (gates_in l) rows) (sym c.deref-in-loop-sweeps-2.ensures.value) c.in_ok-readers.ensures in
-    let given : IsSwept l outside c.deref_mut-in-loop-sweeps.result.now c.deref-in-loop-sweeps-4.result.now c.deref-in-loop-sweeps-3.result.now =
-    rw (c.deref_mut-in-loop-sweeps.ensures.value, read, c.deref-in-loop-sweeps-3.ensures.value) swept in
-    let ready : IsReady l outside shown after waiting = subst (λ (s : List Trit). IsReady l outside shown s waiting) read (c.in_ok-waiting-2.ensures l outside readers given) in
+    let read : c.deref-in-loop-sweeps-3.result.now ≡ after = c.deref-in-loop-sweeps-3.ensures.value ∙ after_is in
+    let given : IsSwept l outside c.deref_mut-in-loop-sweeps.result.now c.deref-in-loop-sweeps-3.result.now c.deref-in-loop-sweeps-2.result.now =
+    rw (c.deref_mut-in-loop-sweeps.ensures.value, read, c.deref-in-loop-sweeps-2.ensures.value) swept in
+    let ready : IsReady l outside shown after waiting = subst (λ (s : List Trit). IsReady l outside shown s waiting) read (c.in_ok-waiting-2.ensures l outside c.requires.readers given) in
     let owned_before : length shown ≡ c.loop-sweeps.before.len = omega (arith, ready.sweeping.width_before, inv.ready.sweeping.width_before, c.loop-sweeps.before.ok.0) in
     let before_is = with_items_is c.loop-sweeps.before shown owned_before in
     let some : 0 < length changed = (let full = c.if-is_empty.ensures in let own = c.in_ok-changed.changed.ok.0 in grind (arith, nat_tests)) in
@@ -103,7 +99,7 @@ loop-sweeps-preserved c =
         | inr high ↦
             (let here : k ≡ j = omega (arith, low, high) in
             subst (λ (i : ℕ). ¬ CutsAreFixed l.net (loops_in l) (bits v) a i) here
-            (changed-needs l is v (length-map v bit ∙ c.requires) before after k inv.at next wire (swept.unseen.inside wire listed) (swept.unseen.are wire listed) (swept.differs wire listed) a inside))
+            (changed-needs l is v (length-map v bit ∙ c.requires.vector) before after k inv.at next wire (swept.unseen.inside wire listed) (swept.unseen.are wire listed) (swept.differs wire listed) a inside))
       ];
     }
 
@@ -114,6 +110,6 @@ returns c =
     let count = c.cut_count-most.ensures.count in
     let past = c.loop-sweeps-test.false in
     record {
-      enough = λ a inside. subst (λ (n : ℕ). CutsAreFixed l.net (loops_in l) (bits v) a n) (sym count) (cuts-enough l c.cut_count-most.ensures.is v c.requires a inside);
+      enough = λ a inside. subst (λ (n : ℕ). CutsAreFixed l.net (loops_in l) (bits v) a n) (sym count) (cuts-enough l c.cut_count-most.ensures.is v c.requires.vector a inside);
       least = λ a j inside low. c.loop-sweeps.invariant.more a j inside (omega (arith, low, past));
     }

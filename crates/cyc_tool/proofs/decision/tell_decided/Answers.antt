@@ -1,5 +1,5 @@
 use Rattle.cyc_tool.proofs.Common.{IfOk-weaker}
-use Rattle.cyc_tool.specs.Seen.{making_seen}
+use Rattle.commands.specs.Seen.{making_seen}
 use Rattle.cyc_tool.proofs.DecisionLemmas.{limit_decides, verdict_fits}
 use Rattle.cyc_tool.proofs.decision.tell_decided.Goals as goal
 

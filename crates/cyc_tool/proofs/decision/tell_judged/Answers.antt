@@ -1,5 +1,5 @@
 use Rattle.cyc_tool.proofs.Common.{IfOk-weaker}
-use Rattle.cyc_tool.specs.Seen.{telling_seen}
+use Rattle.commands.specs.Seen.{telling_seen}
 use Rattle.cyc_tool.proofs.DecisionLemmas.{limit_decides, judgement_fits}
 use Rattle.cyc_tool.proofs.decision.tell_judged.Goals as goal
 

@@ -1,5 +1,5 @@
 use Rattle.cyc_tool.proofs.Common.{IfOk-weaker, outcome_of}
-use Rattle.cyc_tool.specs.Seen.{telling_seen}
+use Rattle.commands.specs.Seen.{telling_seen}
 use Rattle.cyc_tool.proofs.DecisionLemmas.{accepted_decides, refused_decides}
 use Rattle.cyc_tool.proofs.decision.tell_judgement.Goals as goal
 

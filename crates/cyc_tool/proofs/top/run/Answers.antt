@@ -11,9 +11,9 @@ use Rattle.cyc_tool.proofs.top.run.Goals as goal
 -- what was found is told
 runs : (g : given.Over) (c : goal.After-drop-probes g)
     → Runs (request (λ b. (goal.Probe-dyn g (b.vtable, b.value)).kind b.value) (λ b. (goal.Probe-dyn g (b.vtable, b.value)).text b.value) c.args.words.now c.args.probes.items)
-    (shelf_call g.S.Shelf.files g.S.Shelf.faults c.args.shelf.now c.carry_out-end.new.shelf) c.carry_out-end.new.d
+    (shelf_call g.S.Shelf.files g.S.Shelf.faults c.args.shelf.now c.carry_out_words-end.new.shelf) c.carry_out_words-end.new.d
     (sink_call g.O.Sink.put g.O.Sink.faults c.args.out.now c.tell_end.new.out) (sink_call g.E.Sink.put g.E.Sink.faults c.args.err.now c.tell_end.new.err) c.tell_end.result
-runs g c = record { end = end_of c.carry_out-end.result; comes = rw c.deref_mut.ensures.value at c.carry_out-end.ensures.comes; tells = c.tell_end.ensures.told }
+runs g c = record { end = end_of c.carry_out_words-end.result; comes = rw c.deref_mut.ensures.value at c.carry_out_words-end.ensures.comes; tells = c.tell_end.ensures.told }
 
 pub returns-clause-runs : goal.returns-clause-runs
 returns-clause-runs g c = runs g c

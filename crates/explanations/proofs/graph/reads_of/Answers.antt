@@ -1,4 +1,4 @@
-use Rattle.std.proofs.Common.{◌≡◌, ◌+◌, length, ap, ◌∙◌, subst, ℕ}
+use Rattle.std.proofs.Common.{◌≡◌, ◌+◌, length, ap, subst, ℕ}
 use Rattle.std.proofs.lemmas.Result.{IfOk-weaker}
 use Rattle.cyc_base.specs.declared.sig.Sig.{Sig}
 use Rattle.netlist.specs.Netlists.{gate_at, gate_sig}
@@ -15,8 +15,8 @@ returns c =
     let is : IsOpenSignal (length net.inputs + length net.latches) known (gate_sig net c.args.gate).0 =
     subst (λ (n : ℕ). IsOpenSignal n known (gate_sig net c.args.gate).0) first
     (subst (λ (n : ℕ). IsOpenSignal (c.columns-first.result) known n) number (c.is_open.ensures.0 c.if-not-is_open.false)) in
-    let pins : c.items.result.now ≡ (gate_at net c.args.gate).pins = c.items.ensures ∙ ap (λ gate. gate.pins) c.gate.ensures.at in
+    let same : c.gate-gate.result.now ≡ gate_at net c.args.gate = c.gate-gate.ensures.at in
     IfOk-weaker c.open_reads.result
-    (λ reads. HasOpenReads (c.columns-first.result) known c.items.result.now (length c.items.result.now) reads.items)
+    (λ reads. HasOpenReads (c.columns-first.result) known c.gate-gate.result.now (length c.gate-gate.result.now.pins) reads.items)
     (λ reads. ReadsOpen net known c.args.gate reads.items)
-    (λ reads h. reads_these net known c.args.gate reads.items c.columns-first.ensures.valid c.requires.gate is (rw (first, pins) at h)) c.open_reads.ensures
+    (λ reads h. reads_these net known c.args.gate reads.items c.columns-first.ensures.valid c.requires.gate is (rw (first, same) at h)) c.open_reads.ensures

@@ -1,4 +1,0 @@
-pub mod CareLemmas
-pub mod HarmlessLemmas
-pub mod MachineLemmas
-pub mod SameLemmas

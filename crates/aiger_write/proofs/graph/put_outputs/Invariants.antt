@@ -1,6 +1,0 @@
-use Rattle.std.proofs.Common.{take}
-use Rattle.aiger_write.proofs.Common.{flat_map, output_line, IsAppendedWhole, sink_call}
-use Rattle.aiger_write.proofs.graph.put_outputs.Given as goal
-
-abbrev pub invariant-loop-output : goal.invariant-loop-output
-invariant-loop-output g l = IsAppendedWhole (flat_map output_line (take l.output-index l.outputs)) (sink_call g.K.Sink.put g.K.Sink.faults l.fn.sink l.sink)

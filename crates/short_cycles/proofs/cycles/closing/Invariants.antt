@@ -1,5 +1,0 @@
-use Rattle.short_cycles.specs.Search.{IsClosing}
-use Rattle.short_cycles.proofs.cycles.closing.Given as goal
-
-abbrev pub invariant-loop-node : goal.invariant-loop-node
-invariant-loop-node l = IsClosing l.graph l.root l.steps l.node l.best

@@ -1,5 +1,0 @@
-use Rattle.short_cycles.specs.Search.{IsNearestOf}
-use Rattle.short_cycles.proofs.shortest.nearest.Given as goal
-
-abbrev pub invariant-loop-node : goal.invariant-loop-node
-invariant-loop-node l = IsNearestOf l.reached l.nodes l.node-index l.best

@@ -1,4 +1,0 @@
--- The chapter: what the contracts of public functions say.
-pub mod Cycles
--- The code's own: what its parts say to each other.
-pub mod Search

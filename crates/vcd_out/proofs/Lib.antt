@@ -1,6 +1,0 @@
-pub mod Common
-pub mod BoxLemmas
-mod CodeLemmas
-mod DumpLemmas
-mod LineLemmas
-mod PieceLemmas
