@@ -1,9 +1,10 @@
 -- The miter of two netlists is refused just where they differ, with the least vector of that.
-use Rattle.std.proofs.Common.{◌≡◌, ◌≢◌, inl, inr, ℕ, suc, ◌+◌, ◌-◌, ◌<◌, Bool, true, false, not, ◌&&◌, cond, List, [], ◌∷◌, length, map, Option, Some, None, refl, ap, subst, ◌∙◌, arith}
+use Rattle.std.proofs.Common.{◌≡◌, ◌≢◌, inl, inr, ℕ, suc, ◌+◌, ◌-◌, ◌<◌, Bool, true, false, not, ◌&&◌, cond, List, [], ◌∷◌, length, map, Option, Some, None, refl, ap, sym, subst, ◌∙◌, arith}
 use Rattle.equal.proofs.Common.{find, Result, IfOk, Err, is_none, Ok, list_any, range_with_len, option_or, cases_lt, length-map-range_with_len, get_or-map-range_with_len, map-range_with_len_more, Sig, X, bits, Parts, gate_sig, IsNetlist, wire, fix, map_agree, CareSet, columns, is_care_vector, Pair, by_name, differs, difference, AreAccepted, IsKnownEarly, IsFound, joined_pairs, miter, find-append, vectors, option_or-neither, option_map-nothing, Undetermined, gate_sigs, AreDetermined, care_vectors, refusal, find-filter, any-find, accepted_without_refusal, care_vector_decides, Early}
 use Rattle.std.specs.Option.{option_map, option_and_then}
 use Rattle.netlist.specs.Fixpoint.{next}
 use Rattle.care_sets.specs.Care.{IsCareVector}
+use Rattle.clause_decision.specs.Tests.{is_unknown_at}
 use Rattle.cyc_base.proofs.VectorLemmas.{find-alike}
 use Rattle.refusals.specs.declared.observe.Observe.TheVariants as observe
 use Rattle.refusals.specs.declared.refusal.Refusal.TheVariants.{Leaves}
@@ -86,6 +87,18 @@ module _ (a b : Parts) (care_a : CareSet) (valid_a : IsNetlist a) (valid_b : IsN
 
   found_last : find (is_undetermined net (gate_sig net last)) (care_vectors net care_a) ≡ difference a b care_a
   found_last = agree_on_care a care_a (is_undetermined net (gate_sig net last)) (differs a b) last_is
+
+  -- the least vector at which the last gate is unknown is where they differ
+  pub unknown_last : {E : Type 0} (result : Result Early E) (gate : ℕ) → gate ≡ length net.gates - 1 →
+      IfOk result (IsFound (find (is_unknown_at net care_a gate) (vectors (columns net)))) → IfOk result (IsFound (difference a b care_a))
+  unknown_last result gate is found =
+      let many = length-net a b pairs in
+      let same : gate ≡ last = omega (arith, is, many) in
+      subst (λ (least : Option (List Bool)). IfOk result (IsFound least))
+      (ap (λ n. find (is_unknown_at net care_a n) (vectors (columns net))) same
+      ∙ sym (find-filter (is_undetermined net (gate_sig net last)) (is_care_vector net care_a) (vectors (columns net)))
+      ∙ found_last)
+      found
 
   undetermined_is : undetermined_refusal net care_a observe.All ≡ option_map (λ v. Undetermined v (gate_sig net last)) (difference a b care_a)
   undetermined_is =

@@ -1,5 +1,5 @@
 -- A netlist whose latches are taken as inputs: it stands where the netlist stands.
-use Rattle.std.proofs.Common.{◌≡◌, ℕ, ◌-◌, [], map, None, sym, arith}
+use Rattle.std.proofs.Common.{◌≡◌, ℕ, [], map, None, sym, arith}
 use Rattle.equal.proofs.Common.{IsDistinct, append_assoc, length-append, length-map, Sig, Gate, Latch, Parts, signal_names, sig_eq, IsNetlist, first_gate, column_names}
 use Rattle.equal.proofs.PartLemmas.{IsPartOf}
 

@@ -8,6 +8,8 @@ pub mod MiterLemmas
 pub mod DifferenceLemmas
 pub mod CompareLemmas
 pub mod AlikeLemmas
+pub mod PlacedLemmas
+pub mod ScopeLemmas
 pub mod ValidLemmas
 pub mod BoundLemmas
 pub mod LatchlessLemmas

@@ -1,5 +1,5 @@
 -- The gates that tell whether some pair differs.
-use Rattle.std.proofs.Common.{◌≡◌, ◌≢◌, ℕ, zero, suc, ◌+◌, ◌-◌, ◌<◌, ◌≤◌, Bool, true, false, ◌||◌, List, [], ◌∷◌, ◌++◌, length, map, take, get_or, sym, ap, ap₂, subst, ◌∙◌, arith}
+use Rattle.std.proofs.Common.{◌≡◌, ◌≢◌, ℕ, zero, suc, ◌+◌, ◌<◌, ◌≤◌, Bool, true, false, ◌||◌, List, [], ◌∷◌, ◌++◌, length, map, take, get_or, sym, ap, ap₂, subst, ◌∙◌, arith}
 use Rattle.equal.proofs.Common.{list_any, range_with_len, length-append, length-map, get_or_append_left, get_or-append-add, get_or-append_right, get_or-replicate, length-map-range_with_len, get_or-map-range_with_len, Sig, Trit, X, Zero, One, bit, bits, ext, Gate, Parts, count, signal, gate_at, no_gate, gate_sig, wires, wire, steps, fix, fix_gates, columns, Pair, some_is_apart, are_apart, is_apart_at, moved_gates, joined, link_gate, miter_gates, no_pair, last_gate, get_or-step, wire_of_gate}
 use Rattle.std.proofs.lemmas.List.{get_or_at, take_all}
 use Rattle.cyc_base.specs.Values.{Below}

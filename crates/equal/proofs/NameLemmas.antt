@@ -1,5 +1,5 @@
 -- What a name finds in a netlist.
-use Rattle.std.proofs.Common.{◌≡◌, ◌≢◌, ◌⊎◌, inl, inr, ℕ, zero, suc, ◌+◌, ◌-◌, ◌<◌, ◌≤◌, Bool, true, false, ◌||◌, List, [], ◌∷◌, length, get_or, take, slice_get, position, Some, None, refl, sym, ap, ap₂, ◌∙◌, arith, true≢false}
+use Rattle.std.proofs.Common.{◌≡◌, ◌⊎◌, inl, inr, ℕ, zero, suc, ◌+◌, ◌-◌, ◌<◌, ◌≤◌, Bool, true, false, ◌||◌, List, [], ◌∷◌, length, get_or, take, slice_get, position, Some, None, refl, sym, ap, ap₂, ◌∙◌, arith, true≢false}
 use Rattle.equal.proofs.Common.{find, is_none, list_any, bytes_eq, length-map, get_or_append_left, get_or-append-add, get_or-map, get_or_default, get_or-take, length-take-le, take_more, list_any-append, list_any_none, find_at, find-append, get_or_from_slice_get, slice_get_within, Latch, Parts, signal, sig_eq, signal_names, driven_names, IsNetlist, name_of, latch_named, is_input, is_output, number_or_0, column_named, signal_named, eq-eqb, false_from_ne_true, or_parts, list_any-map, length-signal_names, any-find}
 use Rattle.std.specs.Prelude.{not}
 use Rattle.std.proofs.lemmas.List.Folds.{list_any_at}

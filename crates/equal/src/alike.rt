@@ -1,6 +1,6 @@
 //! Whether two netlists that are accepted agree, found with the help of their inner wires (Kuehlmann and Krohm 1997).
 
-ghost use Rattle.std.specs.Prelude.{◌≡◌, ◌+◌, ◌≤◌, [], None, true, length, All, IfOk};
+ghost use Rattle.std.specs.Prelude.{◌≡◌, ◌+◌, ◌≤◌, [], None, true, length, All, IfOk, IfSome};
 ghost use Rattle.netlist.specs.Netlists.{count};
 ghost use Rattle.care_sets.specs.Binding.{IsCareOf};
 ghost use Rattle.clause_decision.specs.Apart.{AreNeverApart, IsPairOf};
@@ -44,20 +44,24 @@ fn never_apart(
     are_never_apart(alloc, looped, care, &search)
 }
 
-/// Inner wires of the joined netlist that simulation tells neither apart nor from each other's complement.
+/// Inner wires of the joined netlist that simulation tells neither apart nor from each other's complement. None where it
+/// tells the wires of one of these pairs apart.
 fn find_hints(
     alloc: Global,
     a: &Netlist,
     b: &Netlist,
     looped: &LoopedNetlist<'_>,
     care: &Care,
-) -> Result<Vec<Hint>, AllocError>
+    pairs: &[Pair],
+) -> Result<Option<Vec<Hint>>, AllocError>
     requires joined { looped.now.net ≡ joined a.now b.now [] }
     requires fits { count a.now + length b.now.gates ≤ 4294967295 }
-    ensures { IfOk result (λ hints. All (λ hint. IsPairOf looped.now.net hint.pair) hints.items) }
+    ensures { IfOk result (λ found. IfSome found (λ hints. All (λ hint. IsPairOf looped.now.net hint.pair) hints.items)) }
 {
-    let prints = fingerprints(alloc, looped, care)?;
-    alike_hints(alloc, a, b, &prints)
+    match fingerprints(alloc, looped, care, pairs)? {
+        Some(prints) => Ok(Some(alike_hints(alloc, a, b, &prints)?)),
+        None => Ok(None),
+    }
 }
 
 /// Whether the wires of none of these pairs of the joined netlist are ever apart.
@@ -78,13 +82,16 @@ fn never_apart_joined(
     let blocks = find_blocks(alloc, net)?;
     let cut = find_cut(alloc, net, &blocks)?;
     let looped = LoopedNetlist::new(net, &blocks, &cut);
-    let hints = find_hints(alloc, a, b, &looped, care)?;
-    never_apart(alloc, &looped, care, &hints, pairs)
+    match find_hints(alloc, a, b, &looped, care, pairs)? {
+        Some(hints) => never_apart(alloc, &looped, care, &hints, pairs),
+        None => Ok(false),
+    }
 }
 
 impl<'a> AcceptedNetlists<'a> {
-    /// Whether they differ on no care vector. Wires that simulation doesn't tell apart are asked for first, one by one, and
-    /// what the solver learns of them is there for the outputs and latches; false says nothing.
+    /// Whether they differ on no care vector. Simulation may tell at once that they do. Inner wires that it doesn't tell
+    /// apart are asked for first, one by one, and what the solver learns of them is there for the outputs and latches; false
+    /// says nothing.
     pub(crate) fn are_alike(&self, alloc: Global) -> Result<bool, AllocError>
         ensures { IfOk result (λ alike. alike ≡ true → difference self.now.a self.now.b self.now.care ≡ None) }
     {

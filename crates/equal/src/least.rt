@@ -1,12 +1,15 @@
 //! The least care vector on which two netlists differ that are accepted.
 
-ghost use Rattle.std.specs.Prelude.{◌≡◌, ◌≤◌, ◌+◌, ◌-◌, ◌⊎◌, ◌++◌, [], Some, None, Option, Bool, List, suc, length, map, option_map, All, IfOk, IfErr};
+ghost use Rattle.std.specs.Prelude.{◌≡◌, ◌<◌, ◌≤◌, ◌+◌, ◌-◌, ◌⊎◌, ◌++◌, [], ℕ, Some, None, true, Option, Bool, List, suc, length, map, find, option_map, All, IfOk, IfErr};
+ghost use Rattle.cyc_base.specs.Vectors.{vectors};
 ghost use Rattle.cyc_base.specs.declared.sig.Sig.{Sig as Signal};
 ghost use Rattle.refusals.specs.declared.refusal.Refusal.TheVariants.{Undetermined};
 ghost use Rattle.netlist.specs.Netlists.{count, IsNetlist};
 ghost use Rattle.fixpoint.specs.Orders.{order as order_of};
 ghost use Rattle.netlist.specs.declared.parts.Parts.{Parts as TheParts};
-ghost use Rattle.care_sets.specs.Care.{CareSet};
+ghost use Rattle.care_sets.specs.Care.{columns, CareSet};
+ghost use Rattle.clause_decision.specs.Scopes.{is_marked, IsScopeOf};
+ghost use Rattle.clause_decision.specs.Tests.{is_unknown_at};
 ghost use Rattle.verdict.specs.Verdicts.{IsJudgement};
 ghost use Rattle.verdict.specs.Causes.{IsOutOfNodes};
 ghost use Rattle.differences.specs.Pairs.{least_apart as least_apart_of};
@@ -25,8 +28,8 @@ use crate::miter::add_miter_gates;
 use crate::pairs::{find_columns, latch_pairs, output_pairs};
 use bdd_ops::Diagrams;
 use care_sets::Care;
-use clause_decision::Pair;
-use cyc_base::{Bits, MAX_NODES};
+use clause_decision::{Found, Pair, Scope, least_unknown};
+use cyc_base::{Bits, Items, MAX_NODES};
 use differences::{Comparison, least_apart};
 use fixpoint::order;
 use loops::{LoopedNetlist, find_blocks, find_cut};
@@ -35,6 +38,9 @@ use refusals::Refusal;
 use std::alloc::{AllocError, Global};
 use unroll::mark;
 use verdict::{DecideFault, Judgement, Observe, judge};
+
+/// How many conflicts each search for the least vector of the miter's last gate may meet.
+const CONFLICTS: u64 = 100_000;
 
 /// How many nodes the diagrams may have that the netlist of differences gets.
 const FEW_NODES: u32 = 200_000;
@@ -75,7 +81,7 @@ fn moved_pairs(
 }
 
 /// The outputs of one name, and what the latches of one name load.
-fn own_pairs(alloc: Global, a: &Netlist, b: &Netlist) -> Result<Vec<Pair>, AllocError>
+pub(crate) fn own_pairs(alloc: Global, a: &Netlist, b: &Netlist) -> Result<Vec<Pair>, AllocError>
     ensures { IfOk result (λ pairs. pairs.items ≡ output_pairs_of a.now b.now ++ latch_pairs_of a.now b.now) }
 {
     let mut pairs = output_pairs(alloc, a, b)?;
@@ -118,6 +124,51 @@ fn gates_of_miter(
     let mut gates = joined_gates(alloc, a, b, columns, &mark)?;
     add_miter_gates(alloc, a, &mark, b.gates(), pairs, &mut gates)?;
     Ok(gates)
+}
+
+/// The same mark for each gate.
+fn marks_of_gates(alloc: Global, net: &Netlist, mark: bool) -> Result<Vec<bool>, AllocError>
+    ensures width { IfOk result (λ marks. length marks.items ≡ length net.now.gates) }
+    ensures each { IfOk result (λ marks. (n : ℕ) → n < length net.now.gates → is_marked marks.items n ≡ mark) }
+{
+    vec![in alloc; mark; net.gates() as usize]
+}
+
+/// The scope of all gates. It is said of none that it is known at each vector: unit clauses say so of those that no loop
+/// feeds.
+#[tactic(auto, using(crate::proofs::ScopeLemmas::all_close, crate::proofs::ScopeLemmas::none_known))]
+fn whole_scope(alloc: Global, net: &Netlist) -> Result<Scope, AllocError>
+    ensures scope { IfOk result (IsScopeOf net.now) }
+    ensures all { IfOk result (λ scope. (n : ℕ) → n < length net.now.gates → is_marked scope.gates n ≡ true) }
+{
+    let known = Items::of(marks_of_gates(alloc, net, false)?);
+    let gates = Items::of(marks_of_gates(alloc, net, true)?);
+    Ok(Scope { gates, known })
+}
+
+/// Whether there is a loop besides that of the last gate.
+fn has_loops(alloc: Global, net: &Netlist) -> Result<bool, AllocError> {
+    let blocks = find_blocks(alloc, net)?;
+    let list = blocks.list.items();
+    Ok(list.iter().filter(|block| block.looped).count() > 1)
+}
+
+/// The least care vector at which a gate of the miter is unknown, asked for that gate alone. Nothing where there are no
+/// loops: then a judgement asks for it at once, and one variable does for each gate.
+fn unknown_within(alloc: Global, net: &Netlist, care: &Care, gate: u32) -> Result<Early, AllocError>
+    requires care { IsCareOf net.now care.now }
+    requires gate { gate < length net.now.gates }
+    ensures { IfOk result (IsFound (find (is_unknown_at net.now care.now gate) (vectors (columns net.now)))) }
+{
+    if !has_loops(alloc, net)? {
+        return Ok(Early::Nothing);
+    }
+    let scope = whole_scope(alloc, net)?;
+    match least_unknown(alloc, net, care, &scope, gate, CONFLICTS)? {
+        Found::Least(vector) => Ok(Early::Found(Some(Bits::of(vector)))),
+        Found::NoVector => Ok(Early::Found(None)),
+        Found::Unknown => Ok(Early::Nothing),
+    }
 }
 
 /// The vector of a refusal for an unknown gate.
@@ -196,16 +247,32 @@ impl<'a> AcceptedNetlists<'a> {
         netlist_of(alloc, self.a, gates)
     }
 
-    /// The least vector on which they differ, if the miter is decided within a budget.
+    /// The least vector on which they differ, if the miter is decided within a budget. Its last gate is asked for alone
+    /// before: a judgement would show of all gates in loops again that they are known.
+    fn difference_by_miter(&self, alloc: Global, limit: u32) -> Result<Early, AllocError>
+        requires { limit ≤ MAX_NODES }
+        ensures { IfOk result (IsFound (difference self.now.a self.now.b self.now.care)) }
+    {
+        let net = self.miter(alloc)?;
+        let last = net.gates() - 1;
+        match unknown_within(alloc, &net, self.care, last)? {
+            Early::Found(found) => Ok(Early::Found(found)),
+            Early::Nothing => refusal_within(alloc, &net, self.care, limit),
+        }
+    }
+
+    /// The least vector on which they differ, if it is found within a budget.
     fn early_difference(&self, alloc: Global, limit: u32) -> Result<Early, AllocError>
         requires { limit ≤ MAX_NODES }
         ensures { IfOk result (IsFound (difference self.now.a self.now.b self.now.care)) }
     {
+        if self.stands_in_first(alloc)? {
+            return Ok(Early::Found(None));
+        }
         if self.are_alike(alloc)? {
             return Ok(Early::Found(None));
         }
-        let net = self.miter(alloc)?;
-        refusal_within(alloc, &net, self.care, limit)
+        self.difference_by_miter(alloc, limit)
     }
 
     /// The least vector on which they differ, by the diagrams of the joined netlist.

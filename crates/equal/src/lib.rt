@@ -2,8 +2,8 @@
 //! vector their outputs and what their latches load are equal.
 //!
 //! It stands on `verdict`, which decides both netlists, tells which wires of both are never apart, and decides their
-//! miter, which tells of a vector whether they differ, and on `differences`, which solves both at once. The layer above uses
-//! that `compare` answers as the definition of a comparison says, with the least vector of a difference.
+//! miter, which tells of a vector whether they differ, on `clause_decision`, which is asked for its last gate alone, and on
+//! `differences`, which solves both at once. The layer above uses that `compare` answers as the definition of a comparison says, with the least vector of a difference.
 #![tactic(auto)]
 
 mod accepted;
@@ -20,6 +20,7 @@ mod pairs;
 mod placing;
 mod prints;
 mod rebinding;
+mod standing;
 mod words;
 
 pub use answer::Answer;

@@ -1,10 +1,12 @@
-//! Fingerprints of wires, by simulation: wires that are equal have equal ones, and most of those that aren't have not.
+//! Fingerprints of wires, by simulation: wires that are equal have equal ones, and most of those that aren't have not. A
+//! vector that tells apart what should be equal ends it.
 
-ghost use Rattle.std.specs.Prelude.{◌≡◌, ◌<◌, length, All, IfOk};
+ghost use Rattle.std.specs.Prelude.{◌≡◌, ◌<◌, length, All, IfOk, IfSome};
 ghost use Rattle.netlist.specs.Netlists.{count};
 
 use crate::words::{Word, gate_word, word_at};
 use care_sets::Care;
+use clause_decision::Pair;
 use loops::{Blocks, Cut, LoopedNetlist, find_blocks, find_cut, gates_at};
 use netlist::Netlist;
 use std::alloc::{AllocError, Global};
@@ -184,13 +186,10 @@ impl<'a> SimulatedCare<'a> {
         Ok(SimulatedCare { assume, invariant })
     }
 
-    /// Which vectors are on care. Where none is, all are taken: they tell some wires apart still.
+    /// Which vectors are on care.
     fn allowed(&self, alloc: Global, words: &[Word]) -> Result<u64, AllocError> {
         let vectors = allowed(alloc, &self.assume, words)?
             & allowed(alloc, &self.invariant, words)?;
-        if vectors == 0 {
-            return Ok(u64::MAX);
-        }
         Ok(vectors)
     }
 }
@@ -203,7 +202,7 @@ pub(crate) struct Print {
 }
 
 /// A number with one more in it: times an odd number, and then its upper half in its lower one too.
-fn mixed(print: u64, number: u64) -> u64 {
+pub(crate) fn mixed(print: u64, number: u64) -> u64 {
     let mixed = (print ^ number).wrapping_mul(0x9e37_79b9_7f4a_7c15);
     mixed ^ (mixed >> 32)
 }
@@ -232,47 +231,64 @@ fn mix(words: &[Word], vectors: u64, prints: &mut [Print])
     }
 }
 
-/// Mixes the values at 64 vectors, of those on care, into the fingerprints.
+/// Whether the wires of some pair are apart at one of these vectors.
+fn is_any_apart(words: &[Word], vectors: u64, pairs: &[Pair]) -> bool {
+    pairs.iter().any(|pair| {
+        let here = word_at(words, pair.here.0 as usize);
+        let there = word_at(words, pair.there.0 as usize);
+        here.apart(there) & vectors != 0
+    })
+}
+
+/// Mixes the values at 64 vectors, of those on care, into the fingerprints, and tells whether some pair is apart at one of
+/// them. Where none is on care, all are taken: they tell some wires apart still.
 fn mix_vectors(
     alloc: Global,
     looped: &LoopedNetlist<'_>,
     care: &SimulatedCare<'_>,
+    pairs: &[Pair],
     number: &mut u64,
     prints: &mut [Print],
-) -> Result<(), AllocError>
+) -> Result<bool, AllocError>
     ensures { length prints.new ≡ length prints.old }
 {
     let mut words = first_words(alloc, looped.net(), number)?;
     settle(looped, &mut words);
     let vectors = care.allowed(alloc, &words)?;
-    mix(&words, vectors, prints);
-    Ok(())
+    let taken = if vectors == 0 { u64::MAX } else { vectors };
+    mix(&words, taken, prints);
+    Ok(is_any_apart(&words, vectors, pairs))
 }
 
-/// The fingerprints of each wire, from its values at some vectors on care.
+/// The fingerprints of each wire, from its values at some vectors on care, if none of them has some pair apart.
 fn fingerprints_on(
     alloc: Global,
     looped: &LoopedNetlist<'_>,
     care: &SimulatedCare<'_>,
-) -> Result<Vec<Print>, AllocError>
-    ensures { IfOk result (λ prints. length prints.items ≡ count looped.now.net) }
+    pairs: &[Pair],
+) -> Result<Option<Vec<Print>>, AllocError>
+    ensures { IfOk result (λ found. IfSome found (λ prints. length prints.items ≡ count looped.now.net)) }
 {
     let mut prints = vec![in alloc; Print::START; looped.net().count() as usize]?;
     let mut number = SEED;
     for _ in 0..WORDS {
-        mix_vectors(alloc, looped, care, &mut number, &mut prints)?;
+        if mix_vectors(alloc, looped, care, pairs, &mut number, &mut prints)? {
+            return Ok(None);
+        }
     }
-    Ok(prints)
+    Ok(Some(prints))
 }
 
-/// The fingerprints of each wire, from its values at some vectors of the care set.
+/// The fingerprints of each wire, from its values at some vectors of the care set. None where the wires of one of these
+/// pairs are apart at such a vector.
 pub(crate) fn fingerprints(
     alloc: Global,
     looped: &LoopedNetlist<'_>,
     care: &Care,
-) -> Result<Vec<Print>, AllocError>
-    ensures { IfOk result (λ prints. length prints.items ≡ count looped.now.net) }
+    pairs: &[Pair],
+) -> Result<Option<Vec<Print>>, AllocError>
+    ensures { IfOk result (λ found. IfSome found (λ prints. length prints.items ≡ count looped.now.net)) }
 {
     let models = SimulatedCare::new(alloc, care)?;
-    fingerprints_on(alloc, looped, &models)
+    fingerprints_on(alloc, looped, &models, pairs)
 }

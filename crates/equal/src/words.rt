@@ -39,6 +39,11 @@ impl Word {
         }
     }
 
+    /// At which vectors one of the two is 1 and the other 0.
+    pub fn apart(self, other: Word) -> u64 {
+        self.ones & other.zeros | self.zeros & other.ones
+    }
+
     fn not(self) -> Word {
         Word {
             ones: self.zeros,

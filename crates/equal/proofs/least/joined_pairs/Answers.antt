@@ -1,4 +1,4 @@
-use Rattle.std.proofs.Common.{◌-◌, arith}
+use Rattle.std.proofs.Common.{arith}
 use Rattle.equal.proofs.CompareLemmas.{pairs_fit}
 use Rattle.equal.proofs.least.joined_pairs.Goals as goal
 

@@ -1,4 +1,4 @@
-use Rattle.std.proofs.Common.{◌≡◌, ◌+◌, ◌++◌, List, [], ap, subst, sym, ◌∙◌, arith}
+use Rattle.std.proofs.Common.{◌≡◌, ◌++◌, List, [], ap, subst, sym, ◌∙◌, arith}
 use Rattle.equal.proofs.Common.{IfOk, Gate, joined, moved_gates, with_gates, append-nil, Accepted}
 use Rattle.equal.proofs.ValidLemmas.{joined_valid}
 use Rattle.equal.proofs.accepted.AcceptedNetlists.joined_netlist.Goals as goal

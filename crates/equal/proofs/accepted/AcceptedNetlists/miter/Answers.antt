@@ -1,4 +1,4 @@
-use Rattle.std.proofs.Common.{◌≡◌, ◌++◌, ◌+◌, List, length, ap, subst, ◌∙◌, arith}
+use Rattle.std.proofs.Common.{◌≡◌, ◌++◌, List, length, ap, subst, ◌∙◌, arith}
 use Rattle.equal.proofs.Common.{IfOk, Gate, Pair, joined_pairs, moved_gates, miter_gates, miter, with_gates, Accepted}
 use Rattle.equal.proofs.ValidLemmas.{miter_valid}
 use Rattle.equal.proofs.accepted.AcceptedNetlists.miter.Goals as goal
