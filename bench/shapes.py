@@ -300,6 +300,35 @@ def many_loops(n):
     return check(model("loops", inputs, [f"u{k}y" for k in range(n)], lines))
 
 
+@shape(1000)
+def many_parts(n):
+    """n loops that are closed in no case, since their two selects are made of the same inputs."""
+    lines = []
+    for k in range(n):
+        lines += [gate(AND, f"e{k}", f"a{k}", f"b{k}"), gate(["0- 1", "-0 1"], f"f{k}", f"a{k}", f"b{k}")]
+        lines += [gate(CHOOSE, f"p{k}", f"e{k}", "x", f"q{k}"), gate(CHOOSE, f"q{k}", f"f{k}", "x", f"p{k}")]
+    return check(model("parts", ["x", *numbered("a", n), *numbered("b", n)], numbered("q", n), lines))
+
+
+@shape(1000)
+def transparent_latches(n):
+    """n transparent latches, each read only while it is open."""
+    lines = []
+    for k in range(n):
+        lines += [gate(CHOOSE, f"q{k}", f"e{k}", f"d{k}", f"q{k}"), gate(AND, f"y{k}", f"q{k}", f"e{k}")]
+    return check(model("latches", [*numbered("d", n), *numbered("e", n)], numbered("y", n), lines), None, "--observe", "outputs")
+
+
+@shape(1000)
+def latch_pipeline(n):
+    """n transparent latches in a line, open by turns, the first of which is read while it is open."""
+    lines, last = [], "d"
+    for k in range(n):
+        lines.append(gate(CHOOSE, f"m{k}", "c", *([f"m{k}", last] if k % 2 == 0 else [last, f"m{k}"])))
+        last = f"m{k}"
+    return check(model("pipeline", ["d", "c"], ["y"], [*lines, gate(["10 1"], "y", "m0", "c")]), None, "--observe", "outputs")
+
+
 @shape(2000)
 def parity_chain(n):
     """A chain of n XORs, decided."""

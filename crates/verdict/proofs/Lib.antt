@@ -16,6 +16,7 @@ pub mod MadeLemmas
 mod MarkLemmas
 mod NextLemmas
 pub mod PartLemmas
+mod PieceLemmas
 mod ScopeLemmas
 pub mod SetLemmas
 pub mod SignalLemmas

@@ -18,3 +18,4 @@ pub mod Searches
 pub mod Unknown
 pub mod Loose
 pub mod Determinacy
+pub mod Pieces

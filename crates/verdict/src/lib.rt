@@ -29,6 +29,7 @@ pub mod laws;
 mod loose;
 mod next;
 mod observing;
+mod pieces;
 mod question;
 mod refusing;
 mod scopes;

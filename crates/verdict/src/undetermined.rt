@@ -10,6 +10,7 @@ ghost use Rattle.verdict.specs.Unknown.{AreAskedCandidates, IsAskedFor, IsFirstT
 
 use crate::fanout::candidate_gates;
 use crate::observing::observed_gates;
+use crate::pieces::{piece_at, piece_size};
 use crate::scopes::{marked_places, scope_of};
 use crate::search::Search;
 use clause_decision::{First, Found, first_unknown, least_unknown};
@@ -46,6 +47,17 @@ fn asked_candidates(
     Ok(marks)
 }
 
+/// The place of the first of these gates that is unknown at some care vector, asked of the clauses of their cone.
+fn first_in_cone(alloc: Global, search: &Search<'_>, gates: &[u32]) -> Result<First, AllocError>
+    requires { All (λ n. n < length search.now.net.gates) gates.now }
+    ensures { IfOk result (TellsFirstUnknown search.now.net search.now.care gates.now) }
+{
+    let net = search.net();
+    let care = search.care();
+    let scope = scope_of(alloc, search, gates)?;
+    first_unknown(alloc, net, care, &scope, gates, search.conflicts())
+}
+
 /// The place of the first of these gates that is unknown at some care vector.
 pub(crate) fn first_of(
     alloc: Global,
@@ -55,13 +67,17 @@ pub(crate) fn first_of(
     requires { All (λ n. n < length search.now.net.gates) gates.now }
     ensures { IfOk result (TellsFirstUnknown search.now.net search.now.care gates.now) }
 {
-    if gates.is_empty() {
-        return Ok(First::Nowhere);
+    let size = piece_size(alloc, search, gates)?;
+    let mut start = 0;
+    while start < gates.len() {
+        let piece = piece_at(gates, start, size);
+        match first_in_cone(alloc, search, piece)? {
+            First::Nowhere => start += piece.len(),
+            First::At(place) => return Ok(First::At(start + place)),
+            First::Unknown => return Ok(First::Unknown),
+        }
     }
-    let net = search.net();
-    let care = search.care();
-    let scope = scope_of(alloc, search, gates)?;
-    first_unknown(alloc, net, care, &scope, gates, search.conflicts())
+    Ok(First::Nowhere)
 }
 
 /// The refusal of a gate, where it is the first that refuses the netlist.

@@ -1,15 +1,17 @@
 //! Which gates are unknown on care, where clauses say so, and how many where no observed one is.
 
-ghost use Rattle.std.specs.Prelude.{◌≡◌, ◌<◌, None, length, All, IfOk, IfSome};
+ghost use Rattle.std.specs.Prelude.{◌≡◌, ◌<◌, None, true, length, All, IfOk, IfSome};
 ghost use Rattle.care_sets.specs.Care.{CareSet};
 ghost use Rattle.refusals.specs.Acceptance.{observed as observed_signals};
 ghost use Rattle.refusals.specs.Refusals.{undetermined_refusal};
 ghost use Rattle.clause_decision.specs.Tests.{TellEachUnknown};
 ghost use Rattle.verdict.specs.Loose.{AreScattered, AreUnknownMarks, IsLooseNumber};
 ghost use Rattle.verdict.specs.Observed.{AreMarksOf};
+ghost use Rattle.verdict.specs.Pieces.{AreToldBefore};
 
 use crate::fanout::candidate_gates;
 use crate::observing::observed_gates;
+use crate::pieces::{piece_at, piece_size};
 use crate::scopes::{marked_places, scope_of};
 use crate::search::Search;
 use care_sets::Care;
@@ -38,8 +40,9 @@ fn scatter(
     Ok(marks)
 }
 
-/// For each of these gates whether it is unknown on care, or none where the solver gave up.
-fn ask_gates(
+/// For each of these gates whether it is unknown on care, asked of the clauses of their cone, or none where the solver gave
+/// up.
+fn ask_cone(
     alloc: Global,
     search: &Search<'_>,
     gates: &[u32],
@@ -51,6 +54,49 @@ fn ask_gates(
     let care = search.care();
     let scope = scope_of(alloc, search, gates)?;
     each_unknown(alloc, net, care, &scope, gates, search.conflicts())
+}
+
+/// Adds for the gates of one piece more whether each is unknown on care. False where the solver gave up.
+fn ask_piece(
+    alloc: Global,
+    search: &Search<'_>,
+    gates: &[u32],
+    size: usize,
+    found: &mut Vec<bool>,
+) -> Result<bool, AllocError>
+    requires gates { All (λ n. n < length search.now.net.gates) gates.now }
+    requires told { AreToldBefore search.now.net search.now.care gates.now found.old.items }
+    requires left { length found.old.items < length gates.now }
+    ensures told { IfOk result (λ told. told ≡ true → AreToldBefore search.now.net search.now.care gates.now found.new.items) }
+    ensures more { IfOk result (λ told. told ≡ true → length found.old.items < length found.new.items) }
+{
+    let piece = piece_at(gates, found.len(), size);
+    match ask_cone(alloc, search, piece)? {
+        Some(told) => {
+            found.extend_from_slice(&told)?;
+            Ok(true)
+        }
+        None => Ok(false),
+    }
+}
+
+/// For each of these gates whether it is unknown on care, or none where the solver gave up.
+fn ask_gates(
+    alloc: Global,
+    search: &Search<'_>,
+    gates: &[u32],
+) -> Result<Option<Vec<bool>>, AllocError>
+    requires { All (λ n. n < length search.now.net.gates) gates.now }
+    ensures { IfOk result (λ told. IfSome told (λ found. TellEachUnknown search.now.net search.now.care gates.now found.items)) }
+{
+    let size = piece_size(alloc, search, gates)?;
+    let mut found = Vec::new(alloc);
+    while found.len() < gates.len() {
+        if !ask_piece(alloc, search, gates, size, &mut found)? {
+            return Ok(None);
+        }
+    }
+    Ok(Some(found))
 }
 
 /// Marks of the gates that are unknown at some care vector, or none where the solver gave up.
