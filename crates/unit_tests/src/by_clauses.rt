@@ -3,12 +3,12 @@
 ghost use Rattle.std.specs.Prelude.{◌≡◌, ◌<◌, ℕ, true, length, IfOk};
 ghost use Rattle.care_sets.specs.Binding.{IsCareOf};
 ghost use Rattle.clause_decision.specs.Scopes.{is_marked, IsScopeOf};
-ghost use Rattle.loops.specs.Blocks.{block_at};
+ghost use Rattle.loops.specs.Blocks.{block_at, AreBlocksOf};
+ghost use Rattle.loops.specs.Cuts.{IsCutOf};
 ghost use Rattle.netlist.specs.Netlists.{IsNetlist};
 ghost use Rattle.refusals.specs.Acceptance.{Accepts};
 
-use crate::looped::loops_of;
-use crate::texts::{care_by, net_of};
+use crate::asked::{ANY, Asked, is_right_of};
 use bdd_ops::Diagrams;
 use care_sets::Care;
 use clause_decision::{
@@ -16,7 +16,7 @@ use clause_decision::{
     least_leaving, least_outside, least_unknown, sweeps_at, sweeps_fed_known, sweeps_needed,
 };
 use cyc_base::{Items, Sig};
-use loops::LoopedNetlist;
+use loops::{Blocks, Cut, LoopedNetlist};
 use netlist::Netlist;
 use std::alloc::{AllocError, Global};
 use std::test::Fail;
@@ -51,14 +51,69 @@ const UNITS: &[u8] =
 const CHAIN: &[u8] =
     b".model m\n.inputs u x\n.outputs a\n.names u x b a\n11- 1\n0-1 1\n.names u a c b\n11- 1\n0-1 1\n.names u b d c\n11- 1\n0-1 1\n.names u c x d\n11- 1\n0-1 1\n.end\n";
 
-/// All vectors count, those where x is 1, none, and those where q is.
-const ANY: &[u8] = b".model assume\n.outputs ok\n.names ok\n1\n.end\n";
-
+/// The vectors count where x is 1, none, and those where q is 1.
 const X_IS_ONE: &[u8] = b".model assume\n.inputs x\n.outputs ok\n.names x ok\n1 1\n.end\n";
 
 const NEVER: &[u8] = b".model assume\n.outputs ok\n.names ok\n.end\n";
 
 const Q_IS_ONE: &[u8] = b".model invariant\n.inputs q\n.outputs ok\n.names q ok\n1 1\n.end\n";
+
+/// What is asked of a part of a decision, with the right answer.
+#[derive(Clone, Copy)]
+pub enum Question {
+    /// Whether there is a care vector.
+    Possible(bool),
+    /// The least initial state outside the invariant, if there is one.
+    Outside(Option<&'static [bool]>),
+    /// The least care vector at which the second gate is unknown.
+    Unknown(Option<&'static [bool]>),
+    /// The least care vector whose next state leaves the invariant.
+    Leaving(Option<&'static [bool]>),
+    /// Whether the second of two gates is unknown at some care vector, where the first is known at each.
+    SecondUnknown(bool),
+}
+
+pub const CASES: u32 = 15;
+
+/// A netlist, its care file, and what is asked of them.
+fn row(number: u32) -> (&'static [u8], &'static [u8], Asked) {
+    match number {
+        0 => (KEEPS, X_IS_ONE, Asked::Clauses(Question::Possible(true))),
+        1 => (KEEPS, NEVER, Asked::Clauses(Question::Possible(false))),
+        2 => (
+            FALLS_FROM_ANY,
+            Q_IS_ONE,
+            Asked::Clauses(Question::Outside(Some(&[false]))),
+        ),
+        3 => (FALLS, Q_IS_ONE, Asked::Clauses(Question::Outside(None))),
+        4 => (
+            KEEPS,
+            ANY,
+            Asked::Clauses(Question::Unknown(Some(&[false]))),
+        ),
+        5 => (KEEPS, X_IS_ONE, Asked::Clauses(Question::Unknown(None))),
+        6 => (
+            FALLS,
+            Q_IS_ONE,
+            Asked::Clauses(Question::Leaving(Some(&[false, true]))),
+        ),
+        7 => (STAYS, Q_IS_ONE, Asked::Clauses(Question::Leaving(None))),
+        8 => (KEEPS, ANY, Asked::Clauses(Question::SecondUnknown(true))),
+        9 => (
+            KEEPS,
+            X_IS_ONE,
+            Asked::Clauses(Question::SecondUnknown(false)),
+        ),
+        10 => (UNITS, ANY, Asked::Sweeps(1)),
+        11 => (CHAIN, ANY, Asked::Sweeps(2)),
+        // both gates are the complement of x
+        12 => (TWINS, ANY, Asked::NeverApart(1, 2, true)),
+        // a gate is the complement of x
+        13 => (TWINS, ANY, Asked::NeverApart(0, 1, false)),
+        // b is 0 where a is 1
+        _ => (KEEPS, ANY, Asked::NeverApart(1, 2, false)),
+    }
+}
 
 /// The scope of all gates.
 #[tactic(auto, using(crate::proofs::ByClausesLemmas::all_closed, crate::proofs::ByClausesLemmas::none_known))]
@@ -75,42 +130,12 @@ fn whole_scope(alloc: Global, net: &Netlist) -> Result<Scope, AllocError>
     })
 }
 
-/// Whether there is a care vector.
-fn possible(alloc: Global, text: &[u8], care: &[u8]) -> Result<Option<bool>, Fail> {
-    let net = net_of(alloc, text)?;
-    let care = care_by(alloc, &net, care)?;
-    Ok(is_possible(alloc, &net, &care, MANY)?)
-}
-
-#[test]
-fn care_vectors_are_found(rt: HostRuntime) -> Result<(), Fail> {
-    assert_eq!(rt; possible(rt.alloc(), KEEPS, X_IS_ONE)?, Some(true));
-    assert_eq!(rt; possible(rt.alloc(), KEEPS, NEVER)?, Some(false));
-    Ok(())
-}
-
-/// What the least vector is asked of.
-#[derive(Clone, Copy)]
-enum Asked {
-    /// The initial states outside the invariant.
-    Outside,
-    /// The care vectors at which the second gate is unknown.
-    Unknown,
-    /// Those whose next state leaves the invariant.
-    Leaving,
-}
-
-const VECTORS: u32 = 6;
-
-/// A netlist, its care file, what is asked of them, and the least vector, if there is one.
-fn vector_of(number: u32) -> (&'static [u8], &'static [u8], Asked, Option<&'static [bool]>) {
-    match number {
-        0 => (FALLS_FROM_ANY, Q_IS_ONE, Asked::Outside, Some(&[false])),
-        1 => (FALLS, Q_IS_ONE, Asked::Outside, None),
-        2 => (KEEPS, ANY, Asked::Unknown, Some(&[false])),
-        3 => (KEEPS, X_IS_ONE, Asked::Unknown, None),
-        4 => (FALLS, Q_IS_ONE, Asked::Leaving, Some(&[false, true])),
-        _ => (STAYS, Q_IS_ONE, Asked::Leaving, None),
+/// Whether the vector that was found is this one, if there is one.
+fn is_least(found: Found, vector: Option<&[bool]>) -> bool {
+    match found {
+        Found::Least(least) => vector == Some(least.as_slice()),
+        Found::NoVector => vector.is_none(),
+        Found::Unknown => false,
     }
 }
 
@@ -127,102 +152,117 @@ fn unknown(alloc: Global, net: &Netlist, care: &Care, scope: &Scope) -> Result<F
 }
 
 /// Whether all gates are known at each vector that counts.
-fn accepted(alloc: Global, net: &Netlist, care: &Care) -> Result<bool, Fail>
-    requires { IsCareOf net.now care.now }
+fn accepted(
+    alloc: Global,
+    net: &Netlist,
+    blocks: &Blocks,
+    cut: &Cut,
+    care: &Care,
+) -> Result<bool, Fail>
+    requires blocks { AreBlocksOf net.now blocks.now }
+    requires cut { IsCutOf net.now cut.now }
+    requires care { IsCareOf net.now care.now }
     ensures { IfOk result (λ known. known ≡ true → Accepts net.now care.now Observe.All) }
 {
-    let (blocks, cut) = loops_of(alloc, net)?;
     let mut d = Diagrams::new(alloc, 0, 1)?;
-    match judge(alloc, &mut d, net, &blocks, &cut, care, 1_000, Observe::All)? {
+    match judge(alloc, &mut d, net, blocks, cut, care, 1_000, Observe::All)? {
         Judgement::Accepted { .. } => Ok(true),
         Judgement::Refused(_) => Ok(false),
     }
 }
 
 /// The least care vector whose next state leaves the invariant, of a netlist whose wires are known at each vector.
-fn leaving(alloc: Global, net: &Netlist, care: &Care, scope: &Scope) -> Result<Found, Fail>
-    requires valid { IsNetlist net.now }
+fn leaving(
+    alloc: Global,
+    net: &Netlist,
+    blocks: &Blocks,
+    cut: &Cut,
+    care: &Care,
+    scope: &Scope,
+) -> Result<Found, Fail>
+    requires blocks { AreBlocksOf net.now blocks.now }
+    requires cut { IsCutOf net.now cut.now }
     requires care { IsCareOf net.now care.now }
     requires scope { IsScopeOf net.now scope.now }
     requires all { (n : ℕ) → n < length net.now.gates → is_marked scope.now.gates n ≡ true }
 {
-    if !accepted(alloc, net, &Care::none())? {
+    if !accepted(alloc, net, blocks, cut, &Care::none())? {
         return Err(Fail::from("a wire is unknown"));
     }
     Ok(least_leaving(alloc, net, care, scope, MANY)?)
 }
 
-fn least(alloc: Global, net: &Netlist, care: &Care, asked: Asked) -> Result<Found, Fail>
-    requires valid { IsNetlist net.now }
-    requires care { IsCareOf net.now care.now }
-{
-    let scope = whole_scope(alloc, net)?;
-    match asked {
-        Asked::Outside => Ok(least_outside(alloc, net, care, MANY)?),
-        Asked::Unknown => unknown(alloc, net, care, &scope),
-        Asked::Leaving => leaving(alloc, net, care, &scope),
-    }
-}
-
-fn least_on(alloc: Global, net: &Netlist, care: &[u8], asked: Asked) -> Result<Found, Fail>
-    requires { IsNetlist net.now }
-{
-    let care = care_by(alloc, net, care)?;
-    least(alloc, net, &care, asked)
-}
-
-/// Whether the least vector is the one of the table.
-fn is_least(alloc: Global, number: u32) -> Result<bool, Fail> {
-    let (text, care, asked, vector) = vector_of(number);
-    let net = net_of(alloc, text)?;
-    match least_on(alloc, &net, care, asked)? {
-        Found::Least(found) => Ok(vector == Some(found.as_slice())),
-        Found::NoVector => Ok(vector.is_none()),
-        Found::Unknown => Ok(false),
-    }
-}
-
-#[test]
-fn least_vectors_are_found(rt: HostRuntime) -> Result<(), Fail> {
-    for number in 0..VECTORS {
-        assert!(rt; is_least(rt.alloc(), number)?, "at {number}");
-    }
-    Ok(())
-}
-
 /// Whether the first gate is known, and this says whether the second one is unknown at some vector that counts.
-fn tells_unknown(alloc: Global, net: &Netlist, care: &Care, second: bool) -> Result<bool, Fail>
-    requires valid { IsNetlist net.now }
+fn tells_unknown(
+    alloc: Global,
+    net: &Netlist,
+    care: &Care,
+    scope: &Scope,
+    second: bool,
+) -> Result<bool, Fail>
     requires care { IsCareOf net.now care.now }
+    requires scope { IsScopeOf net.now scope.now }
+    requires all { (n : ℕ) → n < length net.now.gates → is_marked scope.now.gates n ≡ true }
 {
     if net.gates() < 2 {
         return Err(Fail::from("a gate is missing"));
     }
-    let scope = whole_scope(alloc, net)?;
-    let first = first_unknown(alloc, net, care, &scope, &[0, 1], MANY)?;
-    let each = each_unknown(alloc, net, care, &scope, &[0, 1], MANY)?;
+    let first = first_unknown(alloc, net, care, scope, &[0, 1], MANY)?;
+    let each = each_unknown(alloc, net, care, scope, &[0, 1], MANY)?;
     let is_first = if second {
         matches!(first, First::At(1))
     } else {
         matches!(first, First::Nowhere)
     };
-    match each {
+    match &each {
         Some(each) => Ok(is_first && each.as_slice() == [false, second].as_slice()),
         None => Ok(false),
     }
 }
 
-fn is_told(alloc: Global, care: &[u8], second: bool) -> Result<bool, Fail> {
-    let net = net_of(alloc, KEEPS)?;
-    let care = care_by(alloc, &net, care)?;
-    tells_unknown(alloc, &net, &care, second)
+fn by_scope(
+    alloc: Global,
+    net: &Netlist,
+    blocks: &Blocks,
+    cut: &Cut,
+    care: &Care,
+    scope: &Scope,
+    question: Question,
+) -> Result<bool, Fail>
+    requires blocks { AreBlocksOf net.now blocks.now }
+    requires cut { IsCutOf net.now cut.now }
+    requires care { IsCareOf net.now care.now }
+    requires scope { IsScopeOf net.now scope.now }
+    requires all { (n : ℕ) → n < length net.now.gates → is_marked scope.now.gates n ≡ true }
+{
+    match question {
+        Question::Possible(possible) => Ok(is_possible(alloc, net, care, MANY)? == Some(possible)),
+        Question::Outside(vector) => Ok(is_least(least_outside(alloc, net, care, MANY)?, vector)),
+        Question::Unknown(vector) => Ok(is_least(unknown(alloc, net, care, scope)?, vector)),
+        Question::Leaving(vector) => Ok(is_least(
+            leaving(alloc, net, blocks, cut, care, scope)?,
+            vector,
+        )),
+        Question::SecondUnknown(second) => tells_unknown(alloc, net, care, scope, second),
+    }
 }
 
-#[test]
-fn unknown_gates_are_told(rt: HostRuntime) -> Result<(), Fail> {
-    assert!(rt; is_told(rt.alloc(), ANY, true)?);
-    assert!(rt; is_told(rt.alloc(), X_IS_ONE, false)?);
-    Ok(())
+/// Whether the question has its right answer.
+pub fn is_answered(
+    alloc: Global,
+    net: &Netlist,
+    blocks: &Blocks,
+    cut: &Cut,
+    care: &Care,
+    question: Question,
+) -> Result<bool, Fail>
+    requires valid { IsNetlist net.now }
+    requires blocks { AreBlocksOf net.now blocks.now }
+    requires cut { IsCutOf net.now cut.now }
+    requires care { IsCareOf net.now care.now }
+{
+    let scope = whole_scope(alloc, net)?;
+    by_scope(alloc, net, blocks, cut, care, &scope, question)
 }
 
 /// Whether the first block is a loop that needs so many sweeps: at the vector of zeros, on all vectors whose gates are known,
@@ -243,37 +283,25 @@ fn needs(alloc: Global, looped: &LoopedNetlist<'_>, care: &Care, sweeps: u32) ->
     Ok(at_zeros == sweeps && needed == Some(sweeps) && fed == Some(sweeps))
 }
 
-fn has_sweeps(alloc: Global, looped: &LoopedNetlist<'_>, sweeps: u32) -> Result<bool, Fail>
+/// Whether it is one, on all vectors.
+pub fn has_sweeps(alloc: Global, looped: &LoopedNetlist<'_>, sweeps: u32) -> Result<bool, Fail>
     requires { IsNetlist looped.now.net }
 {
-    let blocks = looped.blocks().list.items();
-    if blocks.is_empty() || !blocks[0].looped {
+    let blocks = looped.blocks();
+    let list = blocks.list.items();
+    if list.is_empty() || !list[0].looped {
         return Err(Fail::from("no loop comes first"));
     }
     let care = Care::none();
-    if !accepted(alloc, looped.net(), &care)? {
+    if !accepted(alloc, looped.net(), blocks, looped.cut(), &care)? {
         return Err(Fail::from("a wire is unknown"));
     }
     needs(alloc, looped, &care, sweeps)
 }
 
-/// Whether the loop of a netlist needs so many sweeps.
-fn needs_sweeps(alloc: Global, text: &[u8], sweeps: u32) -> Result<bool, Fail> {
-    let net = net_of(alloc, text)?;
-    let (blocks, cut) = loops_of(alloc, &net)?;
-    has_sweeps(alloc, &LoopedNetlist::new(&net, &blocks, &cut), sweeps)
-}
-
-#[test]
-fn sweeps_are_counted(rt: HostRuntime) -> Result<(), Fail> {
-    assert!(rt; needs_sweeps(rt.alloc(), UNITS, 1)?);
-    assert!(rt; needs_sweeps(rt.alloc(), CHAIN, 2)?);
-    Ok(())
-}
-
 /// Whether wires of a netlist are told never apart as they should be: by clauses of all gates, and where loops are tried by
 /// themselves before.
-fn told_apart(
+pub fn told_apart(
     alloc: Global,
     looped: &LoopedNetlist<'_>,
     here: u32,
@@ -305,38 +333,7 @@ fn told_apart(
     Ok(by_all == never && by_loops == never)
 }
 
-/// The same of wires of a netlist's text, by number.
-fn keeps_apart(
-    alloc: Global,
-    text: &[u8],
-    here: u32,
-    there: u32,
-    never: bool,
-) -> Result<bool, Fail> {
-    let net = net_of(alloc, text)?;
-    let (blocks, cut) = loops_of(alloc, &net)?;
-    told_apart(
-        alloc,
-        &LoopedNetlist::new(&net, &blocks, &cut),
-        here,
-        there,
-        never,
-    )
-}
-
-#[test]
-fn wires_are_told_apart(rt: HostRuntime) -> Result<(), Fail> {
-    assert!(rt;
-        keeps_apart(rt.alloc(), TWINS, 1, 2, true)?,
-        "both gates are the complement of x"
-    );
-    assert!(rt;
-        keeps_apart(rt.alloc(), TWINS, 0, 1, false)?,
-        "a gate is the complement of x"
-    );
-    assert!(rt;
-        keeps_apart(rt.alloc(), KEEPS, 1, 2, false)?,
-        "b is 0 where a is 1"
-    );
-    Ok(())
+pub fn is_right(alloc: Global, case: u32) -> Result<bool, Fail> {
+    let (text, care, asked) = row(case);
+    is_right_of(alloc, text, care, asked)
 }

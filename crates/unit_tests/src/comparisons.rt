@@ -1,5 +1,7 @@
 //! Comparisons of two netlists.
 
+ghost use Rattle.std.specs.Prelude.{◌≤◌};
+
 use crate::texts::net_of;
 use bdd_ops::Diagrams;
 use care_sets::Care;
@@ -7,8 +9,6 @@ use equal::{Answer, EqualFault, compare};
 use netlist::Netlist;
 use std::alloc::Global;
 use std::test::Fail;
-
-const CASES: u32 = 7;
 
 /// Two netlists.
 fn texts(case: u32) -> (&'static [u8], &'static [u8]) {
@@ -50,62 +50,50 @@ fn texts(case: u32) -> (&'static [u8], &'static [u8]) {
     }
 }
 
-/// Whether this is what is to be found.
-fn is_expected(case: u32, answer: &Answer) -> bool {
+/// Whether this is what is to be found. In the last case there is room for one node.
+fn is_expected(case: u32, answer: &Result<Answer, EqualFault>) -> bool {
     match answer {
-        Answer::Equal => case == 0,
-        Answer::First(_) => case == 1,
-        Answer::Second(_) => case == 2,
-        Answer::Output { vector, at } => {
+        Ok(Answer::Equal) => case == 0,
+        Ok(Answer::First(_)) => case == 1,
+        Ok(Answer::Second(_)) => case == 2,
+        Ok(Answer::Output { vector, at }) => {
             case == 3 && *at == 0 && vector.items() == [false, true].as_slice()
         }
-        Answer::Latch { vector, at } => {
+        Ok(Answer::Latch { vector, at }) => {
             case == 4 && *at == 0 && vector.items() == [true, false].as_slice()
         }
-        Answer::Unmatched { name } => {
+        Ok(Answer::Unmatched { name }) => {
             (case == 5 && name.bytes() == b"q".as_slice())
                 || (case == 6 && name.bytes() == b"a".as_slice())
         }
+        Err(fault) => case == 7 && *fault == EqualFault::NodeLimit { nodes: 1 },
     }
 }
 
-/// What is found of two netlists on all vectors.
-fn compared(alloc: Global, a: &Netlist, b: &Netlist) -> Result<Answer, Fail> {
+/// How many nodes there may be.
+fn limit_of(case: u32) -> u32
+    ensures { result ≤ 1000 }
+{
+    if case == 7 { 1 } else { 1_000 }
+}
+
+/// Whether what is found of two netlists on all vectors is that.
+fn is_found(alloc: Global, a: &Netlist, b: &Netlist, case: u32) -> Result<bool, Fail> {
     let mut d = Diagrams::new(alloc, 0, 1)?;
     let none = Care::none();
-    let other = Care::none();
-    Ok(compare(alloc, &mut d, a, b, &none, &other, 1_000)?)
-}
-
-/// Whether diagrams that may have one node don't do.
-fn meets_the_limit(alloc: Global, a: &Netlist, b: &Netlist) -> Result<bool, Fail> {
-    let mut d = Diagrams::new(alloc, 0, 1)?;
-    let none = Care::none();
-    let other = Care::none();
-    let fault = compare(alloc, &mut d, a, b, &none, &other, 1).err();
-    Ok(fault == Some(EqualFault::NodeLimit { nodes: 1 }))
-}
-
-fn is_limited(alloc: Global, case: u32) -> Result<bool, Fail> {
-    let (first, second) = texts(case);
-    let a = net_of(alloc, first)?;
-    let b = net_of(alloc, second)?;
-    meets_the_limit(alloc, &a, &b)
-}
-
-fn is_found(alloc: Global, case: u32) -> Result<bool, Fail> {
-    let (first, second) = texts(case);
-    let a = net_of(alloc, first)?;
-    let b = net_of(alloc, second)?;
-    let answer = compared(alloc, &a, &b)?;
+    let answer = compare(alloc, &mut d, a, b, &none, &none, limit_of(case));
     Ok(is_expected(case, &answer))
 }
 
-#[test]
-fn comparisons_find_what_differs(rt: HostRuntime) -> Result<(), Fail> {
-    for case in 0..CASES {
-        assert!(rt; is_found(rt.alloc(), case)?, "at {case}");
-    }
-    assert!(rt; is_limited(rt.alloc(), 0)?);
-    Ok(())
+fn with_first(alloc: Global, a: &Netlist, second: &[u8], case: u32) -> Result<bool, Fail> {
+    let b = net_of(alloc, second)?;
+    is_found(alloc, a, &b, case)
+}
+
+pub const CASES: u32 = 8;
+
+pub fn is_right(alloc: Global, case: u32) -> Result<bool, Fail> {
+    let (first, second) = texts(case % 7);
+    let a = net_of(alloc, first)?;
+    with_first(alloc, &a, second, case)
 }

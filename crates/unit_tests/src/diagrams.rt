@@ -9,15 +9,14 @@ use bdd_store::{Node, StoreFault};
 use std::alloc::{AllocError, Global};
 use std::test::Fail;
 
-#[test]
-fn least_of_the_constant_false(rt: HostRuntime) -> Result<(), Fail> {
-    let d = Diagrams::new(rt.alloc(), 2, 100)?;
+/// Whether a function that is never true has no least vector, and the one that always is has that of zeros.
+fn has_least(alloc: Global) -> Result<bool, Fail> {
+    let d = Diagrams::new(alloc, 2, 100)?;
     let mut out = [true, false];
-    assert!(rt; !d.least(Node::of(false), out.as_mut_slice()));
-    assert!(rt; out[0] && !out[1]);
-    assert!(rt; d.least(Node::of(true), out.as_mut_slice()));
-    assert!(rt; !out[0] && !out[1]);
-    Ok(())
+    if d.least(Node::of(false), out.as_mut_slice()) || !out[0] || out[1] {
+        return Ok(false);
+    }
+    Ok(d.least(Node::of(true), out.as_mut_slice()) && !out[0] && !out[1])
 }
 
 const MANY: u32 = 200_000;
@@ -57,10 +56,19 @@ fn is_true_at_ones(alloc: Global, d: &Diagrams, n: Node) -> Result<bool, AllocEr
     Ok(d.store().value(n, bits.as_slice()))
 }
 
-#[test]
-fn many_variables(rt: HostRuntime) -> Result<(), Fail> {
-    let mut d = Diagrams::new(rt.alloc(), MANY, 1_000_000)?;
+/// Whether a call on many variables comes back.
+fn has_room_for_many(alloc: Global) -> Result<bool, Fail> {
+    let mut d = Diagrams::new(alloc, MANY, 1_000_000)?;
     let all = every(&mut d)?;
-    assert!(rt; is_true_at_ones(rt.alloc(), &d, all)?);
-    Ok(())
+    Ok(is_true_at_ones(alloc, &d, all)?)
+}
+
+pub const CASES: u32 = 2;
+
+pub fn is_right(alloc: Global, case: u32) -> Result<bool, Fail> {
+    if case == 0 {
+        has_least(alloc)
+    } else {
+        has_room_for_many(alloc)
+    }
 }

@@ -1,13 +1,11 @@
 //! The rails of a netlist against what settles at each vector.
 
 ghost use Rattle.std.specs.Prelude.{◌≡◌, All, IfOk, length, map};
-ghost use Rattle.netlist.specs.Netlists.{IsNetlist};
 ghost use Rattle.dual_rail.specs.Rails.{AreRailsOf};
 ghost use Rattle.fixpoint.specs.Kept.{AreKept, rails_under};
 ghost use Rattle.fixpoint.specs.Solved.{AreGiven};
 
-use crate::looped::loops_of;
-use crate::texts::net_of;
+use crate::asked::{ANY, Asked, is_right_of};
 use bdd_ops::Diagrams;
 use bdd_store::{Node, StoreFault};
 use cyc_base::{Items, Trit};
@@ -19,56 +17,55 @@ use std::alloc::{AllocError, Global};
 use std::test::Fail;
 use ternary_run::settle;
 
-pub const NETS: u32 = 13;
+pub const CASES: u32 = 13;
 
-/// The gates of a netlist as BLIF, whose signal `s0` is an input and whose signal `s1` is a latch, which loads `s2`.
-fn gates_of(number: u32) -> &'static [u8] {
+/// A netlist as BLIF, whose signal `s0` is an input and whose signal `s1` is a latch, which loads `s2`.
+pub fn net_text(number: u32) -> &'static [u8] {
     match number {
         // no loop
-        0 => b".names s0 s1 s2\n10 1\n01 1\n.names s2 s0 s3\n11 1\n",
+        0 =>
+            b".model m\n.inputs s0\n.latch s2 s1 3\n.names s0 s1 s2\n10 1\n01 1\n.names s2 s0 s3\n11 1\n",
         // a gate that needs itself where the input is 1
-        1 => b".names s0 s2 s2\n11 1\n",
+        1 => b".model m\n.inputs s0\n.latch s2 s1 3\n.names s0 s2 s2\n11 1\n",
         // a tautology of itself
-        2 => b".names s2 s2\n0 1\n1 1\n",
+        2 => b".model m\n.inputs s0\n.latch s2 s1 3\n.names s2 s2\n0 1\n1 1\n",
         // a gate or its complement: two gates, so it is unknown
-        3 => b".names s3 s2\n0 1\n.names s2 s3 s3\n1- 1\n-1 1\n",
+        3 =>
+            b".model m\n.inputs s0\n.latch s2 s1 3\n.names s3 s2\n0 1\n.names s2 s3 s3\n1- 1\n-1 1\n",
         // a ring of three inverters
-        4 => b".names s4 s2\n0 1\n.names s2 s3\n0 1\n.names s3 s4\n0 1\n",
+        4 =>
+            b".model m\n.inputs s0\n.latch s2 s1 3\n.names s4 s2\n0 1\n.names s2 s3\n0 1\n.names s3 s4\n0 1\n",
         // two cross-coupled gates that the input and the latch set and reset
-        5 => b".names s0 s3 s2\n00 1\n.names s1 s2 s3\n00 1\n",
+        5 =>
+            b".model m\n.inputs s0\n.latch s2 s1 3\n.names s0 s3 s2\n00 1\n.names s1 s2 s3\n00 1\n",
         // two units that share a loop
         6 => {
-            b".names s0 s1 s5 s2\n11- 1\n0-1 1\n.names s2 s3\n0 1\n.names s0 s3 s1 s4\n11- 1\n0-1 1\n\
+            b".model m\n.inputs s0\n.latch s2 s1 3\n.names s0 s1 s5 s2\n11- 1\n0-1 1\n.names s2 s3\n0 1\n.names s0 s3 s1 s4\n11- 1\n0-1 1\n\
             .names s4 s1 s5\n11 1\n.names s0 s5 s3 s6\n11- 1\n0-1 1\n"
         }
         // three loops, each of which reads the one before it
         7 =>
-            b".names s0 s2 s2\n11 1\n.names s2 s3 s3\n1- 1\n-1 1\n.names s0 s3 s4 s4\n11- 1\n0-1 1\n",
+            b".model m\n.inputs s0\n.latch s2 s1 3\n.names s0 s2 s2\n11 1\n.names s2 s3 s3\n1- 1\n-1 1\n.names s0 s3 s4 s4\n11- 1\n0-1 1\n",
         // a loop of two cut wires
         8 =>
-            b".names s0 s3 s4 s2\n11- 1\n0-1 1\n.names s2 s1 s3\n11 1\n.names s2 s3 s4\n1- 1\n-1 1\n",
+            b".model m\n.inputs s0\n.latch s2 s1 3\n.names s0 s3 s4 s2\n11- 1\n0-1 1\n.names s2 s1 s3\n11 1\n.names s2 s3 s4\n1- 1\n-1 1\n",
         // a gate that differs from itself
-        9 => b".names s0 s2 s2\n10 1\n01 1\n.names s2 s3\n0 1\n",
+        9 =>
+            b".model m\n.inputs s0\n.latch s2 s1 3\n.names s0 s2 s2\n10 1\n01 1\n.names s2 s3\n0 1\n",
         // two loops that share a gate
         10 => {
-            b".names s0 s1 s3 s2\n11- 1\n1-1 1\n-11 1\n.names s0 s2 s4 s3\n11- 1\n1-1 1\n-11 1\n\
+            b".model m\n.inputs s0\n.latch s2 s1 3\n.names s0 s1 s3 s2\n11- 1\n1-1 1\n-11 1\n.names s0 s2 s4 s3\n11- 1\n1-1 1\n-11 1\n\
             .names s2 s3 s4\n11 1\n"
         }
         // a ring of four gates
         11 => {
-            b".names s1 s5 s2\n1- 1\n-1 1\n.names s2 s0 s3\n11 1\n.names s3 s1 s4\n11 1\n\
+            b".model m\n.inputs s0\n.latch s2 s1 3\n.names s1 s5 s2\n1- 1\n-1 1\n.names s2 s0 s3\n11 1\n.names s3 s1 s4\n11 1\n\
             .names s4 s0 s5\n11 1\n"
         }
         // a gate that is unknown selects between equals
-        _ => b".names s2 s2 s2\n1- 1\n-1 1\n.names s2 s0 s0 s3\n11- 1\n0-1 1\n",
+        _ =>
+            b".model m\n.inputs s0\n.latch s2 s1 3\n.names s2 s2 s2\n1- 1\n-1 1\n.names s2 s0 s0 s3\n11- 1\n0-1 1\n",
     }
-}
-
-/// The text of the netlist of these gates.
-fn text_of(alloc: Global, gates: &[u8]) -> Result<Vec<u8>, AllocError> {
-    let mut text = b".model m\n.inputs s0\n.latch s2 s1 3\n".to_vec(alloc)?;
-    text.extend_from_slice(gates)?;
-    Ok(text)
 }
 
 /// The value of a node of the diagrams.
@@ -168,13 +165,6 @@ fn rails_by(
     rails_from(alloc, d, looped, given)
 }
 
-fn solved_rails(alloc: Global, d: &mut Diagrams, net: &Netlist) -> Result<Items<Rails>, StoreFault>
-    requires { d.old.vars ≡ 2 }
-{
-    let (blocks, cut) = loops_of(alloc, net)?;
-    rails_by(alloc, d, &LoopedNetlist::new(net, &blocks, &cut))
-}
-
 /// Whether they do at each vector.
 fn always_stand_for_settled(
     alloc: Global,
@@ -191,38 +181,19 @@ fn always_stand_for_settled(
 }
 
 /// Whether the rails of a netlist stand, at each vector, for what settles there.
-fn is_settled(alloc: Global, d: &mut Diagrams, net: &Netlist) -> Result<bool, Fail>
+fn are_settled(alloc: Global, d: &mut Diagrams, looped: &LoopedNetlist<'_>) -> Result<bool, Fail>
     requires { d.old.vars ≡ 2 }
 {
-    let rails = solved_rails(alloc, d, net)?;
-    Ok(always_stand_for_settled(alloc, d, net, rails.items())?)
+    let rails = rails_by(alloc, d, looped)?;
+    Ok(always_stand_for_settled(alloc, d, looped.net(), rails.items())?)
 }
 
 /// Whether they do over diagrams of their own.
-fn is_settled_anew(alloc: Global, net: &Netlist) -> Result<bool, Fail> {
+pub fn rails_are_right(alloc: Global, looped: &LoopedNetlist<'_>) -> Result<bool, Fail> {
     let mut d = Diagrams::new(alloc, 2, 1000)?;
-    is_settled(alloc, &mut d, net)
+    are_settled(alloc, &mut d, looped)
 }
 
-/// The netlist of this number.
-pub fn net_at(alloc: Global, number: u32) -> Result<Netlist, Fail>
-    ensures { IfOk result IsNetlist }
-{
-    let text = text_of(alloc, gates_of(number))?;
-    net_of(alloc, &text)
-}
-
-/// Whether its rails do.
-fn net_is_settled(alloc: Global, number: u32) -> Result<bool, Fail> {
-    let net = net_at(alloc, number)?;
-    is_settled_anew(alloc, &net)
-}
-
-#[test]
-fn rails_stand_for_what_settles(rt: HostRuntime) -> Result<(), Fail> {
-    let alloc = rt.alloc();
-    for number in 0..NETS {
-        assert!(rt; net_is_settled(alloc, number)?, "netlist {number}");
-    }
-    Ok(())
+pub fn is_right(alloc: Global, number: u32) -> Result<bool, Fail> {
+    is_right_of(alloc, net_text(number), ANY, Asked::Rails)
 }

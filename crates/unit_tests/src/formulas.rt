@@ -1,12 +1,75 @@
-//! Formulas, and what the solver for satisfiability answers.
+//! What the solver for satisfiability answers, step by step. A literal is twice its variable, and one more where it negates
+//! it.
 
 ghost use Rattle.std.specs.Prelude.{◌<◌};
 
 use sat::{Answer, Lit, Solver};
 use std::alloc::{AllocError, Global};
-use std::test::Fail;
 
 const MANY: u64 = 1_000_000;
+
+const VARIABLES: u32 = 100;
+
+#[derive(Clone, Copy)]
+enum Step {
+    /// Five pigeons are in four holes, and no two in one.
+    Pigeons,
+    /// Each variable has the next one.
+    Chain,
+    Clause(&'static [u32]),
+    /// There is a model under these assumptions.
+    Model(&'static [u32]),
+    /// There is none, as so many of the assumptions show.
+    NoModel(&'static [u32], usize),
+    /// The search gives up after so many conflicts.
+    GivesUp(u64),
+    /// The last model has this literal.
+    Has(u32),
+}
+
+pub const CASES: u32 = 4;
+
+fn steps_of(case: u32) -> &'static [Step] {
+    match case {
+        0 => &[Step::Pigeons, Step::GivesUp(2), Step::NoModel(&[], 0)],
+        1 => &[
+            Step::Chain,
+            Step::Model(&[0]),
+            Step::Has(0),
+            Step::Has(198),
+            Step::NoModel(&[100, 0, 199], 2),
+        ],
+        // clauses are added between calls
+        2 => &[
+            Step::Chain,
+            Step::Model(&[]),
+            Step::Clause(&[199]),
+            Step::Model(&[]),
+            Step::Has(1),
+            Step::Clause(&[0]),
+            Step::NoModel(&[], 0),
+            Step::NoModel(&[], 0),
+        ],
+        // an assumption of another variable
+        _ => &[
+            Step::Clause(&[1, 2]),
+            Step::Model(&[0, 300]),
+            Step::Has(2),
+            Step::Has(300),
+        ],
+    }
+}
+
+fn lit_of(literal: u32) -> Lit {
+    Lit::of(literal / 2, literal % 2 == 1)
+}
+
+fn lits_of(alloc: Global, literals: &[u32]) -> Result<Vec<Lit>, AllocError> {
+    literals
+        .iter()
+        .map(|literal| lit_of(*literal))
+        .collect(alloc)
+}
 
 fn add(solver: &mut Solver, clause: &[Lit]) -> Result<(), AllocError> {
     if solver.accepts(clause) {
@@ -58,73 +121,77 @@ fn add_pigeons(solver: &mut Solver) -> Result<(), AllocError> {
     Ok(())
 }
 
-#[test]
-fn five_pigeons_have_no_room_in_four_holes(rt: HostRuntime) -> Result<(), Fail> {
-    let mut solver = Solver::new(rt.alloc(), 20)?;
-    add_pigeons(&mut solver)?;
-    let early = solver.solve(rt.alloc(), &[], 2)?;
-    assert!(rt; matches!(early, Answer::Unknown));
-    assert_eq!(rt; solver.conflicts(), 2);
-    let answer = solver.solve(rt.alloc(), &[], MANY)?;
-    assert!(rt; matches!(answer, Answer::Unsat));
-    assert!(rt; solver.core().is_empty());
-    Ok(())
-}
-
 fn variable(number: u32, is_negated: bool) -> Lit
-    requires { number < 200 }
+    requires { number < VARIABLES }
 {
     Lit::of(number, is_negated)
 }
 
-/// Each of a hundred variables has the next one.
 fn add_chain(solver: &mut Solver) -> Result<(), AllocError> {
-    for number in 0..99 {
+    for number in 0..VARIABLES - 1 {
         let next = [variable(number, true), variable(number + 1, false)];
         add(solver, next.as_slice())?;
     }
     Ok(())
 }
 
-#[test]
-fn a_chain_under_assumptions(rt: HostRuntime) -> Result<(), Fail> {
-    let mut solver = Solver::new(rt.alloc(), 100)?;
-    add_chain(&mut solver)?;
-    let first = solver.solve(rt.alloc(), &[variable(0, false)], MANY)?;
-    assert!(rt; matches!(first, Answer::Sat));
-    assert!(rt; solver.value(0) && solver.value(99));
-    let ends = [variable(50, false), variable(0, false), variable(99, true)];
-    let both = solver.solve(rt.alloc(), ends.as_slice(), MANY)?;
-    assert!(rt; matches!(both, Answer::Unsat));
-    assert_eq!(rt; solver.core().len(), 2);
-    Ok(())
+fn add_clause(alloc: Global, solver: &mut Solver, literals: &[u32]) -> Result<(), AllocError> {
+    let clause = lits_of(alloc, literals)?;
+    add(solver, &clause)
 }
 
-#[test]
-fn clauses_are_added_between_calls(rt: HostRuntime) -> Result<(), Fail> {
-    let mut solver = Solver::new(rt.alloc(), 100)?;
-    add_chain(&mut solver)?;
-    let free = solver.solve(rt.alloc(), &[], MANY)?;
-    assert!(rt; matches!(free, Answer::Sat));
-    add(&mut solver, &[variable(99, true)])?;
-    let last = solver.solve(rt.alloc(), &[], MANY)?;
-    assert!(rt; matches!(last, Answer::Sat));
-    assert!(rt; !solver.value(0));
-    add(&mut solver, &[variable(0, false)])?;
-    let none = solver.solve(rt.alloc(), &[], MANY)?;
-    assert!(rt; matches!(none, Answer::Unsat));
-    let again = solver.solve(rt.alloc(), &[], MANY)?;
-    assert!(rt; matches!(again, Answer::Unsat));
-    Ok(())
+fn answer_under(
+    alloc: Global,
+    solver: &mut Solver,
+    assumptions: &[u32],
+) -> Result<Answer, AllocError> {
+    let assumptions = lits_of(alloc, assumptions)?;
+    solver.solve(alloc, &assumptions, MANY)
 }
 
-#[test]
-fn an_assumption_of_another_variable(rt: HostRuntime) -> Result<(), Fail> {
-    let mut solver = Solver::new(rt.alloc(), 2)?;
-    add(&mut solver, &[variable(0, true), variable(1, false)])?;
-    let both = [variable(0, false), variable(150, false)];
-    let answer = solver.solve(rt.alloc(), both.as_slice(), MANY)?;
-    assert!(rt; matches!(answer, Answer::Sat));
-    assert!(rt; solver.value(1) && solver.value(150));
-    Ok(())
+fn gives_up(alloc: Global, solver: &mut Solver, conflicts: u64) -> Result<bool, AllocError> {
+    let answer = solver.solve(alloc, &[], conflicts)?;
+    Ok(matches!(answer, Answer::Unknown) && solver.conflicts() == conflicts)
+}
+
+/// Adds the clauses of a step.
+fn take(alloc: Global, solver: &mut Solver, step: Step) -> Result<(), AllocError> {
+    match step {
+        Step::Pigeons => add_pigeons(solver),
+        Step::Chain => add_chain(solver),
+        Step::Clause(literals) => add_clause(alloc, solver, literals),
+        _ => Ok(()),
+    }
+}
+
+/// Whether what a step says is so.
+fn is_so(alloc: Global, solver: &mut Solver, step: Step) -> Result<bool, AllocError> {
+    match step {
+        Step::Model(assumptions) => {
+            let answer = answer_under(alloc, solver, assumptions)?;
+            Ok(matches!(answer, Answer::Sat))
+        }
+        Step::NoModel(assumptions, size) => {
+            let answer = answer_under(alloc, solver, assumptions)?;
+            Ok(matches!(answer, Answer::Unsat) && solver.core().len() == size)
+        }
+        Step::GivesUp(conflicts) => gives_up(alloc, solver, conflicts),
+        Step::Has(literal) => Ok(solver.value(literal / 2) == (literal % 2 == 0)),
+        _ => Ok(true),
+    }
+}
+
+fn are_so(alloc: Global, solver: &mut Solver, steps: &[Step]) -> Result<bool, AllocError> {
+    for step in steps {
+        take(alloc, solver, *step)?;
+        if !is_so(alloc, solver, *step)? {
+            return Ok(false);
+        }
+    }
+    Ok(true)
+}
+
+pub fn is_right(alloc: Global, case: u32) -> Result<bool, AllocError> {
+    let mut solver = Solver::new(alloc, VARIABLES)?;
+    are_so(alloc, &mut solver, steps_of(case))
 }

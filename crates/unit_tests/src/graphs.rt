@@ -9,7 +9,7 @@ use netlist::Netlist;
 use std::alloc::Global;
 use std::test::Fail;
 
-const NETLISTS: u32 = 5;
+pub const CASES: u32 = 5;
 
 /// A netlist, by its number.
 fn text(number: u32) -> &'static [u8] {
@@ -57,7 +57,9 @@ fn texts_are(alloc: Global, net: &Netlist, built: &Built, number: u32) -> Result
 {
     let mut lines = TextSink::new(alloc);
     let mut bytes = TextSink::new(alloc);
-    if write_ascii(net, built, &mut lines).is_err() || write_binary(net, built, &mut bytes).is_err() {
+    if write_ascii(net, built, &mut lines).is_err()
+        || write_binary(net, built, &mut bytes).is_err()
+    {
         return Err(Fail::from("a text is not written"));
     }
     let lines = lines.into_vec();
@@ -65,7 +67,8 @@ fn texts_are(alloc: Global, net: &Netlist, built: &Built, number: u32) -> Result
     Ok(lines.as_slice() == ascii(number) && bytes.as_slice() == binary(number))
 }
 
-fn is_written(alloc: Global, number: u32) -> Result<bool, Fail> {
+/// Whether the graph of a netlist is written in both forms, or it has a loop.
+pub fn is_right(alloc: Global, number: u32) -> Result<bool, Fail> {
     let net = net_of(alloc, text(number))?;
     if net.inputs() > 2 || net.latches() > 2 {
         return Err(Fail::from("many columns"));
@@ -75,12 +78,4 @@ fn is_written(alloc: Global, number: u32) -> Result<bool, Fail> {
         Ok(None) => Ok(ascii(number).is_empty()),
         Err(_) => Err(Fail::from("a graph is not built")),
     }
-}
-
-#[test]
-fn graphs_are_written(rt: HostRuntime) -> Result<(), Fail> {
-    for number in 0..NETLISTS {
-        assert!(rt; is_written(rt.alloc(), number)?);
-    }
-    Ok(())
 }

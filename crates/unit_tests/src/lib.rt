@@ -1,8 +1,10 @@
 //! Tests of the library crates, each through its public functions, of what no call of `cyc` tells: other cases are lines
-//! of the crate `cases`. They stand in one crate since a crate with tests is proved once more for them, and so they share
-//! what builds a netlist.
+//! of the crate `cases`. They stand in one crate since a crate with tests is proved once more for them, and one test walks
+//! all tables of cases (`subjects`), since each test has a proof of its own.
 #![tactic(auto)]
 
+#[cfg(test)]
+mod asked;
 #[cfg(test)]
 mod by_clauses;
 #[cfg(test)]
@@ -22,8 +24,6 @@ mod formulas;
 #[cfg(test)]
 mod graphs;
 #[cfg(test)]
-mod looped;
-#[cfg(test)]
 mod netlists;
 #[cfg(test)]
 mod operations;
@@ -39,6 +39,8 @@ mod settling;
 mod simulators;
 #[cfg(test)]
 mod streams;
+#[cfg(test)]
+mod subjects;
 #[cfg(test)]
 mod texts;
 #[cfg(test)]

@@ -25,8 +25,6 @@ fn has_values(store: &Store, n: Node, values: [bool; 4]) -> bool {
     true
 }
 
-const OPERATIONS: u32 = 6;
-
 fn operate(d: &mut Diagrams, x: Node, y: Node, number: u32) -> Result<Node, StoreFault>
     requires x { IsNodeOf d.old x }
     requires y { IsNodeOf d.old y }
@@ -64,14 +62,6 @@ fn is_operation(alloc: Global, number: u32) -> Result<bool, Fail> {
     Ok(has_values(d.store(), n, values_of(number)))
 }
 
-#[test]
-fn operations_on_two_variables(rt: HostRuntime) -> Result<(), Fail> {
-    for number in 0..OPERATIONS {
-        assert!(rt; is_operation(rt.alloc(), number)?, "operation {number}");
-    }
-    Ok(())
-}
-
 /// Makes a node, unless a branch doesn't stand below the variable.
 fn make(store: &mut Store, var: u32, lo: Node, hi: Node) -> Result<Option<Node>, StoreFault> {
     if var >= store.vars() || !store.contains(lo) || !store.contains(hi) {
@@ -83,69 +73,39 @@ fn make(store: &mut Store, var: u32, lo: Node, hi: Node) -> Result<Option<Node>,
     Ok(Some(store.make(var, lo, hi)?))
 }
 
-/// Whether nodes above this one are made once, and none where both branches are one, and one more finds no room.
+/// Whether nodes above this one are made once, also for the complement, and none where both branches are one; and one more
+/// finds no room.
 fn are_made_once(store: &mut Store, y: Node) -> Result<bool, StoreFault> {
     let Some(same) = make(store, 0, y.complement(), y)? else {
         return Ok(false);
     };
     let again = make(store, 0, y.complement(), y)?;
+    let flipped = make(store, 0, y, y.complement())?;
     let one_branch = make(store, 0, y, y)?;
     let full = make(store, 0, Node::of(false), y);
     Ok(
         has_values(store, same, [true, false, false, true])
             && again == Some(same)
+            && flipped == Some(same.complement())
             && one_branch == Some(y)
-            && matches!(full, Err(StoreFault::Full)),
+            && matches!(full, Err(StoreFault::Full))
+            && store.count() == 2,
     )
 }
 
-#[test]
-fn nodes_are_made_once(rt: HostRuntime) -> Result<(), Fail> {
-    let mut store = Store::new(rt.alloc(), 2, 2)?;
+/// Whether nodes are made once in a store of two variables.
+fn makes_nodes_once(alloc: Global) -> Result<bool, Fail> {
+    let mut store = Store::new(alloc, 2, 2)?;
     match make(&mut store, 1, Node::of(false), Node::of(true))? {
-        Some(y) => assert!(rt; are_made_once(&mut store, y)?),
-        None => assert!(rt; false),
+        Some(y) => Ok(are_made_once(&mut store, y)?),
+        None => Ok(false),
     }
-    Ok(())
 }
 
-/// Whether a store with room for one entry has it for a function and its complement: both ways are one entry, a branch that
-/// is the other's needs none, and no variable is left for a node beside.
-fn one_entry_serves_both(store: &mut Store) -> Result<bool, StoreFault> {
-    let (zero, one) = (Node::of(false), Node::of(true));
-    let Some(x) = make(store, 0, zero, one)? else {
-        return Ok(false);
-    };
-    let again = make(store, 0, zero, one)?;
-    let flipped = make(store, 0, one, zero)?;
-    let constant = make(store, 0, one, one)?;
-    Ok(
-        again == Some(x)
-            && flipped == Some(x.complement())
-            && flipped != again
-            && constant == Some(one)
-            && store.count() == 1,
-    )
-}
-
-/// Whether a store of two variables and room for one entry refuses the second variable's.
-fn second_entry_finds_no_room(store: &mut Store) -> Result<bool, StoreFault> {
-    let first = make(store, 0, Node::of(false), Node::of(true))?;
-    let second = make(store, 1, Node::of(false), Node::of(true));
-    Ok(first.is_some() && matches!(second, Err(StoreFault::Full)) && store.count() == 1)
-}
-
-#[test]
-fn small_stores_are_filled(rt: HostRuntime) -> Result<(), Fail> {
-    let mut one_variable = Store::new(rt.alloc(), 1, 1)?;
-    assert!(rt; one_entry_serves_both(&mut one_variable)?);
-    let mut two_variables = Store::new(rt.alloc(), 2, 1)?;
-    assert!(rt; second_entry_finds_no_room(&mut two_variables)?);
-    let none = Store::new(rt.alloc(), 0, 0)?;
-    assert!(rt;
-        none.count() == 0 && none.value(Node::of(true), &[]) && !none.value(Node::of(false), &[])
-    );
-    Ok(())
+/// Whether a store without variables and entries has the constants.
+fn has_constants(alloc: Global) -> Result<bool, Fail> {
+    let none = Store::new(alloc, 0, 0)?;
+    Ok(none.count() == 0 && none.value(Node::of(true), &[]) && !none.value(Node::of(false), &[]))
 }
 
 /// Takes out what roots don't reach, and gives the root's node.
@@ -185,14 +145,14 @@ fn is_answer_kept(d: &mut Diagrams, x: Node, y: Node) -> Result<bool, Fail>
     Ok(is_kept_as_root(d, n)?)
 }
 
-#[test]
-fn answers_and_roots_are_kept(rt: HostRuntime) -> Result<(), Fail> {
-    let mut d = Diagrams::new(rt.alloc(), 2, 100)?;
+fn keeps_answers_and_roots(alloc: Global) -> Result<bool, Fail> {
+    let mut d = Diagrams::new(alloc, 2, 100)?;
     let x = d.var(0)?;
     let y = d.var(1)?;
-    assert!(rt; d.store().contains(x) && d.store().contains(y));
-    assert!(rt; is_answer_kept(&mut d, x, y)?);
-    Ok(())
+    if !d.store().contains(x) || !d.store().contains(y) {
+        return Ok(false);
+    }
+    is_answer_kept(&mut d, x, y)
 }
 
 /// A gate that reads the second input first.
@@ -214,9 +174,20 @@ fn least_with_first(alloc: Global, net: &Netlist) -> Result<Option<[bool; 2]>, F
     }
 }
 
-#[test]
-fn columns_stand_as_they_are_read(rt: HostRuntime) -> Result<(), Fail> {
-    let net = net_of(rt.alloc(), SECOND_FIRST)?;
-    assert_eq!(rt; least_with_first(rt.alloc(), &net)?, Some([false, true]));
-    Ok(())
+/// Whether columns stand as they are read.
+fn has_order(alloc: Global) -> Result<bool, Fail> {
+    let net = net_of(alloc, SECOND_FIRST)?;
+    Ok(least_with_first(alloc, &net)? == Some([false, true]))
+}
+
+pub const CASES: u32 = 10;
+
+pub fn is_right(alloc: Global, case: u32) -> Result<bool, Fail> {
+    match case {
+        6 => makes_nodes_once(alloc),
+        7 => has_constants(alloc),
+        8 => keeps_answers_and_roots(alloc),
+        9 => has_order(alloc),
+        _ => is_operation(alloc, case),
+    }
 }

@@ -3,12 +3,10 @@
 ghost use Rattle.care_sets.specs.Binding.{IsCareOf};
 ghost use Rattle.netlist.specs.Netlists.{IsNetlist};
 
-use crate::looped::loops_of;
-use crate::texts::{care_by, net_of};
+use crate::asked::{Asked, is_right_of};
 use bdd_ops::Diagrams;
 use care_sets::Care;
 use loops::LoopedNetlist;
-use netlist::Netlist;
 use refusals::shows;
 use std::alloc::Global;
 use std::test::Fail;
@@ -56,7 +54,7 @@ fn is_shown_by(
 }
 
 /// Whether it is over diagrams of its own.
-fn is_shown_anew(alloc: Global, looped: &LoopedNetlist<'_>, care: &Care) -> Result<bool, Fail>
+pub fn is_shown(alloc: Global, looped: &LoopedNetlist<'_>, care: &Care) -> Result<bool, Fail>
     requires valid { IsNetlist looped.now.net }
     requires care { IsCareOf looped.now.net care.now }
 {
@@ -64,32 +62,9 @@ fn is_shown_anew(alloc: Global, looped: &LoopedNetlist<'_>, care: &Care) -> Resu
     is_shown_by(alloc, &mut d, looped, care)
 }
 
-/// Whether a netlist is refused, and its refusal shows what it says.
-fn is_refused_and_shown(alloc: Global, net: &Netlist, care: &Care) -> Result<bool, Fail>
-    requires valid { IsNetlist net.now }
-    requires care { IsCareOf net.now care.now }
-{
-    let (blocks, cut) = loops_of(alloc, net)?;
-    is_shown_anew(alloc, &LoopedNetlist::new(net, &blocks, &cut), care)
-}
+pub const CASES: u32 = 3;
 
-fn is_shown_on(alloc: Global, net: &Netlist, text: &[u8]) -> Result<bool, Fail>
-    requires { IsNetlist net.now }
-{
-    let care = care_by(alloc, net, text)?;
-    is_refused_and_shown(alloc, net, &care)
-}
-
-fn is_shown(alloc: Global, number: u32) -> Result<bool, Fail> {
-    let (text, care) = refused(number);
-    let net = net_of(alloc, text)?;
-    is_shown_on(alloc, &net, care)
-}
-
-#[test]
-fn refusals_show_what_they_say(rt: HostRuntime) -> Result<(), Fail> {
-    for number in 0..3 {
-        assert!(rt; is_shown(rt.alloc(), number)?, "at {number}");
-    }
-    Ok(())
+pub fn is_right(alloc: Global, case: u32) -> Result<bool, Fail> {
+    let (text, care) = refused(case);
+    is_right_of(alloc, text, care, Asked::Refused)
 }

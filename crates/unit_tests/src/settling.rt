@@ -1,12 +1,9 @@
 //! Loops that are settled where they stand.
 
-ghost use Rattle.std.specs.Prelude.{◌≤◌};
-
-use crate::looped::loops_of;
-use crate::texts::net_of;
+use crate::asked::{ANY, Asked, is_right_of};
 use isolation::settles_alone;
 use loops::LoopedNetlist;
-use std::alloc::{AllocError, Global};
+use std::alloc::Global;
 use std::test::Fail;
 
 /// Two units that share a loop: c says which of them comes first.
@@ -16,33 +13,26 @@ const UNITS: &[u8] =
 /// A gate that reads itself.
 const SELF_LOOP: &[u8] = b".model m\n.inputs x\n.outputs a\n.names x a a\n1- 1\n-1 1\n.end\n";
 
-/// How many sweeps are enough for a netlist's one loop, within so many nodes.
-fn sweeps_on(
+/// Whether so many sweeps are enough for a netlist's one loop, within so many nodes.
+pub fn is_settled_alone(
     alloc: Global,
     looped: &LoopedNetlist<'_>,
     budget: u32,
-) -> Result<Option<u32>, AllocError>
-    requires { budget ≤ 1000 }
-{
-    if looped.blocks().list.items().len() != 1 {
-        return Ok(None);
+    sweeps: Option<u32>,
+) -> Result<bool, Fail> {
+    if looped.blocks().list.items().len() != 1 || budget > 1_000 {
+        return Err(Fail::from("another question"));
     }
-    settles_alone(alloc, looped, 0, budget)
+    Ok(settles_alone(alloc, looped, 0, budget)? == sweeps)
 }
 
-fn sweeps_of(alloc: Global, text: &[u8], budget: u32) -> Result<Option<u32>, Fail>
-    requires { budget ≤ 1000 }
-{
-    let net = net_of(alloc, text)?;
-    let (blocks, cut) = loops_of(alloc, &net)?;
-    let looped = LoopedNetlist::new(&net, &blocks, &cut);
-    Ok(sweeps_on(alloc, &looped, budget)?)
-}
+pub const CASES: u32 = 3;
 
-#[test]
-fn a_loop_is_settled_alone(rt: HostRuntime) -> Result<(), Fail> {
-    assert_eq!(rt; sweeps_of(rt.alloc(), UNITS, 1_000)?, Some(1));
-    assert_eq!(rt; sweeps_of(rt.alloc(), UNITS, 1)?, None);
-    assert_eq!(rt; sweeps_of(rt.alloc(), SELF_LOOP, 1_000)?, None);
-    Ok(())
+pub fn is_right(alloc: Global, case: u32) -> Result<bool, Fail> {
+    let (text, asked) = match case {
+        0 => (UNITS, Asked::Alone(1_000, Some(1))),
+        1 => (UNITS, Asked::Alone(1, None)),
+        _ => (SELF_LOOP, Asked::Alone(1_000, None)),
+    };
+    is_right_of(alloc, text, ANY, asked)
 }

@@ -3,7 +3,8 @@
 ghost use Rattle.std.specs.Prelude.{◌≡◌, length};
 ghost use Rattle.simulation.specs.Simulators.{IsSimulatorOf};
 
-use crate::fixpoints::{NETS, net_at};
+use crate::fixpoints::net_text;
+use crate::texts::net_of;
 use cyc_base::Trit;
 use netlist::Netlist;
 use simulation::Simulator;
@@ -61,15 +62,7 @@ fn always_tick_alike(alloc: Global, net: &Netlist) -> Result<bool, AllocError> {
     Ok(alike)
 }
 
-fn is_simulated(alloc: Global, number: u32) -> Result<bool, Fail> {
-    let net = net_at(alloc, number)?;
+pub fn is_right(alloc: Global, number: u32) -> Result<bool, Fail> {
+    let net = net_of(alloc, net_text(number))?;
     Ok(always_tick_alike(alloc, &net)?)
-}
-
-#[test]
-fn simulators_settle(rt: HostRuntime) -> Result<(), Fail> {
-    for number in 0..NETS {
-        assert!(rt; is_simulated(rt.alloc(), number)?, "netlist {number}");
-    }
-    Ok(())
 }

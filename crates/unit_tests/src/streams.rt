@@ -2,9 +2,9 @@
 
 use cyc_io::{Failed, HostSink, write_whole};
 
-#[test]
-fn a_write_of_no_bytes_fails(rt: HostRuntime) {
+/// Whether a write of no bytes fails.
+pub fn is_right() -> bool {
     let mut room = [0; 3];
     let mut short = HostSink::new(&mut room[..]);
-    assert_eq!(rt; write_whole(&mut short, b"written"), Err(Failed));
+    write_whole(&mut short, b"written") == Err(Failed)
 }

@@ -1,10 +1,8 @@
 //! Unrolled netlists that are too large. The texts of others are lines of the crate `cases`.
 
-use crate::looped::loops_of;
-use crate::texts::net_of;
+use crate::asked::{ANY, Asked, is_right_of};
 use cyc_base::Items;
 use loops::{LoopedNetlist, SweepCounts};
-use netlist::Netlist;
 use std::alloc::Global;
 use std::test::Fail;
 use unroll::{UnrollFault, unroll};
@@ -26,19 +24,11 @@ fn fault_by(alloc: Global, looped: &LoopedNetlist<'_>) -> Result<Option<UnrollFa
     Ok(unroll(alloc, net, blocks, looped.cut(), &sweeps).err())
 }
 
-fn fault_of(alloc: Global, net: &Netlist) -> Result<Option<UnrollFault>, Fail> {
-    let (blocks, cut) = loops_of(alloc, net)?;
-    fault_by(alloc, &LoopedNetlist::new(net, &blocks, &cut))
+/// Whether it isn't, since it would be of this size.
+pub fn is_too_large(alloc: Global, looped: &LoopedNetlist<'_>, size: u64) -> Result<bool, Fail> {
+    Ok(fault_by(alloc, looped)? == Some(UnrollFault::TooLarge { size }))
 }
 
-fn fault(alloc: Global) -> Result<Option<UnrollFault>, Fail> {
-    let net = net_of(alloc, SELF_LOOP)?;
-    fault_of(alloc, &net)
-}
-
-#[test]
-fn too_many_copies_are_refused(rt: HostRuntime) -> Result<(), Fail> {
-    let fault = fault(rt.alloc())?;
-    assert_eq!(rt; fault, Some(UnrollFault::TooLarge { size: 4_000_002 }));
-    Ok(())
+pub fn is_right(alloc: Global) -> Result<bool, Fail> {
+    is_right_of(alloc, SELF_LOOP, ANY, Asked::Unrolled(4_000_002))
 }
