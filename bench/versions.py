@@ -26,7 +26,7 @@ import resource
 import sys
 import tempfile
 
-from families import AND, CHOOSE, COPY, NOT, OR, XOR, Model, add_adder_of_gates, add_barrel, numbered, one_hot, rotated
+from families import AND, CHOOSE, COPY, NOT, OR, XOR, Model, add_adder_of_gates, add_barrel, numbered, one_hot
 
 FAMILIES = {}
 
