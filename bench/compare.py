@@ -8,8 +8,8 @@ in one of the two ways. It is decided here by simulation with 0, 1 and unknown a
 must be the same text. Of an accepted netlist `explain` must show each loop's gates, cut wires, sweeps and columns, as
 they are defined. What `rewrite` writes of an accepted netlist must have no loop, and that netlist and the graph of
 `aiger` must have the same outputs and next states at each care vector. What `explain` shows of an undetermined wire
-must be a shortest cycle that leads to it, the way from there, and values that hold these gates open, all of them
-needed. And `equal` must tell of the netlist and a version of it, with all in another order and perhaps one thing
+must be a shortest cycle that leads to it and the shortest way from there, by pins that matter, and the wires beside the
+cycle and the columns that hold these gates open, all of them needed. And `equal` must tell of the netlist and a version of it, with all in another order and perhaps one thing
 changed, what is found of them here: the first name that isn't matched, the refusal of one, the least vector of a
 difference with its output or latch, or that they are equal. A case that differs is printed with its files, and the
 status is then 1.
@@ -345,7 +345,8 @@ def matter(net, wires, signal):
     return {
         pin
         for place, pin in enumerate(pins)
-        if wires[pin] == UNKNOWN and any(value(cover, bits) != value(cover, flip(bits, place)) for bits in itertools.product(*choices))
+        if wires[pin] == UNKNOWN
+        and any(value(cover, bits) != value(cover, flip(bits, place)) for bits in itertools.product(*choices))
     }
 
 
@@ -366,6 +367,30 @@ def shortest_cycle(reads, goal):
     return min(distances(reads, signal, len(reads)).get(signal, len(reads) + 1) for signal in leading)
 
 
+def stays_open(net, cycle, sides):
+    """Whether each gate of a cycle stays unknown whatever the wires are that are neither on it nor among the sides."""
+
+    def stays(signal):
+        pins, cover = net.gates[signal - net.first]
+        choices = [(UNKNOWN,) if pin in cycle else (sides[pin],) if pin in sides else (0, 1) for pin in pins]
+        return all(extension(cover, bits) == UNKNOWN for bits in itertools.product(*choices))
+
+    return all(map(stays, cycle))
+
+
+def held_wrong(net, given, further, gates, wires):
+    """What is wrong in further values of columns that hold gates open beside those that are given, if something is."""
+    if any(wires[column] != bit for column, bit in {**given, **further}.items()):
+        return "a needed value isn't the vector's"
+    holds = lambda values: held_open(net, [values.get(column, UNKNOWN) for column in range(net.first)]) >= set(gates)
+    if not holds({**given, **further}):
+        return "the needed values hold it not open"
+    for out in further:
+        if out in given or holds({**given, **{column: bit for column, bit in further.items() if column != out}}):
+            return f"{net.names[out]} isn't needed"
+    return ""
+
+
 def why_explained_wrong(net, text):
     """What is wrong in an explanation of an undetermined wire, if something is."""
     verdict, *lines = text.strip().split("\n")
@@ -375,7 +400,7 @@ def why_explained_wrong(net, text):
     wires = net.fixpoint(vector)
     goal = number[verdict.split("wire=")[1].split()[0]]
     parts = {line.split()[0]: line.split()[1:] for line in lines}
-    if list(parts) not in (["cycle", "needs"], ["cycle", "reaches", "needs"]):
+    if list(parts) not in (["cycle", "sides", "needs"], ["cycle", "sides", "needs", "reaches", "also"]):
         return f"its lines are {list(parts)}"
     cycle, way = [number[name] for name in parts["cycle"]], [number[name] for name in parts.get("reaches", [])]
     unknown = [signal for signal in range(net.first, len(wires)) if wires[signal] == UNKNOWN]
@@ -395,18 +420,17 @@ def why_explained_wrong(net, text):
     back = {goal: 0, **{signal: far for signal, far in distances(reads, goal, len(reads)).items() if signal != goal}}
     if len(way) != min(back.get(signal, len(reads)) for signal in cycle):
         return "a shorter way leads to the wire"
-    given = [UNKNOWN] * net.first
-    for need in parts["needs"]:
-        name, bit = need.split("=")
-        given[number[name]] = int(bit)
-    if any(bit not in (UNKNOWN, wires[column]) for column, bit in enumerate(given)):
-        return "a needed value isn't the vector's"
-    if not held_open(net, given) >= set(cycle + way):
-        return "the needed values hold it not open"
-    for column, bit in enumerate(given):
-        if bit != UNKNOWN and held_open(net, [*given[:column], UNKNOWN, *given[column + 1 :]]) >= set(cycle + way):
-            return f"{net.names[column]} isn't needed"
-    return ""
+    bit_of = {"0": 0, "1": 1, "x": UNKNOWN}
+    told = lambda line: {number[word[:-2]]: bit_of[word[-1]] for word in parts.get(line, [])}
+    sides, needs, also = told("sides"), told("needs"), told("also")
+    if any(wires[signal] != bit for signal, bit in sides.items()) or set(sides) & set(cycle):
+        return "a side isn't as the wire is"
+    if not stays_open(net, cycle, sides):
+        return "the sides hold it not open"
+    for out in sides:
+        if stays_open(net, cycle, {signal: bit for signal, bit in sides.items() if signal != out}):
+            return f"side {net.names[out]} isn't needed"
+    return held_wrong(net, {}, needs, cycle, wires) or held_wrong(net, needs, also, cycle + way, wires)
 
 
 # ---- two netlists

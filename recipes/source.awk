@@ -61,6 +61,6 @@ FILENAME == ARGV[1] {
         word = $i
         sub(/^wire=/, "", word)
         tell(word)
-        if (sub(/=[01]$/, "", word)) tell(word)
+        if (sub(/=[01x]$/, "", word)) tell(word)
     }
 }

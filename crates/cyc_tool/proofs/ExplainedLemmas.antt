@@ -18,8 +18,10 @@ use Rattle.cyc_tool.specs.Plans.{Refuses}
 pub fits_netlist : (net : Parts) (v : List Bool) (gate : ℕ) (why : Explanation) → length v ≡ columns net → Explains net v gate why → IsExplanationOf net why
 fits_netlist net v gate why width h = record {
   cycle = All-weaker (IsUnknown net (fix net (bits v))) (λ g. g < length net.gates) (λ g u. u.gate) why.cycle h.cycle.unknown;
+  sides = (let size = h.sides.size in omega arith);
   way = All-weaker (IsUnknown net (fix net (bits v))) (λ g. g < length net.gates) (λ g u. u.gate) why.way h.leads.unknown;
   needs = (let size = EachBelow-length why.needs (bits v) h.needs.of_vector in let same = length-map v bit in omega arith);
+  also = (let size = EachBelow-length why.also (bits v) h.also.of_vector in let same = length-map v bit in omega arith);
 }
 
 pub was_explained : (form : Form) (net : Parts) (v : List Bool) (wire : Sig) (why : Explanation) (end : Outcome)

@@ -30,8 +30,8 @@ abbrev pub verdict_of : Decision → Option Refusal
 verdict_of decision = refusal decision.net decision.care decision.observe
 
 -- A wire, undetermined at a vector, is told with why, as lines or as a graph: behind the refusal, or with it as the label, a
--- cycle of unknown gates, with the fewest of those that lead to the wire, the way from it, and values of the vector that hold
--- all these gates open.
+-- cycle of unknown gates, with the fewest of those that lead to the wire along pins that matter, what holds the cycle open,
+-- the shortest way from it, and the further values of the vector that hold the way open.
 pub record IsWireExplained (form : Form) (net : Parts) (v : List Bool) (wire : Sig) (end : Outcome) : Type 0 where
   pub why : Explanation
   pub explains : ExplainsGate net v (wire.0 - (length net.inputs + length net.latches)) why

@@ -13,6 +13,7 @@ use Rattle.loops.specs.Found.{loops_of}
 use Rattle.loops.specs.Listed.{gate_numbers}
 use Rattle.loops.specs.Sweeps.{first_gate, gate_of}
 use Rattle.explanations.specs.declared.explanation.Explanation.{Explanation}
+use Rattle.explanations.specs.Explained.{or_else}
 use Rattle.report.specs.Verdicts.{signal_name}
 use Rattle.dot_text.specs.Dot.{labelled_graph, node, wire}
 use Rattle.dot_text.specs.LoopGraphs.{wire_style}
@@ -26,8 +27,9 @@ pub record Picture : Type 0 where
   -- whether a gate is drawn, and whether it is on the cycle
   pub drawn : ℕ → Bool
   pub cycle : ℕ → Bool
-  -- the values of columns that are needed
+  -- the values of columns that are needed for the cycle, and further ones for the way
   pub needs : List Trit
+  pub also : List Trit
 
 -- ---- nodes
 
@@ -46,8 +48,12 @@ needed_box number name Zero = box number name (codes "=0\"];\n")
 needed_box number name One = box number name (codes "=1\"];\n")
 needed_box number name X = []
 
+-- the value of a column, where it is needed
+abbrev pub need_at : Picture → ℕ → Trit
+need_at p column = or_else (slice_index_or p.needs column X) (slice_index_or p.also column X)
+
 abbrev pub needed_node : Picture → ℕ → List ℕ
-needed_node p column = needed_box column (signal_name p.net (signal column)) (slice_index_or p.needs column X)
+needed_node p column = needed_box column (signal_name p.net (signal column)) (need_at p column)
 
 -- ---- wires
 
@@ -79,7 +85,7 @@ needed_wire column net n value = wire column (gate_sig net n).0 (codes ";\n")
 abbrev pub pin_wire : Picture → ℕ → Sig → List ℕ
 pin_wire p n pin =
     if nat_le (first_gate p.net) pin.0 then gate_wire p n (gate_of p.net pin)
-    else needed_wire pin.0 p.net n (slice_index_or p.needs pin.0 X)
+    else needed_wire pin.0 p.net n (need_at p pin.0)
 
 abbrev pub pin_wires : Picture → ℕ → List ℕ
 pin_wires p n = flat_map (pin_wire p n) (gate_at p.net n).pins
@@ -106,6 +112,7 @@ picture_of net values why = record {
   drawn = λ n. (loops_of net).same (slice_index why.cycle 0) n || is_one_of why.way n;
   cycle = is_one_of why.cycle;
   needs = why.needs;
+  also = why.also;
 }
 
 -- the graph of an explanation, with this text as its label

@@ -13,4 +13,5 @@ picture_seen d = record {
   drawn = λ n. (loops_of d.looped.now.net).same d.first n || is_marked d.way.items n;
   cycle = is_marked d.cycle.items;
   needs = d.needs.now;
+  also = d.also.now;
 }

@@ -32,8 +32,9 @@ pub(crate) struct Drawing<'a> {
     pub(crate) cycle: Vec<bool>,
     /// All gates that are drawn.
     pub(crate) gates: Vec<u32>,
-    /// The values of columns that are needed.
+    /// The values of columns that are needed for the cycle, and further ones for the way.
     pub(crate) needs: &'a [Trit],
+    pub(crate) also: &'a [Trit],
     ghost narrow: { count looped.now.net ≤ 4294967295 },
     ghost valued: { length values.items ≡ count looped.now.net },
     ghost begun: { first < length looped.now.net.gates },
@@ -113,6 +114,7 @@ impl<'a> Drawing<'a> {
             cycle,
             gates,
             needs: why.needs.items(),
+            also: why.also.items(),
         })
     }
 

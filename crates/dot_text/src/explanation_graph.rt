@@ -13,7 +13,7 @@ ghost use Rattle.netlist.specs.Netlists.{IsNetlist, IsSignal, count, gate_sig, s
 ghost use Rattle.report.specs.Explanations.{IsExplanationOf};
 ghost use Rattle.report.specs.Verdicts.{signal_name};
 ghost use Rattle.dot_text.specs.Dot.{labelled_graph};
-ghost use Rattle.dot_text.specs.ExplanationGraphs.{explanation_graph, gate_node, gate_opens as gate_opens_of, gate_wire, needed_box, needed_node, needed_wire, picture, pin_wire, pin_wires, style as style_of, unknown_style as unknown_style_of};
+ghost use Rattle.dot_text.specs.ExplanationGraphs.{explanation_graph, gate_node, gate_opens as gate_opens_of, gate_wire, need_at, needed_box, needed_node, needed_wire, picture, pin_wire, pin_wires, style as style_of, unknown_style as unknown_style_of};
 ghost use Rattle.dot_text.specs.Seen.{picture_seen};
 
 use crate::drawing::Drawing;
@@ -119,11 +119,20 @@ fn put_gate_wire<K: Sink>(
     }
 }
 
-// The value of a column, where it is needed.
-fn need(needs: &[Trit], column: u32) -> Trit
-    ensures { result ≡ slice_index_or needs.now column X }
+fn value_at(values: &[Trit], column: u32) -> Trit
+    ensures { result ≡ slice_index_or values.now column X }
 {
-    needs.get(column as usize).copied().unwrap_or(Trit::X)
+    values.get(column as usize).copied().unwrap_or(Trit::X)
+}
+
+// The value of a column, where it is needed.
+fn need(drawing: &Drawing<'_>, column: u32) -> Trit
+    ensures { result ≡ need_at (picture_seen drawing.now) column }
+{
+    match value_at(drawing.needs, column) {
+        Trit::X => value_at(drawing.also, column),
+        value => value,
+    }
 }
 
 // The wire from a column to a gate, where the value of the column is needed.
@@ -153,7 +162,7 @@ fn put_pin<K: Sink>(sink: &mut K, drawing: &Drawing<'_>, gate: u32, pin: Sig) ->
     match drawing.looped.net().driver(pin) {
         Some(source) => put_gate_wire(sink, drawing, gate, source),
         None => {
-            let value = need(drawing.needs, pin.0);
+            let value = need(drawing, pin.0);
             put_needed_wire(sink, pin, drawing.looped.net(), gate, value)
         }
     }
@@ -225,7 +234,7 @@ fn put_need<K: Sink>(sink: &mut K, drawing: &Drawing<'_>, column: u32) -> Result
         sink,
         Sig(column),
         column_name(drawing.looped.net(), column),
-        need(drawing.needs, column),
+        need(drawing, column),
     )
 }
 

@@ -4,7 +4,7 @@ use Rattle.std.specs.List.{All, Contains, slice_get}
 use Rattle.std.specs.Option.{option_map}
 use Rattle.std.proofs.lemmas.Option.{same_Some, slice_get-get_or, slice_get-map, slice_get_within, get_or_from_slice_get}
 use Rattle.std.proofs.lemmas.Bool.{cases_eq}
-use Rattle.std.proofs.lemmas.List.{get_or_append_left, get_or_push, get_or_default, length-append}
+use Rattle.std.proofs.lemmas.List.{get_or_append_left, get_or_push, get_or_default, length-append, length-map}
 use Rattle.std.proofs.lemmas.List.Elements.{Contains-append_left, Contains-push, Contains-push_cases, All-contains}
 use Rattle.cyc_base.specs.declared.sig.Sig.{Sig}
 use Rattle.cyc_base.specs.declared.trit.Trit.{Trit}
@@ -14,10 +14,14 @@ use Rattle.explanations.specs.declared.shortest.ShortCycle.{ShortCycle}
 use Rattle.netlist.specs.declared.parts.Gate.{Gate}
 use Rattle.netlist.specs.declared.parts.Parts.{Parts}
 use Rattle.netlist.specs.Netlists.{signal, count, gate_at, gate_sig, no_gate, IsNetlist}
-use Rattle.explanations.specs.Explained.{IsUnknown, IsLine, IsOpenCycle, Leads, AreNeeded, Explains}
-use Rattle.cyc_base.specs.Values.{bits}
+use Rattle.explanations.specs.declared.explanation.Explanation.{Explanation}
+use Rattle.explanations.specs.Explained.{IsUnknown, IsLine, IsOpenCycle, Leads, AreReasons, Explains}
+use Rattle.cyc_base.specs.Values.{bit, bits}
+use Rattle.explanations.specs.Sides.{StandsOpen}
+use Rattle.explanations.proofs.HeldLemmas.{fix_at_gate}
 use Rattle.cyc_base.specs.declared.trit.Trit.TheVariants.{X}
-use Rattle.netlist.specs.Fixpoint.{wire, fix}
+use Rattle.netlist.specs.Fixpoint.{wire, fix_gates, fix}
+use Rattle.netlist.proofs.FixpointLemmas.{length-fix_gates}
 use Rattle.explanations.specs.Matters.{Matters}
 use Rattle.explanations.specs.Graph.{IsOpenSignal, IsOpenRead, HasOpenReads, OpenSways, ReadsOpen, IsOpenGraph}
 
@@ -178,22 +182,43 @@ module _ (net : Parts) (known : List Trit) (graph : List (List ℕ)) (h : IsOpen
   all_unknown (g ∷ cycle) way c w zero d l = c zero d (omega arith)
   all_unknown (g ∷ cycle) way c w (suc k) d l = all_unknown cycle way (λ j e m. c (suc j) e (omega arith)) w k d (omega arith)
 
-pub explained : (net : Parts) (v : List Bool) (graph : List (List ℕ)) (goal : ℕ) (found : ShortCycle) (needs : List Trit) → IsOpenGraph net (fix net (bits v)) (length net.gates) graph → IsShortest graph goal found →
-    AreNeeded net v (found.cycle ++ found.way) needs → Explains net v goal (record { cycle = found.cycle; way = found.way; needs = needs })
-explained net v graph goal found needs h shortest needed = record {
-  cycle = open_cycle net (fix net (bits v)) graph h found.cycle shortest.cycle;
-  leads = open_way net (fix net (bits v)) graph h found.cycle found.way goal shortest.way;
-  off = shortest.off;
-  once = shortest.once;
-  shortest = λ way leads.
-      shortest.shortest way
-      (graph_way net (fix net (bits v)) graph h found.cycle way goal (open_cycle net (fix net (bits v)) graph h found.cycle shortest.cycle) leads);
-  fewest = λ cycle way is leads.
-      shortest.fewest cycle way (graph_cycle net (fix net (bits v)) graph h cycle is) (graph_way net (fix net (bits v)) graph h cycle way goal is leads);
-  needs = needed;
-}
+pub explained : (net : Parts) (v : List Bool) (graph : List (List ℕ)) (goal : ℕ) (found : ShortCycle) (why : Explanation) → IsOpenGraph net (fix net (bits v)) (length net.gates) graph → IsShortest graph goal found →
+    AreReasons net v found why → Explains net v goal why
+explained net v graph goal found why h shortest reasons =
+    let cycle : IsOpenCycle net (fix net (bits v)) why.cycle = rw reasons.cycle (open_cycle net (fix net (bits v)) graph h found.cycle shortest.cycle) in
+    record {
+      cycle = cycle;
+      leads = rw (reasons.cycle, reasons.way) (open_way net (fix net (bits v)) graph h found.cycle found.way goal shortest.way);
+      off = rw (reasons.cycle, reasons.way) shortest.off;
+      once = rw reasons.way shortest.once;
+      shortest = λ way leads.
+          let way_there : IsWay graph why.cycle way goal = graph_way net (fix net (bits v)) graph h why.cycle way goal cycle leads in
+          rw reasons.way (shortest.shortest way (rw reasons.cycle at way_there));
+      fewest = λ other way is leads.
+          rw reasons.cycle
+          (shortest.fewest other way (graph_cycle net (fix net (bits v)) graph h other is) (graph_way net (fix net (bits v)) graph h other way goal is leads));
+      sides = reasons.sides;
+      needs = reasons.needs;
+      also = reasons.also;
+    }
 
 -- all gates of what was found are unknown
 pub found_unknown : (net : Parts) (known : List Trit) (graph : List (List ℕ)) (goal : ℕ) (found : ShortCycle) → IsOpenGraph net known (length net.gates) graph → IsShortest graph goal found → All (IsUnknown net known) (found.cycle ++ found.way)
 found_unknown net known graph goal found h shortest =
     all_unknown net known graph h found.cycle found.way (open_cycle net known graph h found.cycle shortest.cycle).unknown (open_way net known graph h found.cycle found.way goal shortest.way).unknown
+
+-- a gate that is unknown in the fixpoint is left so by its pins
+pub stands_open : (net : Parts) (v : List Bool) (gates : List ℕ) → length v ≡ length net.inputs + length net.latches → All (IsUnknown net (fix net (bits v))) gates → All (StandsOpen net (fix net (bits v))) gates
+stands_open net v gates width all k d l =
+    let u = all k d l in
+    record { gate = u.gate; unknown = u.unknown; value = sym (fix_at_gate net (bits v) (get_or gates k d) (length-map v bit ∙ width) u.gate) ∙ u.unknown }
+
+pub all_first : (net : Parts) (known : List Trit) (cycle way : List ℕ) → All (IsUnknown net known) (cycle ++ way) → All (IsUnknown net known) cycle
+all_first net known cycle way all k d l = (let joined = length-append cycle way in subst (λ (g : ℕ). IsUnknown net known g) (get_or_append_left cycle way d k l) (all k d (omega arith)))
+
+pub fix_size : (net : Parts) (v : List Bool) → length v ≡ length net.inputs + length net.latches → length (fix net (bits v)) ≡ count net
+fix_size net v width =
+    let joined = length-append (bits v) (fix_gates net (bits v)) in
+    let gates = length-fix_gates net (bits v) in
+    let columns = length-map v bit in
+    omega arith

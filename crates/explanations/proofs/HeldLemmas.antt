@@ -10,7 +10,7 @@ use Rattle.cyc_base.specs.Values.{Below, EachBelow}
 use Rattle.cyc_base.proofs.OrderLemmas.{Below-refl, EachBelow-refl, EachBelow-at, EachBelow-append, EachBelow-length, EachBelow-from_at}
 use Rattle.netlist.specs.declared.parts.Parts.{Parts}
 use Rattle.netlist.specs.Fixpoint.{wires, wire, gate_value, step, fix_gates, fix}
-use Rattle.netlist.specs.Netlists.{count, gate_at, gate_sig}
+use Rattle.netlist.specs.Netlists.{gate_at, gate_sig}
 use Rattle.netlist.proofs.FixpointLemmas.{gate_value_is_monotone, length-step, fix_is_fixpoint, fix_is_below_closed, fix_is_monotone, length-fix_gates, get_or-step}
 use Rattle.explanations.specs.declared.pins.Pin.{Pin}
 use Rattle.explanations.specs.Pins.{MayBe}
@@ -18,7 +18,7 @@ use Rattle.explanations.specs.Held.{is_marked, Within, seen, pin_at, IsHeld, Are
 
 -- ---- what a gate may see
 
-zip_weaker : (f g : Sig → Pin) → ((s : Sig) (v : Trit) → MayBe (f s) v → MayBe (g s) v) → (signals : List Sig) (values : List Trit) → AllZip MayBe (map f signals) values → AllZip MayBe (map g signals) values
+pub zip_weaker : (f g : Sig → Pin) → ((s : Sig) (v : Trit) → MayBe (f s) v → MayBe (g s) v) → (signals : List Sig) (values : List Trit) → AllZip MayBe (map f signals) values → AllZip MayBe (map g signals) values
 zip_weaker f g w [] values h = h
 zip_weaker f g w (s ∷ signals) [] h = absurd h
 zip_weaker f g w (s ∷ signals) (v ∷ values) h = (w s v h.0, zip_weaker f g w signals values h.1)

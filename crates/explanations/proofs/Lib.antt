@@ -3,6 +3,7 @@ pub mod CycleLemmas
 pub mod MatterLemmas
 pub mod PinLemmas
 pub mod HeldLemmas
+pub mod SideLemmas
 pub mod NeedLemmas
 pub mod GraphLemmas
 pub mod EndlessLemmas

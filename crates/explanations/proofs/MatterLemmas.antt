@@ -1,6 +1,6 @@
 -- An unknown pin matters exactly where some row shows so, and an unknown gate has a pin that matters.
-use Rattle.std.proofs.Common.{◌≡◌, ◌≢◌, ◌⊎◌, inl, inr, ℕ, zero, suc, ◌+◌, ◌<◌, ◌↔◌, Bool, true, false, not, List, [], ◌∷◌, length, map, get_or, set, refl, ap, sym, ◌∙◌, subst, arith, true≢false, Some, None}
-use Rattle.std.specs.List.{All, Contains, list_any, slice_get, zip}
+use Rattle.std.proofs.Common.{◌≡◌, ◌≢◌, ◌⊎◌, inl, inr, ℕ, zero, suc, ◌<◌, ◌↔◌, Bool, true, false, not, List, [], ◌∷◌, length, get_or, set, refl, ap, sym, ◌∙◌, subst, arith, true≢false, Some}
+use Rattle.std.specs.List.{Contains, slice_get}
 use Rattle.std.proofs.lemmas.Bool.{and_parts, and_from, false_from_ne_true}
 use Rattle.std.proofs.lemmas.List.{get_or-set_same}
 use Rattle.std.proofs.lemmas.List.Folds.{list_any_at, list_any_none}
@@ -8,14 +8,14 @@ use Rattle.std.proofs.lemmas.Option.{same_Some, slice_get_within, get_or_from_sl
 use Rattle.cyc_base.specs.declared.trit.Trit.{Trit}
 use Rattle.cyc_base.specs.declared.trit.Trit.TheVariants.{Zero, One, X}
 use Rattle.cyc_base.specs.Values.{bit, bits, Below, EachBelow, Completes}
-use Rattle.cyc_base.proofs.OrderLemmas.{Below-refl, Below-trans, Below-bit, EachBelow-refl, EachBelow-trans, EachBelow-length, Completes-at, Completes-set, Completes-length, same_bit, bit-known}
+use Rattle.cyc_base.proofs.OrderLemmas.{Below-trans, Below-bit, EachBelow-trans, EachBelow-length, Completes-at, Completes-set, same_bit, bit-known}
 use Rattle.cover_logic.specs.declared.row.Lit.{Lit}
 use Rattle.cover_logic.specs.declared.row.Lit.TheVariants as lit
 use Rattle.cover_logic.specs.declared.row.Row.{Row}
 use Rattle.cover_logic.specs.Covers.{Cover, IsCover, allows, matches, some_row_matches, value_of_rows, value}
-use Rattle.cover_logic.specs.Extensions.{ext, exact}
-use Rattle.cover_logic.proofs.ExtensionLemmas.{exact_says, exact_from, completes-set, completes-unset}
-use Rattle.cover_logic.proofs.TautologyLemmas.{completes-reset, set-completes}
+use Rattle.cover_logic.specs.Extensions.{ext}
+use Rattle.cover_logic.proofs.ExtensionLemmas.{exact_says, exact_from, completes-set}
+use Rattle.cover_logic.proofs.TautologyLemmas.{completes-reset}
 use Rattle.explanations.specs.Matters.{flipped, met, cube_of, Matters, MattersBy}
 
 -- ---- completions at which a function has a value

@@ -1,7 +1,7 @@
 -- Why a wire is undetermined at a vector.
-use Rattle.std.specs.Prelude.{◌≡◌, ◌≢◌, ◌≤◌, ◌<◌, ◌+◌, ◌-◌, ◌++◌, ℕ, Bool, true, false, List, ◌∷◌, length, slice_index, slice_index_or, slice_set, All, Contains}
+use Rattle.std.specs.Prelude.{◌≡◌, ◌≢◌, ◌⊎◌, ◌≤◌, ◌<◌, ◌+◌, ◌++◌, ℕ, Bool, true, false, List, ◌∷◌, length, map, slice_index, slice_index_or, slice_set, zip, All, Contains}
 use Rattle.cyc_base.specs.declared.trit.Trit.{Trit}
-use Rattle.cyc_base.specs.declared.trit.Trit.TheVariants.{X}
+use Rattle.cyc_base.specs.declared.trit.Trit.TheVariants.{Zero, One, X}
 use Rattle.cyc_base.specs.Values.{bits, EachBelow}
 use Rattle.netlist.specs.declared.parts.Parts.{Parts}
 use Rattle.netlist.specs.Fixpoint.{wire, fix}
@@ -9,6 +9,8 @@ use Rattle.netlist.specs.Netlists.{count, gate_sig}
 use Rattle.explanations.specs.declared.explanation.Explanation.{Explanation}
 use Rattle.explanations.specs.Cycles.{HasNoneTwice, last}
 use Rattle.explanations.specs.Matters.{Sways}
+use Rattle.explanations.specs.Sides.{AreSides}
+use Rattle.explanations.specs.declared.shortest.ShortCycle.{ShortCycle}
 use Rattle.explanations.specs.Held.{IsGreatest, AreMarked, HoldsOpen}
 
 -- a gate that is unknown where the signals have these values
@@ -42,6 +44,22 @@ pub record AreNeeded (net : Parts) (v : List Bool) (gates : List ℕ) (needs : L
   pub enough : HoldsOpen net needs gates
   pub each : (column : ℕ) → column < length needs → slice_index_or needs column X ≢ X → ¬ HoldsOpen net (slice_set needs column X) gates
 
+-- the value that is needed already, or else the other
+abbrev pub or_else : Trit → Trit → Trit
+or_else X other = other
+or_else Zero other = Zero
+or_else One other = One
+
+abbrev pub both : List Trit → List Trit → List Trit
+both needs also = map (λ p. or_else p.0 p.1) (zip needs also)
+
+-- the further values of a vector that hold gates open together with those that are needed, and none of them can be left out alone
+pub record AreFurther (net : Parts) (v : List Bool) (needs : List Trit) (gates : List ℕ) (also : List Trit) : Type 0 where
+  pub of_vector : EachBelow also (bits v)
+  pub apart : (column : ℕ) → slice_index_or needs column X ≢ X → slice_index_or also column X ≡ X
+  pub enough : HoldsOpen net (both needs also) gates
+  pub each : (column : ℕ) → slice_index_or also column X ≢ X → ¬ HoldsOpen net (both needs (slice_set also column X)) gates
+
 -- why a gate is unknown at a vector
 pub record Explains (net : Parts) (v : List Bool) (goal : ℕ) (why : Explanation) : Type 0 where
   pub cycle : IsOpenCycle net (fix net (bits v)) why.cycle
@@ -50,7 +68,17 @@ pub record Explains (net : Parts) (v : List Bool) (goal : ℕ) (why : Explanatio
   pub once : HasNoneTwice why.way
   pub shortest : (way : List ℕ) → Leads net (fix net (bits v)) why.cycle way goal → length why.way ≤ length way
   pub fewest : (cycle way : List ℕ) → IsOpenCycle net (fix net (bits v)) cycle → Leads net (fix net (bits v)) cycle way goal → length why.cycle ≤ length cycle
-  pub needs : AreNeeded net v (why.cycle ++ why.way) why.needs
+  pub sides : AreSides net (fix net (bits v)) why.cycle why.sides
+  pub needs : AreNeeded net v why.cycle why.needs
+  pub also : AreFurther net v why.needs (why.cycle ++ why.way) why.also
+
+-- what holds a cycle and a way from it open
+pub record AreReasons (net : Parts) (v : List Bool) (found : ShortCycle) (why : Explanation) : Type 0 where
+  pub cycle : why.cycle ≡ found.cycle
+  pub way : why.way ≡ found.way
+  pub sides : AreSides net (fix net (bits v)) why.cycle why.sides
+  pub needs : AreNeeded net v why.cycle why.needs
+  pub also : AreFurther net v why.needs (why.cycle ++ why.way) why.also
 
 -- ---- leaving columns out one by one
 
@@ -60,12 +88,25 @@ pub record IsHolding (net : Parts) (given : List Trit) (marks : List Bool) : Typ
   pub size : length marks ≡ count net
   pub greatest : IsGreatest net (fix net given) marks
 
--- the first n columns were left out where they can be
-pub record IsNeeding (net : Parts) (v : List Bool) (gates : List ℕ) (n : ℕ) (given : List Trit) (marks : List Bool) : Type 0 where
+-- Of the first n columns each was left out that can be, but for those that are kept.
+pub record IsNeeding (net : Parts) (v : List Bool) (gates : List ℕ) (kept : List Trit) (n : ℕ) (given : List Trit) (marks : List Bool) : Type 0 where
   pub holding : IsHolding net given marks
   pub of_vector : EachBelow given (bits v)
+  pub keeps : EachBelow kept given
   pub among : AreMarked net marks gates
-  pub each : (column : ℕ) → column < n → slice_index_or given column X ≢ X → ¬ HoldsOpen net (slice_set given column X) gates
+  pub each : (column : ℕ) → column < n → slice_index_or kept column X ≡ X → slice_index_or given column X ≢ X → ¬ HoldsOpen net (slice_set given column X) gates
+
+-- a column is left out, or else nothing changes and it can't be
+abbrev pub HasTriedWithout : Parts → List ℕ → ℕ → List Trit → List Bool → List Trit → List Bool → Type 0
+HasTriedWithout net gates column given marks next next_marks =
+    ((next ≡ slice_set given column X) × IsHolding net next next_marks × AreMarked net next_marks gates)
+    ⊎ ((next ≡ given) × (next_marks ≡ marks) × (¬ HoldsOpen net (slice_set given column X) gates))
+
+-- a value that isn't needed already
+abbrev pub beyond : Trit → Trit → Trit
+beyond X value = value
+beyond Zero value = X
+beyond One value = X
 
 -- all unknown gates
 pub record AreAllUnknown (net : Parts) (known : List Trit) (n : ℕ) (marks : List Bool) : Type 0 where

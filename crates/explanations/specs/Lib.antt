@@ -2,6 +2,7 @@
 pub mod Matters
 pub mod Pins
 pub mod Held
+pub mod Sides
 pub mod Explained
 pub mod Laws
 -- The code's own: what its parts say to each other.

@@ -1,14 +1,16 @@
-ghost use Rattle.std.specs.Prelude.{◌≡◌, ◌≢◌, ◌<◌, ◌+◌, ◌++◌, length, IfOk, IfSome, IfNone};
+ghost use Rattle.std.specs.Prelude.{◌≡◌, ◌≢◌, ◌<◌, ◌+◌, ◌++◌, length, All, IfOk, IfSome, IfNone};
 ghost use Rattle.cyc_base.specs.declared.trit.Trit.TheVariants.{X};
 ghost use Rattle.cyc_base.specs.Values.{bits};
 ghost use Rattle.netlist.specs.Fixpoint.{fix, wire};
-ghost use Rattle.netlist.specs.Netlists.{gate_sig};
-ghost use Rattle.explanations.specs.Explained.{Explains};
+ghost use Rattle.netlist.specs.Netlists.{count, gate_sig};
+ghost use Rattle.explanations.specs.Explained.{AreReasons, Explains, IsUnknown};
 
 use crate::graph::open_graph;
-use crate::needs::needs;
-use crate::shortest::shortest_cycle;
-use cyc_base::{Items, Trits};
+use crate::needs::{further, needs};
+use crate::pins::Pin;
+use crate::shortest::{ShortCycle, shortest_cycle};
+use crate::sides::sides;
+use cyc_base::{Items, Trit, Trits};
 use netlist::Netlist;
 use std::alloc::{AllocError, Global};
 use ternary_run::settle_at;
@@ -16,21 +18,27 @@ use ternary_run::settle_at;
 /// Why a wire is undetermined at a vector.
 #[derive(Debug)]
 pub struct Explanation {
-    /// Unknown gates, of which each reads the one before it, and the first reads the last.
+    /// Unknown gates, of which a flip of each may flip the next, and of the last the first.
     pub cycle: Items<u32>,
-    /// From behind the cycle to the wire: unknown gates, of which each reads the one before it, and the first
-    /// a gate of the cycle. There is none where the wire is on the cycle.
-    pub way: Items<u32>,
-    /// The values of the columns that keep all these gates unknown, and X where a column's isn't needed.
+    /// What the signals beside the cycle are, where this is needed to hold the cycle open: one entry for each signal.
+    pub sides: Items<Pin>,
+    /// The values of the columns that hold the cycle open, and X where a column's isn't needed.
     pub needs: Trits,
+    /// From behind the cycle to the wire: unknown gates, of which a flip of each may flip the next, and of a gate of the
+    /// cycle the first. There is none where the wire is on the cycle.
+    pub way: Items<u32>,
+    /// The further values of columns that hold the way open.
+    pub also: Trits,
 }
 
 impl Drop for Explanation {
     fn drop(self) {
         let Explanation {
             cycle: _,
-            way: _,
+            sides: _,
             needs: _,
+            way: _,
+            also: _,
         } = self;
     }
 }
@@ -43,10 +51,39 @@ fn joined(alloc: Global, cycle: &[u32], way: &[u32]) -> Result<Vec<u32>, AllocEr
     Ok(gates)
 }
 
+/// Why this cycle with this way from it is open.
+fn explained(
+    alloc: Global,
+    net: &Netlist,
+    vector: &[bool],
+    known: &[Trit],
+    found: ShortCycle,
+) -> Result<Explanation, AllocError>
+    requires width { length vector.now ≡ length net.now.inputs + length net.now.latches }
+    requires known { known.now ≡ fix net.now (bits vector.now) }
+    requires size { length known.now ≡ count net.now }
+    requires gates { All (IsUnknown net.now (fix net.now (bits vector.now))) (found.cycle ++ found.way) }
+    ensures { IfOk result (λ why. AreReasons net.now vector.now found why) }
+{
+    let (cycle, way) = found.into_parts();
+    let gates = joined(alloc, cycle.items(), way.items())?;
+    let sides = sides(alloc, net, known, cycle.items())?;
+    let needs = needs(alloc, net, vector, cycle.items())?;
+    let also = further(alloc, net, vector, &gates, &needs)?;
+    Ok(Explanation {
+        cycle,
+        sides: Items::of(sides),
+        needs: Trits::of(needs.into_given()),
+        way,
+        also: Trits::of(also),
+    })
+}
+
 /// Why a gate is unknown in the fixpoint at a vector: `None` exactly where it is determined.
 ///
-/// The cycle has the fewest gates of those that lead to the gate, and no gate of the way is on it. The
-/// columns are left out in their order, each where the rest of the vector still holds these gates open.
+/// The cycle has the fewest gates of those that lead to the gate along pins that matter. The way from it to the gate is
+/// the shortest along such pins. Signals beside the cycle, and columns, are left out in their order, each where the rest
+/// still holds the gates open.
 pub fn explain(
     alloc: Global,
     net: &Netlist,
@@ -60,15 +97,8 @@ pub fn explain(
 {
     let known = settle_at(alloc, net, vector)?;
     let graph = open_graph(alloc, net, &known)?;
-    let Some(found) = shortest_cycle(alloc, &graph, gate)? else {
-        return Ok(None);
-    };
-    let (cycle, way) = found.into_parts();
-    let gates = joined(alloc, cycle.items(), way.items())?;
-    let needs = needs(alloc, net, vector, &gates)?;
-    Ok(Some(Explanation {
-        cycle,
-        way,
-        needs: Trits::of(needs),
-    }))
+    match shortest_cycle(alloc, &graph, gate)? {
+        Some(found) => Ok(Some(explained(alloc, net, vector, &known, found)?)),
+        None => Ok(None),
+    }
 }

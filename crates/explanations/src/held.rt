@@ -20,7 +20,7 @@ fn seen(marked: bool, value: Trit) -> Pin
     }
 }
 
-fn is_marked(marks: &[bool], signal: u32) -> bool
+pub(crate) fn is_marked(marks: &[bool], signal: u32) -> bool
     ensures { result ≡ is_marked_in marks.now signal }
 {
     match marks.get(signal as usize) {

@@ -14,7 +14,7 @@ use std::alloc::{AllocError, Global};
 
 /// What a gate may see on a pin.
 #[derive(Clone, Copy, Debug, PartialEq, Eq)]
-pub(crate) enum Pin {
+pub enum Pin {
     /// This value, which is determined.
     Known(bool),
     /// A gate that stays unknown.
@@ -34,7 +34,7 @@ fn trit_of(pin: Pin) -> Trit
     }
 }
 
-fn is_free(pin: Pin) -> bool
+pub(crate) fn is_free(pin: Pin) -> bool
     ensures { result ≡ is_free_pin pin }
 {
     match pin {

@@ -6,17 +6,14 @@ use Rattle.cyc_base.specs.declared.trit.Trit.TheVariants.{Zero, One, X}
 use Rattle.netlist.specs.declared.parts.Parts.{Parts}
 use Rattle.netlist.specs.Netlists.{signal, count}
 use Rattle.explanations.specs.declared.explanation.Explanation.{Explanation}
+use Rattle.explanations.specs.declared.pins.Pin.{Pin}
+use Rattle.explanations.specs.declared.pins.Pin.TheVariants.{Known, Open, Free}
 use Rattle.report.specs.LoopTexts.{names_text}
 use Rattle.report.specs.Verdicts.{column_text, signal_name}
 
 -- gates behind a word
 abbrev pub gates_line : List ℕ → Parts → List ℕ → List ℕ
 gates_line word net gates = word ++ (names_text net gates ++ codes "\n")
-
--- the way from the cycle to the gate, where there is one
-abbrev pub way_line : Parts → List ℕ → List ℕ
-way_line net [] = []
-way_line net (gate ∷ way) = gates_line (codes "reaches") net (gate ∷ way)
 
 -- ` NAME=B` of a value that is needed, and nothing of another
 abbrev pub needed_text : List ℕ → Trit → List ℕ
@@ -30,15 +27,44 @@ needed_column net needs n = needed_text (signal_name net (signal n)) (slice_inde
 abbrev pub needed_columns : Parts → List Trit → List ℕ
 needed_columns net needs = flat_map (needed_column net needs) (range_with_len 0 (length needs))
 
-abbrev pub needs_line : Parts → List Trit → List ℕ
-needs_line net needs = codes "needs" ++ (needed_columns net needs ++ codes "\n")
+-- values of columns behind a word
+abbrev pub values_line : List ℕ → Parts → List Trit → List ℕ
+values_line word net values = word ++ (needed_columns net values ++ codes "\n")
 
--- the cycle, the way from it, and the values that are needed
+-- ` NAME=B` of a wire beside the cycle whose value is needed, ` NAME=x` of one that is to be unknown, and nothing of another
+abbrev pub side_text : List ℕ → Pin → List ℕ
+side_text name (Known b) = column_text (name, b)
+side_text name Open = codes " " ++ (name ++ codes "=x")
+side_text name Free = []
+
+abbrev pub side_of : Parts → List Pin → ℕ → List ℕ
+side_of net sides n = side_text (signal_name net (signal n)) (slice_index_or sides n Free)
+
+abbrev pub all_sides : Parts → List Pin → List ℕ
+all_sides net sides = flat_map (side_of net sides) (range_with_len 0 (length sides))
+
+abbrev pub sides_line : Parts → List Pin → List ℕ
+sides_line net sides = codes "sides" ++ (all_sides net sides ++ codes "\n")
+
+-- the cycle, and what holds it open: the wires beside it, and the columns
+abbrev pub cycle_lines : Parts → Explanation → List ℕ
+cycle_lines net why = gates_line (codes "cycle") net why.cycle ++ (sides_line net why.sides ++ values_line (codes "needs") net why.needs)
+
+-- the way from the cycle to the gate, where there is one, and the further columns that hold it open
+abbrev pub way_lines : Parts → List ℕ → List Trit → List ℕ
+way_lines net way also = gates_line (codes "reaches") net way ++ values_line (codes "also") net also
+
+abbrev pub way_text : Parts → List ℕ → List Trit → List ℕ
+way_text net [] also = []
+way_text net (gate ∷ way) also = way_lines net (gate ∷ way) also
+
 abbrev pub explanation_text : Parts → Explanation → List ℕ
-explanation_text net why = gates_line (codes "cycle") net why.cycle ++ (way_line net why.way ++ needs_line net why.needs)
+explanation_text net why = cycle_lines net why ++ way_text net why.way why.also
 
--- it speaks of gates and columns of the netlist
+-- it speaks of gates, signals and columns of the netlist
 pub record IsExplanationOf (net : Parts) (why : Explanation) : Type 0 where
   pub cycle : All (λ gate. gate < length net.gates) why.cycle
-  pub way : All (λ gate. gate < length net.gates) why.way
+  pub sides : length why.sides ≤ count net
   pub needs : length why.needs ≤ count net
+  pub way : All (λ gate. gate < length net.gates) why.way
+  pub also : length why.also ≤ count net

@@ -2,16 +2,17 @@
 ghost use Rattle.std.specs.Prelude.{◌≡◌, ◌≤◌, ◌<◌, ◌++◌, All, length, slice_index_or};
 ghost use Rattle.cyc_io.specs.Taken.{IsAppended, sink_call};
 ghost use Rattle.cyc_base.specs.declared.trit.Trit.TheVariants.{X};
+ghost use Rattle.explanations.specs.declared.pins.Pin.TheVariants.{Free};
 ghost use Rattle.netlist.specs.Netlists.{count, IsNetlist};
 ghost use Rattle.refusals.specs.Refusals.{IsRefusalOf};
 ghost use Rattle.report.specs.Verdicts.{refusal_text};
-ghost use Rattle.report.specs.Explanations.{gates_line, way_line, needed_text, needed_column, needed_columns, needs_line, explanation_text, IsExplanationOf};
+ghost use Rattle.report.specs.Explanations.{gates_line, needed_text, needed_column, needed_columns, values_line, side_text, side_of, all_sides, sides_line, cycle_lines, way_lines, way_text, explanation_text, IsExplanationOf};
 
 use crate::loop_text::put_gate_names;
 use crate::verdict::{put_column, put_refusal};
 use cyc_base::{Name, Sig, Trit};
-use cyc_io::{Failed, Sink, write_whole};
-use explanations::Explanation;
+use cyc_io::{Failed, Sink, put_three, write_whole};
+use explanations::{Explanation, Pin};
 use netlist::Netlist;
 use refusals::Refusal;
 
@@ -22,17 +23,6 @@ fn put_gates<K: Sink>(sink: &mut K, word: &[u8], net: &Netlist, gates: &[u32]) -
     write_whole(sink, word)?;
     put_gate_names(sink, net, gates)?;
     write_whole(sink, b"\n")
-}
-
-#[tactic(auto, using(cyc_io::proofs::TakenLemmas::appended_none))]
-fn put_way<K: Sink>(sink: &mut K, net: &Netlist, way: &[u32]) -> Result<(), Failed>
-    requires { All (λ gate. gate < length net.now.gates) way.now }
-    ensures { IsAppended (way_line net.now way.now) (sink_call K.put K.faults sink.old sink.new) result }
-{
-    match way {
-        [] => Ok(()),
-        _ => put_gates(sink, b"reaches", net, way),
-    }
 }
 
 // The value of a column, where it is needed.
@@ -83,30 +73,133 @@ fn put_needed_columns<K: Sink>(sink: &mut K, net: &Netlist, needs: &[Trit]) -> R
     Ok(())
 }
 
-fn put_needs<K: Sink>(sink: &mut K, net: &Netlist, needs: &[Trit]) -> Result<(), Failed>
+// Values of columns behind a word.
+fn put_values<K: Sink>(
+    sink: &mut K,
+    word: &[u8],
+    net: &Netlist,
+    values: &[Trit],
+) -> Result<(), Failed>
     requires valid { IsNetlist net.now }
-    requires fits { length needs.now ≤ count net.now }
-    ensures { IsAppended (needs_line net.now needs.now) (sink_call K.put K.faults sink.old sink.new) result }
+    requires fits { length values.now ≤ count net.now }
+    ensures { IsAppended (values_line word.now net.now values.now) (sink_call K.put K.faults sink.old sink.new) result }
 {
-    write_whole(sink, b"needs")?;
-    put_needed_columns(sink, net, needs)?;
+    write_whole(sink, word)?;
+    put_needed_columns(sink, net, values)?;
     write_whole(sink, b"\n")
 }
 
-// The cycle, the way from it to the gate where it isn't on it, and the values that are needed, in the order of the
-// columns.
+// What a signal beside the cycle is, where that is needed.
+#[tactic(auto, using(cyc_io::proofs::TakenLemmas::appended_none))]
+fn put_side<K: Sink>(sink: &mut K, name: &Name, side: Pin) -> Result<(), Failed>
+    ensures { IsAppended (side_text name.now side) (sink_call K.put K.faults sink.old sink.new) result }
+{
+    match side {
+        Pin::Known(bit) => put_column(sink, name, bit),
+        Pin::Open => put_three(sink, b" ", name.bytes(), b"=x"),
+        Pin::Free => Ok(()),
+    }
+}
+
+fn side_at(sides: &[Pin], signal: usize) -> Pin
+    requires { signal < length sides.now }
+    ensures { result ≡ slice_index_or sides.now signal Free }
+{
+    sides[signal]
+}
+
+fn put_side_of<K: Sink>(
+    sink: &mut K,
+    net: &Netlist,
+    sides: &[Pin],
+    signal: usize,
+) -> Result<(), Failed>
+    requires valid { IsNetlist net.now }
+    requires fits { length sides.now ≤ count net.now }
+    requires signal { signal < length sides.now }
+    ensures { IsAppended (side_of net.now sides.now signal) (sink_call K.put K.faults sink.old sink.new) result }
+{
+    put_side(
+        sink,
+        net.name_of(Sig(signal as u32)),
+        side_at(sides, signal),
+    )
+}
+
+fn put_sides<K: Sink>(sink: &mut K, net: &Netlist, sides: &[Pin]) -> Result<(), Failed>
+    requires valid { IsNetlist net.now }
+    requires fits { length sides.now ≤ count net.now }
+    ensures { IsAppended (all_sides net.now sides.now) (sink_call K.put K.faults sink.old sink.new) result }
+{
+    for signal in 0..sides.len() {
+        put_side_of(sink, net, sides, signal)?;
+    }
+    Ok(())
+}
+
+fn put_sides_line<K: Sink>(sink: &mut K, net: &Netlist, sides: &[Pin]) -> Result<(), Failed>
+    requires valid { IsNetlist net.now }
+    requires fits { length sides.now ≤ count net.now }
+    ensures { IsAppended (sides_line net.now sides.now) (sink_call K.put K.faults sink.old sink.new) result }
+{
+    write_whole(sink, b"sides")?;
+    put_sides(sink, net, sides)?;
+    write_whole(sink, b"\n")
+}
+
+// The cycle, and what holds it open: the wires beside it, and the columns.
+fn put_cycle<K: Sink>(sink: &mut K, net: &Netlist, why: &Explanation) -> Result<(), Failed>
+    requires valid { IsNetlist net.now }
+    requires why { IsExplanationOf net.now why.now }
+    ensures { IsAppended (cycle_lines net.now why.now) (sink_call K.put K.faults sink.old sink.new) result }
+{
+    put_gates(sink, b"cycle", net, why.cycle.items())?;
+    put_sides_line(sink, net, why.sides.items())?;
+    put_values(sink, b"needs", net, why.needs.items())
+}
+
+fn put_way_lines<K: Sink>(
+    sink: &mut K,
+    net: &Netlist,
+    way: &[u32],
+    also: &[Trit],
+) -> Result<(), Failed>
+    requires valid { IsNetlist net.now }
+    requires way { All (λ gate. gate < length net.now.gates) way.now }
+    requires also { length also.now ≤ count net.now }
+    ensures { IsAppended (way_lines net.now way.now also.now) (sink_call K.put K.faults sink.old sink.new) result }
+{
+    put_gates(sink, b"reaches", net, way)?;
+    put_values(sink, b"also", net, also)
+}
+
+// The way from the cycle, where there is one, and the further columns that hold it open.
+#[tactic(auto, using(cyc_io::proofs::TakenLemmas::appended_none))]
+fn put_way<K: Sink>(sink: &mut K, net: &Netlist, way: &[u32], also: &[Trit]) -> Result<(), Failed>
+    requires valid { IsNetlist net.now }
+    requires way { All (λ gate. gate < length net.now.gates) way.now }
+    requires also { length also.now ≤ count net.now }
+    ensures { IsAppended (way_text net.now way.now also.now) (sink_call K.put K.faults sink.old sink.new) result }
+{
+    match way {
+        [] => Ok(()),
+        _ => put_way_lines(sink, net, way, also),
+    }
+}
+
+// The cycle and what holds it open, and the way from it to the gate where it isn't on it.
 fn put_explanation<K: Sink>(net: &Netlist, why: &Explanation, sink: &mut K) -> Result<(), Failed>
     requires valid { IsNetlist net.now }
     requires why { IsExplanationOf net.now why.now }
     ensures { IsAppended (explanation_text net.now why.now) (sink_call K.put K.faults sink.old sink.new) result }
 {
-    put_gates(sink, b"cycle", net, why.cycle.items())?;
-    put_way(sink, net, why.way.items())?;
-    put_needs(sink, net, why.needs.items())
+    put_cycle(sink, net, why)?;
+    put_way(sink, net, why.way.items(), why.also.items())
 }
 
-/// Appends the text of a refusal, and behind it the lines of why a gate is undetermined: a cycle of gates, the way from
-/// it to the gate where this isn't on it, and the values that are needed. It takes no memory.
+/// Appends the text of a refusal, and behind it the lines of why a gate is undetermined: a cycle of gates, with the wires
+/// beside it and the columns that hold it open, and the way from it to the gate where this isn't on it, with the further
+/// columns that hold this open. It takes no memory.
 pub fn put_explained<K: Sink>(
     net: &Netlist,
     refusal: &Refusal,

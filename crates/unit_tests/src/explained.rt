@@ -2,12 +2,12 @@
 
 use crate::texts::net_of;
 use cyc_base::Trit;
-use explanations::{Explanation, explain};
+use explanations::{Explanation, Pin, explain};
 use netlist::Netlist;
 use std::alloc::Global;
 use std::test::Fail;
 
-pub const CASES: u32 = 7;
+pub const CASES: u32 = 8;
 
 /// A netlist, a vector of its columns, and a gate that is unknown there.
 fn asked(number: u32) -> (&'static [u8], &'static [bool], u32) {
@@ -48,6 +48,12 @@ fn asked(number: u32) -> (&'static [u8], &'static [bool], u32) {
             &[true, false, false],
             0,
         ),
+        // A short cycle over a pin that its gate's other pin leaves out, before a long one.
+        6 => (
+            b".model m\n.inputs s\n.outputs g\n.names s h c g\n11- 1\n--1 1\n.names g h\n1 1\n.names e c\n1 1\n.names c d\n1 1\n.names d e\n1 1\n",
+            &[false],
+            0,
+        ),
         // A gate that is determined.
         _ => (
             b".model m\n.inputs x\n.outputs a\n.names x a a\n1- 1\n-1 1\n",
@@ -57,22 +63,71 @@ fn asked(number: u32) -> (&'static [u8], &'static [bool], u32) {
     }
 }
 
-/// The cycle, the way from it, and the needed values.
-fn answer(number: u32) -> (&'static [u32], &'static [u32], &'static [Trit]) {
+/// The cycle, and the way from it.
+fn gates(number: u32) -> (&'static [u32], &'static [u32]) {
     match number {
-        0 => (&[0], &[], &[Trit::Zero]),
-        1 => (&[2, 1], &[0], &[Trit::Zero, Trit::Zero, Trit::One]),
-        2 => (&[1], &[0], &[Trit::Zero, Trit::X, Trit::One, Trit::X]),
-        3 => (&[1, 0], &[], &[Trit::Zero, Trit::Zero, Trit::X]),
-        4 => (&[4], &[3, 2, 1, 0], &[]),
-        5 => (&[0], &[], &[Trit::X, Trit::X, Trit::Zero]),
-        _ => (&[], &[], &[]),
+        0 => (&[0], &[]),
+        1 => (&[2, 1], &[0]),
+        2 => (&[1], &[0]),
+        3 => (&[1, 0], &[]),
+        4 => (&[4], &[3, 2, 1, 0]),
+        5 => (&[0], &[]),
+        6 => (&[3, 4, 2], &[0]),
+        _ => (&[], &[]),
     }
 }
 
+/// The values of columns that hold the cycle open, and the further ones that hold the way open.
+fn columns(number: u32) -> (&'static [Trit], &'static [Trit]) {
+    match number {
+        0 => (&[Trit::Zero], &[Trit::X]),
+        1 => (
+            &[Trit::Zero, Trit::Zero, Trit::X],
+            &[Trit::X, Trit::X, Trit::One],
+        ),
+        2 => (
+            &[Trit::Zero, Trit::X, Trit::X, Trit::X],
+            &[Trit::X, Trit::X, Trit::One, Trit::X],
+        ),
+        3 => (
+            &[Trit::Zero, Trit::Zero, Trit::X],
+            &[Trit::X, Trit::X, Trit::X],
+        ),
+        5 => (
+            &[Trit::X, Trit::X, Trit::Zero],
+            &[Trit::X, Trit::X, Trit::X],
+        ),
+        6 => (&[Trit::X], &[Trit::X]),
+        _ => (&[], &[]),
+    }
+}
+
+fn side_of(need: Option<&Trit>) -> Pin {
+    match need {
+        Some(Trit::Zero) => Pin::Known(false),
+        Some(Trit::One) => Pin::Known(true),
+        _ => Pin::Free,
+    }
+}
+
+/// Whether the sides are the columns that hold the cycle open, as they are in each case here.
+fn are_sides(sides: &[Pin], needs: &[Trit]) -> bool {
+    for signal in 0..sides.len() {
+        if sides[signal] != side_of(needs.get(signal)) {
+            return false;
+        }
+    }
+    true
+}
+
 fn is_answer(why: &Explanation, number: u32) -> bool {
-    let (cycle, way, needs) = answer(number);
-    why.cycle.items() == cycle && why.way.items() == way && why.needs.items() == needs
+    let (cycle, way) = gates(number);
+    let (needs, also) = columns(number);
+    why.cycle.items() == cycle
+        && why.way.items() == way
+        && are_sides(why.sides.items(), needs)
+        && why.needs.items() == needs
+        && why.also.items() == also
 }
 
 fn is_explained_by(

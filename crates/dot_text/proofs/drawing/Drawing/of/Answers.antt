@@ -1,12 +1,7 @@
-use Rattle.std.proofs.Common.{◌<◌, ◌≤◌, ℕ, All, Bool, List, filter, length, ap, sym, subst, ◌∙◌, arith}
-use Rattle.std.proofs.lemmas.List.Elements.{All-get_or}
+use Rattle.std.proofs.Common.{◌<◌, ℕ, All, Bool, List, filter, length, ap, sym, subst, ◌∙◌, arith}
 use Rattle.std.specs.Prelude.{◌||◌, slice_index}
-use Rattle.dot_text.proofs.Common.{Trit, is_marked, loops_of, Parts}
-use Rattle.cyc_base.specs.Values.{bits}
+use Rattle.dot_text.proofs.Common.{is_marked, loops_of, Parts}
 use Rattle.loops.specs.Listed.{gate_numbers}
-use Rattle.netlist.specs.Fixpoint.{fix}
-use Rattle.netlist.specs.Netlists.{count}
-use Rattle.dot_text.specs.ExplanationGraphs.{picture_of}
 use Rattle.dot_text.proofs.GraphLemmas.{kept_inside, picture_is, values_fit}
 use Rattle.dot_text.proofs.drawing.Drawing.of.Goals as goal
 
@@ -47,4 +42,4 @@ pub returns : goal.returns
 returns c =
     let net = c.args.looped.now.net in
     let why = c.args.why.now in
-    grind (arith, picture_is net c.in_ok-values.values.items why (slice_index c.items.result.now 0) c.in_ok-way.way.items c.in_ok-cycle.cycle.items c.items-4.result.now)
+    grind (arith, picture_is net c.in_ok-values.values.items why (slice_index c.items.result.now 0) c.in_ok-way.way.items c.in_ok-cycle.cycle.items c.items-4.result.now c.items-5.result.now)

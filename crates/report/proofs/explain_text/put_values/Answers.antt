@@ -1,5 +1,5 @@
 use Rattle.report.proofs.Common.{appended_then, appended_cut}
-use Rattle.report.proofs.explain_text.put_needs.Goals as goal
+use Rattle.report.proofs.explain_text.put_values.Goals as goal
 
 pub returns-in_err-write_whole : goal.returns-in_err-write_whole
 returns-in_err-write_whole g c = appended_cut _ _ _ _ _ c.in_err-write_whole.ensures c.from_residual.ensures.0
