@@ -208,11 +208,11 @@ fn carry_out<S: Shelf>(
     probes: &mut [Box<dyn Probe>],
 ) -> Result<Outcome, Stop>
     requires { All (λ probe. heard probe ≡ []) probes.old }
-    ensures comes { Follows (plan_of (shown_by kind text probes.old) (command_seen command)) (shelf_call S.files S.faults shelf.old shelf.new) d.new (end_of result) }
-    ensures heard { HearCommand kind heard text (Some (command_seen command)) (shelf_call S.files S.faults shelf.old shelf.new)
+    ensures comes { Follows (plan_of (shown_by kind text probes.old) (command_seen command.entry)) (shelf_call S.files S.faults shelf.old shelf.new) d.new (end_of result) }
+    ensures heard { HearCommand kind heard text (Some (command_seen command.entry)) (shelf_call S.files S.faults shelf.old shelf.new)
         probes.old probes.new }
     ensures same { S.files shelf.new ≡ S.files shelf.old }
-    ensures kept { KeepsNodes (Some (command_seen command)) d.old d.new }
+    ensures kept { KeepsNodes (Some (command_seen command.entry)) d.old d.new }
 {
     match command {
         Command::Decide(netlist, options, purpose) => {

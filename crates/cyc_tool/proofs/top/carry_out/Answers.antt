@@ -28,7 +28,7 @@ returns-in-Demo-clause-comes g c = rw c.in-Demo.is (c.demo.ensures.follows _ _)
 pub returns-in-Help-clause-comes : goal.returns-in-Help-clause-comes
 returns-in-Help-clause-comes g c =
     let ending : Ending = Prints help_text in
-    let ends = still_ends ending _ (ends_or_lacks c.tell_help.result (λ end. end ≡ told ending) _ c.or_stop-in-Help.ensures c.tell_help.ensures) in
+    let ends = still_ends ending _ (ends_or_lacks c.tell_help.result (λ end. end ≡ told ending) _ c.or_stop.ensures c.tell_help.ensures) in
     rw c.in-Help.is ((ends.follows c.args.d.now).follows _ _)
 
 pub returns-in-HelpOn-clause-comes : goal.returns-in-HelpOn-clause-comes
@@ -37,8 +37,8 @@ returns-in-HelpOn-clause-comes g c =
     let ends = still_ends ending _ (ends_or_lacks c.tell_topic.result (λ end. end ≡ told ending) _ c.or_stop-in-HelpOn.ensures c.tell_topic.ensures) in
     rw c.in-HelpOn.is ((ends.follows c.args.d.now).follows _ _)
 
-pub returns-clause-comes : goal.returns-clause-comes
-returns-clause-comes g c =
+pub returns-in-Version-clause-comes : goal.returns-in-Version-clause-comes
+returns-in-Version-clause-comes g c =
     let ending : Ending = Prints version_text in
     let ends = still_ends ending _ (ends_or_lacks c.tell_version.result (λ end. end ≡ told ending) _ c.or_stop-in-Version.ensures c.tell_version.ensures) in
     rw c.in-Version.is ((ends.follows c.args.d.now).follows _ _)
