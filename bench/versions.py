@@ -315,6 +315,7 @@ def complemented(text, seed):
 def write(name, size, folder):
     shared, copied, care = FAMILIES[name][0](size)
     folder = pathlib.Path(folder)
+    folder.mkdir(parents=True, exist_ok=True)
     (folder / "shared.blif").write_text(shared.text())
     (folder / "copied.blif").write_text(copied.text())
     (folder / "wrong.blif").write_text(complemented(copied.text(), size))
