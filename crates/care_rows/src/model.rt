@@ -1,12 +1,12 @@
 //! The model that keeps an assumption and excludes rows.
 
-ghost use Rattle.std.specs.Prelude.{◌≡◌, ◌≤◌, ◌+◌, ◌-◌, ◌++◌, [], ◌∷◌, length, IfOk, IfErr, OnOk, IfSome, option_copied};
-ghost use Rattle.netlist.specs.Netlists.{IsNetlist, signal};
+ghost use Rattle.std.specs.Prelude.{◌≡◌, ◌≤◌, ◌+◌, ◌-◌, ◌++◌, [], ◌∷◌, length, IfOk, IfErr, OnOk, IfSome, option_copied, option_map};
+ghost use Rattle.netlist.specs.Netlists.{IsNetlist, count, signal};
 ghost use Rattle.care_sets.specs.Binding.{IsCareOf};
 ghost use Rattle.unroll.specs.Marks.{mark as mark_of};
 ghost use Rattle.care_rows.specs.Rows.{AreSteadyRows};
 ghost use Rattle.care_rows.specs.Restricted.{IsRestricted, IsModelSize, IsRestrictFault};
-ghost use Rattle.care_rows.specs.Models.{IsKept, assumed_columns, assumed_output, assumed_size as assumed_size_of, base_of as base_by, first_assumed, inputs_of, model_gates as model_gates_of, model_of, old_gates, plan_of, total_of};
+ghost use Rattle.care_rows.specs.Models.{IsKept, assumed_columns, assumed_gates, assumed_output, assumed_size as assumed_size_of, base_of as base_by, model_gates as model_gates_of, model_of, places_of as places_of_columns, plan_of, total_of};
 
 use crate::assumed::{add_assumed, assumed_signal, places_of};
 use crate::fault::RestrictFault;
@@ -36,16 +36,15 @@ fn add_assumption(
     alloc: Global,
     net: &Netlist,
     care: &Care,
-    rows: &[Row],
     kept: &Kept,
     mark: &Name,
     gates: &mut Vec<Gate>,
 ) -> Result<Vec<WireValue>, AllocError>
     requires care { IsCareOf net.now care.now }
-    requires kept { IsKept net.now (assumed_columns care.now) rows.now kept.now }
-    requires fits { first_assumed (plan_of net.now care.now rows.now kept.now) + assumed_size_of (plan_of net.now care.now rows.now kept.now).old ≤ 4294967295 }
-    ensures gates { OnOk result (gates.new.items ≡ gates.old.items ++ old_gates (plan_of net.now care.now rows.now kept.now) mark.now) }
-    ensures output { IfOk result (λ output. output.items ≡ assumed_output (inputs_of (plan_of net.now care.now rows.now kept.now)) (first_assumed (plan_of net.now care.now rows.now kept.now)) (plan_of net.now care.now rows.now kept.now).old) }
+    requires places { length kept.now.places.items ≡ count net.now }
+    requires fits { kept.now.signals + assumed_size_of (option_map (λ model. model.net) care.now.assume) ≤ 4294967295 }
+    ensures gates { OnOk result (gates.new.items ≡ gates.old.items ++ assumed_gates (places_of_columns kept.now.places.items (assumed_columns care.now)) kept.now.signals mark.now (option_map (λ model. model.net) care.now.assume)) }
+    ensures output { IfOk result (λ output. output.items ≡ assumed_output (places_of_columns kept.now.places.items (assumed_columns care.now)) kept.now.signals (option_map (λ model. model.net) care.now.assume)) }
 {
     net.laws();
     let inputs = places_of(alloc, &kept.places, care.assume_columns())?;
@@ -87,7 +86,7 @@ fn model_gates(
     net.laws();
     let mark = mark(alloc, net)?;
     let mut gates = kept_gates(alloc, net, &kept.places, &kept.gates)?;
-    let conditions = add_assumption(alloc, net, care, rows, kept, &mark, &mut gates)?;
+    let conditions = add_assumption(alloc, net, care, kept, &mark, &mut gates)?;
     let tellers = Tellers {
         mark: &mark,
         total,

@@ -7,5 +7,5 @@ places_of-requires c k d l =
     let within = rw (sym c.assume_columns.ensures.columns) at (assumed_within c.args.net.now c.args.care.now c.requires.care) in
     let low = within k d l in
     let size = ap (λ (xs : List ℕ). length xs) c.deref.ensures.value in
-    let long = c.requires.kept.long in
+    let long = c.requires.places in
     omega (arith, low, size, long)
