@@ -161,7 +161,7 @@ fn explanation_of(
 {
     let net = refused.looped.net();
     let gate = refused.wire.0 - net.columns();
-    explain(alloc, net, refused.vector, gate)
+    explain(alloc, net, refused.vector, &[], gate)
 }
 
 // A refused wire, with why it is undetermined, as lines or as a graph.
