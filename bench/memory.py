@@ -28,6 +28,8 @@ CALLS = [
     "aiger shared_units.blif --binary",
     "explain self_loop.blif",
     "explain shared_units.blif",
+    "assume self_loop.blif",
+    "assume shared_units.blif",
     "equal shared_units.blif shared_units.blif",
     "flat two_inverters.blif",
     "loops shared_units.blif",

@@ -1,24 +1,18 @@
 -- The model of a written netlist flattens to its lines, since no instance stands in it.
-use Rattle.std.proofs.Common.{◌≡◌, ℕ, ◌+◌, ◌≤◌, List, [], ◌∷◌, ◌++◌, length, map, refl, ap, ◌∙◌, arith, Some, false}
+use Rattle.std.proofs.Common.{◌≡◌, ℕ, ◌+◌, ◌≤◌, List, [], ◌∷◌, ◌++◌, length, map, refl, ap, ◌∙◌, arith, false}
 use Rattle.blif_write.proofs.Common.{length-map, Parts, BlifModel, GateLine, LatchLine, list_any}
 use Rattle.netlist.specs.declared.parts.Gate as gates
 use Rattle.netlist.specs.declared.parts.Latch as latches
-use Rattle.blif_read.specs.Find.{has_name}
 use Rattle.blif_read.specs.declared.models.Item.{Item}
 use Rattle.blif_read.specs.declared.models.Item.TheVariants as item
-use Rattle.flatten.specs.Instances.{find_model}
+use Rattle.flatten.specs.Instances.{model_at}
 use Rattle.flatten.specs.Walk.{FlatLines}
-use Rattle.flatten.specs.Alone.{is_part, own_lines}
+use Rattle.flatten.specs.Alone.{is_part, own_lines, flat_alone}
 use Rattle.flatten.specs.Flat.{flat_at}
 use Rattle.flatten.specs.Linking.{linked}
-use Rattle.flatten.proofs.Names.{bytes_refl}
-use Rattle.flatten.proofs.Placing.{step_yes}
 use Rattle.flatten.proofs.OwnLines.{is_flat_alone, alone_fits}
 use Rattle.blif_write.proofs.Said.{latch_of_text, gate_of_text, model_of_text}
 use Rattle.std.proofs.lemmas.List.{length-append}
-
-pub model_found : (model : BlifModel) → find_model (model ∷ []) model.name ≡ Some 0
-model_found model = grind (arith, step_yes (has_name model.name) model [] (bytes_refl model.name), bytes_refl model.name)
 
 -- The lines of its body are the latches and the gates.
 
@@ -42,14 +36,16 @@ module _ (net : Parts) where
   lines_are [] (g ∷ gs) = ap (λ (lines : FlatLines). lines_with lines.latches (gate_of_text net g ∷ lines.gates)) (lines_are [] gs)
   lines_are (l ∷ ls) gs = ap (λ (lines : FlatLines). lines_with (latch_of_text net l ∷ lines.latches) lines.gates) (lines_are ls gs)
 
-  pub lines_flat : (depth limit : ℕ) → length net.latches + length net.gates ≤ limit
-      → flat_at depth limit (model_of_text net ∷ []) 0 ≡ linked (model_of_text net) (lines_of_text net)
-  lines_flat depth limit few =
+  -- wherever its model stands among others
+  pub lines_flat : (depth limit : ℕ) (models : List BlifModel) (i : ℕ) → model_at models i ≡ model_of_text net
+      → length net.latches + length net.gates ≤ limit → flat_at depth limit models i ≡ linked (model_of_text net) (lines_of_text net)
+  lines_flat depth limit models i is few =
       let latch_items = map (λ (l : latches.Latch). item.Latch (latch_of_text net l)) net.latches in
       let gate_items = map (λ (g : gates.Gate). item.Gate (gate_of_text net g)) net.gates in
       let n = length-append latch_items gate_items in
       let l = length-map net.latches (λ (l : latches.Latch). item.Latch (latch_of_text net l)) in
       let g = length-map net.gates (λ (g : gates.Gate). item.Gate (gate_of_text net g)) in
-      is_flat_alone depth limit (model_of_text net ∷ []) 0 (no_parts net.latches net.gates)
+      is_flat_alone depth limit models i (ap (λ (model : BlifModel). list_any is_part model.body) is ∙ no_parts net.latches net.gates)
+      ∙ ap (flat_alone limit) is
       ∙ alone_fits limit (model_of_text net) (omega (arith, n, l, g, few))
       ∙ ap (linked (model_of_text net)) (lines_are net.latches net.gates)

@@ -6,5 +6,6 @@ pub mod Faultless
 pub mod Said
 pub mod Flattened
 pub mod Linked
+pub mod Found
 pub mod Named
 pub mod ReadingBack

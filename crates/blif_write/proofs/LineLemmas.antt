@@ -1,10 +1,10 @@
 -- Lines and the whole text, as they are appended.
 use Rattle.std.proofs.Common.{◌≡◌, ℕ, List, [], ◌∷◌, ◌++◌, map, refl, sym, ap, ◌∙◌, append_assoc, append-nil, arith}
 use Rattle.std.specs.Prelude.{codes}
-use Rattle.blif_write.proofs.Common.{flat_map, Sig, Gate, Latch, Parts, line_text, name_of, control_words, init_word, latch_line, row_line, gate_lines, latch_lines, all_gate_lines, behind, gate_text}
+use Rattle.blif_write.proofs.Common.{flat_map, Sig, Gate, Latch, Parts, line_text, lines_of, name_of, clock_lines, control_words, init_word, latch_line, row_line, gate_lines, latch_lines, all_gate_lines, behind, gate_text}
 use Rattle.std.proofs.lemmas.List.Concat.{flat_map-append}
 use Rattle.std.proofs.lemmas.List.Folds.{flat_map-map}
-use Rattle.blif_write.specs.Written.{line_end, text_of, head_lines, written}
+use Rattle.blif_write.specs.Written.{line_end, text_of, head_lines, written, models_written}
 use Rattle.blif_write.specs.Putting.{names_behind, last_behind, last_word, names_rest, gates_text, latches_text}
 
 -- A line is its first word and the rest.
@@ -62,3 +62,27 @@ pub written_is : (net : Parts) → written net ≡ text_of (head_lines net) ++ b
 written_is net =
     let end : List (List (List ℕ)) = (codes ".end" ∷ []) ∷ [] in
     grind (arith, flat_map-append line_text (head_lines net) (latch_lines net ++ (all_gate_lines net ++ end)), flat_map-append line_text (latch_lines net) (all_gate_lines net ++ end), flat_map-map line_text (latch_line net) net.latches, flat_map-append line_text (all_gate_lines net) end, gates_are net net.gates)
+
+-- The lines of some netlists, one after another.
+
+abbrev pub all_lines : List Parts → List (List (List ℕ))
+all_lines nets = flat_map lines_of nets
+
+pub models_written_is : (nets : List Parts) → models_written nets ≡ text_of (all_lines nets)
+models_written_is [] = refl
+models_written_is (net ∷ nets) = ap (λ text. written net ++ text) (models_written_is nets) ∙ sym (flat_map-append line_text (lines_of net) (all_lines nets))
+
+-- the lines of a netlist before others, its first three apart
+abbrev pub rest_before : Parts → List (List (List ℕ)) → List (List (List ℕ))
+rest_before net ws = clock_lines net net.clock ++ (latch_lines net ++ (all_gate_lines net ++ (codes ".end" ∷ []) ∷ ws))
+
+abbrev pub head_before : Parts → List (List (List ℕ)) → List (List (List ℕ))
+head_before net ws = (codes ".model" ∷ net.name ∷ []) ∷ (codes ".inputs" ∷ net.inputs) ∷ (codes ".outputs" ∷ map (name_of net) net.outputs) ∷ ws
+
+pub lines_before : (net : Parts) (ws : List (List (List ℕ))) → lines_of net ++ ws ≡ head_before net (rest_before net ws)
+lines_before net ws =
+    let end : List (List (List ℕ)) = (codes ".end" ∷ []) ∷ [] in
+    let gates = all_gate_lines net ++ end in
+    ap (head_before net)
+    (append_assoc (clock_lines net net.clock) (latch_lines net ++ gates) ws
+    ∙ ap (λ more. clock_lines net net.clock ++ more) (append_assoc (latch_lines net) gates ws ∙ ap (λ more. latch_lines net ++ more) (append_assoc (all_gate_lines net) end ws)))

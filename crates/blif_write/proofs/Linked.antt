@@ -55,7 +55,7 @@ put_in name (x ∷ xs) ys d no_x no_y =
 
 -- The place of a name among names that differ.
 
-place_of : (names : List (List ℕ)) (i : ℕ) → IsDistinct bytes_eq names → i < length names → position_or_len (bytes_eq (get_or names i [])) names ≡ i
+pub place_of : (names : List (List ℕ)) (i : ℕ) → IsDistinct bytes_eq names → i < length names → position_or_len (bytes_eq (get_or names i [])) names ≡ i
 place_of names i d l =
     let name = get_or names i [] in
     grind (arith, position_or_len_is (bytes_eq name) names i [], bytes_sym name, apart_from_distinct bytes_eq names, bytes_refl name)

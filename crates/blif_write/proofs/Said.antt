@@ -1,4 +1,4 @@
--- What the lines of a written netlist say: one model.
+-- What the lines of written netlists say: one model for each.
 use Rattle.std.proofs.Common.{◌≡◌, ℕ, ◌+◌, Bool, true, false, List, [], ◌∷◌, ◌++◌, length, map, take, refl, sym, ap, ◌∙◌, append_assoc, append-nil, if◌then◌else◌, None, Some, get_or, arith}
 use Rattle.blif_write.proofs.Common.{All, flat_map, list_any, Option, length-map, All-head, All-tail, Lit, Edge, Init, Parts, numbered, BlifModel, GateLine, LatchLine, name_of, clock_lines, control_words, edge_word, init_word, latch_line, latch_lines, lit_byte, plane_word, lits_words, row_line, gate_lines, all_gate_lines, lines_of}
 use Rattle.std.specs.Prelude.{codes, bytes_eq}
@@ -17,7 +17,8 @@ use Rattle.blif_read.specs.declared.statement.Statement.TheVariants.{Model, Inpu
 use Rattle.blif_read.specs.Kinds.{kind, pin_count}
 use Rattle.blif_read.specs.Statements.{lit_of, lits_of, latch_of, pins_of, output_of, statement, statement_of_kind}
 use Rattle.blif_read.specs.Models.{members, inputs_in, outputs_in, clocks_in, rows_of, plane_of, gate_of, body_of, model_of, models}
-use Rattle.blif_write.proofs.Faultless.{line, IsWhole, counted, row_on, row_kind}
+use Rattle.blif_write.proofs.Faultless.{line, IsWhole, HasWholeGates, counted, row_on, row_kind}
+use Rattle.blif_write.proofs.LineLemmas.{all_lines, lines_before}
 use Rattle.std.proofs.lemmas.List.Folds.{map_fixed}
 use Rattle.cyc_base.proofs.ListLemmas.{map-map}
 
@@ -152,15 +153,16 @@ latches_say net (latch ∷ ls) named = rw (latch_says net latch named, latches_s
 clock_says : (net : Parts) (clock : Option clocks.Clock) → map says (clock_lines net clock) ≡ clocks_said (clock_names net clock)
 clock_says net clock = grind arith
 
-abbrev body_said : Parts → List Statement
-body_said net = map (latch_said net) net.latches ++ (flat_map (gate_said net) net.gates ++ End ∷ [])
+-- what the lines of a netlist say, and behind their end others
+abbrev body_said : Parts → List Statement → List Statement
+body_said net more = map (latch_said net) net.latches ++ (flat_map (gate_said net) net.gates ++ End ∷ more)
 
-all_said : (net : Parts) → IsNamed net.clock → map says (lines_of net)
-    ≡ Model net.name ∷ Inputs net.inputs ∷ Outputs (map (name_of net) net.outputs) ∷ (clock_said net ++ body_said net)
-all_said net named =
-    let end : List (List (List ℕ)) = (codes ".end" ∷ []) ∷ [] in
+all_said : (net : Parts) (ws : List (List (List ℕ))) → IsNamed net.clock → map says (lines_of net ++ ws)
+    ≡ Model net.name ∷ Inputs net.inputs ∷ Outputs (map (name_of net) net.outputs) ∷ (clock_said net ++ body_said net (map says ws))
+all_said net ws named =
+    let end : List (List (List ℕ)) = (codes ".end" ∷ []) ∷ ws in
     let gs = all_gate_lines net ++ end in
-    grind (arith, map-append says (clock_lines net net.clock) (latch_lines net ++ gs), clock_says net net.clock, map-append says (latch_lines net) gs, latches_say net net.latches named, map-append says (all_gate_lines net) end, gates_say net net.gates)
+    grind (arith, lines_before net ws, map-append says (clock_lines net net.clock) (latch_lines net ++ gs), clock_says net net.clock, map-append says (latch_lines net) gs, latches_say net net.latches named, map-append says (all_gate_lines net) end, gates_say net net.gates)
 
 -- The statements lie in one model, which ends at the last.
 
@@ -281,15 +283,15 @@ gates_body net (gate ∷ gs) whole =
 abbrev inner : Parts → List Statement
 inner net = map (latch_said net) net.latches ++ flat_map (gate_said net) net.gates
 
-inner_members : (net : Parts) → members (clock_said net ++ body_said net) ≡ clock_said net ++ inner net
-inner_members net =
-    let end : List Statement = End ∷ [] in
-    grind (arith, clock_members (clock_names net net.clock) (body_said net), latch_members net net.latches (flat_map (gate_said net) net.gates ++ end), gate_members net net.gates end, append-nil (flat_map (gate_said net) net.gates))
+inner_members : (net : Parts) (more : List Statement) → members (clock_said net ++ body_said net more) ≡ clock_said net ++ inner net
+inner_members net more =
+    let end : List Statement = End ∷ more in
+    grind (arith, clock_members (clock_names net net.clock) (body_said net more), latch_members net net.latches (flat_map (gate_said net) net.gates ++ end), gate_members net net.gates end, append-nil (flat_map (gate_said net) net.gates))
 
-no_more_models : (net : Parts) → models (clock_said net ++ body_said net) ≡ []
-no_more_models net =
-    let end : List Statement = End ∷ [] in
-    grind (arith, clock_models (clock_names net net.clock) (body_said net), latch_models net net.latches (flat_map (gate_said net) net.gates ++ end), gate_models net net.gates end)
+models_behind : (net : Parts) (more : List Statement) → models (clock_said net ++ body_said net more) ≡ models more
+models_behind net more =
+    let end : List Statement = End ∷ more in
+    grind (arith, clock_models (clock_names net net.clock) (body_said net more), latch_models net net.latches (flat_map (gate_said net) net.gates ++ end), gate_models net net.gates end)
 
 model_is : (net : Parts) → All IsWhole net.gates
     → model_of net.name (Inputs net.inputs ∷ Outputs (map (name_of net) net.outputs) ∷ (clock_said net ++ inner net)) ≡ model_of_text net
@@ -310,5 +312,19 @@ model_is net whole =
     ∙ ap (λ items. latch_items net net.latches ++ items) (gates_body net net.gates whole) in
     rw (no_inputs, no_outputs, the_clocks, the_body, append-nil net.inputs, append-nil outs) refl
 
-pub models_are : (net : Parts) → All IsWhole net.gates → IsNamed net.clock → models (map statement (numbered 1 (lines_of net))) ≡ model_of_text net ∷ []
-models_are net whole named = grind (arith, says_all 1 (lines_of net), all_said net named, inner_members net, model_is net whole, no_more_models net)
+first_model : (net : Parts) (ws : List (List (List ℕ))) → All IsWhole net.gates → IsNamed net.clock
+    → models (map says (lines_of net ++ ws)) ≡ model_of_text net ∷ models (map says ws)
+first_model net ws whole named = grind (arith, all_said net ws named, inner_members net (map says ws), model_is net whole, models_behind net (map says ws))
+
+pub record IsSayable (net : Parts) : Type 0 where
+  pub whole : HasWholeGates net
+  pub named : IsNamed net.clock
+
+all_models : (nets : List Parts) → All IsSayable nets → models (map says (all_lines nets)) ≡ map model_of_text nets
+all_models [] each = refl
+all_models (net ∷ nets) each =
+    let first = All-head IsSayable net nets each in
+    first_model net (all_lines nets) first.whole first.named ∙ ap (λ more. model_of_text net ∷ more) (all_models nets (All-tail IsSayable net nets each))
+
+pub models_are : (nets : List Parts) → All IsSayable nets → models (map statement (numbered 1 (all_lines nets))) ≡ map model_of_text nets
+models_are nets each = ap models (says_all 1 (all_lines nets)) ∙ all_models nets each

@@ -106,3 +106,7 @@ lines_of net = head_lines net ++ (latch_lines net ++ (all_gate_lines net ++ (cod
 -- the text of a netlist
 abbrev pub written : Parts → List ℕ
 written net = text_of (lines_of net)
+
+-- the texts of some netlists, one after another
+abbrev pub models_written : List Parts → List ℕ
+models_written nets = flat_map written nets

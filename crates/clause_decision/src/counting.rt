@@ -145,7 +145,8 @@ fn next_needed(
     Ok(needed_by(alloc, swept, block, care, reply)?)
 }
 
-/// How many sweeps are needed at least: those at the vector of zeros, if it is one of care, or near it.
+/// How many sweeps are needed at least: those at the vector of zeros, if it is one of care, or near it. A loop with one cut
+/// wire mostly needs no look at a vector.
 fn first_needed(
     alloc: Global,
     block: &LoopedBlock<'_>,
@@ -156,10 +157,14 @@ fn first_needed(
     requires serves { Serves sign block.now.net care.now (gates_in block.now) }
     ensures { IfOk result (λ number. (first_number sign ≤ number) × NeedAtLeast block.now.net (loops_in block.now) care.now (gates_in block.now) number) }
 {
+    let first = first_of(sign);
+    if block.cut_count() <= first {
+        return Ok(first);
+    }
     let net = block.net();
     let zeros = vec![in alloc; false; net.columns() as usize]?;
     if !is_care_vector(alloc, net, care, &zeros)? {
-        return Ok(first_of(sign));
+        return Ok(first);
     }
     let sweeps = sweeps_in(alloc, block, &zeros)?;
     climb(alloc, block, care, zeros, sweeps)

@@ -5,7 +5,7 @@ use Rattle.std.proofs.Math.Seq.{take-length}
 use Rattle.std.specs.List.{list_all}
 use Rattle.std.specs.Option.{option_and_then}
 use Rattle.std.specs.Str.{bytes_eq}
-use Rattle.commands.specs.Words.{Options, Purpose, Decide, Equal, command_in, command_on, flagged, is_file_word, no_options, is_digit, with_digits, up_to, with_option, options_of, decide_on, unobserved, equal_with}
+use Rattle.commands.specs.Words.{Options, Purpose, Decide, Assume, Equal, command_in, command_on, flagged, is_file_word, no_options, is_digit, with_digits, up_to, with_option, options_of, decide_on, assume_on, unobserved, equal_with}
 
 -- more digits make no less of a number
 no_less : (n : ℕ) (digits : List ℕ) → n ≤ with_digits n digits
@@ -46,6 +46,13 @@ decide_asked purpose file rest options found = ap (option_map (λ o. Decide file
 
 pub decide_not_asked : (purpose : Purpose) (file : List ℕ) (rest : List (List ℕ)) → options_of no_options rest ≡ None → decide_on purpose file rest ≡ None
 decide_not_asked purpose file rest found = ap (option_map (λ o. Decide file o purpose)) found
+
+pub assume_asked : (file : List ℕ) (rest : List (List ℕ)) (options : Options) → options_of no_options rest ≡ Some options
+    → assume_on file rest ≡ Some (Assume file options)
+assume_asked file rest options found = ap (option_map (Assume file)) found
+
+pub assume_not_asked : (file : List ℕ) (rest : List (List ℕ)) → options_of no_options rest ≡ None → assume_on file rest ≡ None
+assume_not_asked file rest found = ap (option_map (Assume file)) found
 
 pub equal_asked : (file second : List ℕ) (rest : List (List ℕ)) (options known : Options) → options_of no_options rest ≡ Some options
     → unobserved options ≡ Some known → equal_with file second rest ≡ Some (Equal file second known)

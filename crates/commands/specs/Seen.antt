@@ -2,7 +2,7 @@
 use Rattle.std.specs.Prelude.{ℕ, option_copied}
 use Rattle.commands.specs.declared.command.Cells.{Cells}
 use Rattle.commands.specs.declared.command.Command.{Command}
-use Rattle.commands.specs.declared.command.Command.TheVariants.{Decide, Equal, Flat, Loops, Sim, Delays, Demo, Help, HelpOn, Version}
+use Rattle.commands.specs.declared.command.Command.TheVariants.{Decide, Assume, Equal, Flat, Loops, Sim, Delays, Demo, Help, HelpOn, Version}
 use Rattle.commands.specs.declared.command.Options.{Options}
 use Rattle.commands.specs.declared.command.Rounds.{Rounds}
 use Rattle.commands.specs.declared.purpose.Making.{Making}
@@ -38,6 +38,7 @@ purpose_seen (Make making) = making_seen making
 
 abbrev pub command_seen : Command → asked.Command
 command_seen (Decide netlist options purpose) = asked.Decide netlist.now (options_seen options) (purpose_seen purpose)
+command_seen (Assume netlist options) = asked.Assume netlist.now (options_seen options)
 command_seen (Equal first second options) = asked.Equal first.now second.now (options_seen options)
 command_seen (Flat netlist) = asked.Flat netlist.now
 command_seen (Loops netlist form) = asked.Loops netlist.now form

@@ -44,6 +44,8 @@ pub data Purpose : Type 0 where
 pub data Command : Type 0 where
   -- decides the netlist of a file, for a purpose
   Decide : List ℕ → Options → Purpose → Command
+  -- writes the weakest care models under which the netlist of a file is accepted
+  Assume : List ℕ → Options → Command
   -- compares the netlist of a file with that of a second one
   Equal : List ℕ → List ℕ → Options → Command
   -- writes its flat netlist
@@ -159,6 +161,10 @@ form_of false = form.Lines
 abbrev pub explain_on : List ℕ → List (List ℕ) → Option Command
 explain_on file rest = option_map (λ found. Decide file found.0 (Explains (form_of found.1))) (flagged (codes "--dot") no_options false rest)
 
+-- an assumption is looked for with the options of a decision
+abbrev pub assume_on : List ℕ → List (List ℕ) → Option Command
+assume_on file rest = option_map (Assume file) (options_of no_options rest)
+
 -- loops are told as lines, or as a graph
 abbrev pub loops_on : List ℕ → List (List ℕ) → Option Command
 loops_on file [] = Some (Loops file form.Lines)
@@ -224,6 +230,7 @@ topic_of word =
     else if bytes_eq word (codes "rewrite") then Some topic.Rewrite
     else if bytes_eq word (codes "aiger") then Some topic.Aiger
     else if bytes_eq word (codes "explain") then Some topic.Explain
+    else if bytes_eq word (codes "assume") then Some topic.Assume
     else if bytes_eq word (codes "equal") then Some topic.Equal
     else if bytes_eq word (codes "flat") then Some topic.Flat
     else if bytes_eq word (codes "loops") then Some topic.Loops
@@ -245,6 +252,7 @@ command_on command word rest =
     else if bytes_eq command (codes "rewrite") then decide_on Rewrites word rest
     else if bytes_eq command (codes "aiger") then aiger_on word rest
     else if bytes_eq command (codes "explain") then explain_on word rest
+    else if bytes_eq command (codes "assume") then assume_on word rest
     else if bytes_eq command (codes "equal") then equal_on word rest
     else if bytes_eq command (codes "flat") && length rest == 0 then Some (Flat word)
     else if bytes_eq command (codes "loops") then loops_on word rest

@@ -41,6 +41,8 @@ pub struct Rounds {
 pub enum Command<'a> {
     /// Decides the netlist of this file, and does what it is decided for.
     Decide(&'a Name, Options<'a>, Purpose),
+    /// Writes the weakest care models under which the netlist of this file is accepted.
+    Assume(&'a Name, Options<'a>),
     /// Compares the netlist of this file with that of a second one. All wires are observed.
     Equal(&'a Name, &'a Name, Options<'a>),
     /// Writes its flat netlist.

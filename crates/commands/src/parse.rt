@@ -2,7 +2,7 @@
 ghost use Rattle.std.specs.Prelude.{◌≡◌, ◌≤◌, ◌+◌, ◌-◌, ◌*◌, ◌&&◌, bytes_eq, nat_le, true, false, MatchOption, IfSome, None, Some};
 ghost use Rattle.cyc_base.specs.declared.limits.TheConstants.{MAX_NODES as most_nodes};
 ghost use Rattle.commands.specs.Seen.{cells_seen, command_seen, options_seen, purpose_seen, rounds_seen};
-ghost use Rattle.commands.specs.Words.{aiger_on as aiger_asked, cells as cells_asked, command_alone as alone_asked, command_in, command_on as command_asked, decide_on as decide_asked, delays_on as delays_asked, demo_on as demo_asked, equal_on as equal_asked, equal_with as equal_asked_with, encoding_of as encoding_asked, explain_on as explain_asked, flagged as asked_flagged, form_of as form_asked, help_on as help_asked, loops_on as loops_asked, is_digit, is_file_word, no_options as asked_no_options, number_between as number_asked, kind_of as kind_asked, observe_of as observe_asked, options_of as options_asked, probe_of as probe_asked, rounds as rounds_asked, sim_on as sim_asked, storm_on as storm_asked, topic_of as topic_asked, unobserved as asked_unobserved, up_to, with_care as asked_with_care, with_nodes as asked_with_nodes, with_observe as asked_with_observe, with_option as asked_with_option};
+ghost use Rattle.commands.specs.Words.{aiger_on as aiger_asked, assume_on as assume_asked, cells as cells_asked, command_alone as alone_asked, command_in, command_on as command_asked, decide_on as decide_asked, delays_on as delays_asked, demo_on as demo_asked, equal_on as equal_asked, equal_with as equal_asked_with, encoding_of as encoding_asked, explain_on as explain_asked, flagged as asked_flagged, form_of as form_asked, help_on as help_asked, loops_on as loops_asked, is_digit, is_file_word, no_options as asked_no_options, number_between as number_asked, kind_of as kind_asked, observe_of as observe_asked, options_of as options_asked, probe_of as probe_asked, rounds as rounds_asked, sim_on as sim_asked, storm_on as storm_asked, topic_of as topic_asked, unobserved as asked_unobserved, up_to, with_care as asked_with_care, with_nodes as asked_with_nodes, with_observe as asked_with_observe, with_option as asked_with_option};
 
 use crate::command::{Cells, Command, Options, Rounds};
 use crate::encoding::Encoding;
@@ -60,6 +60,9 @@ fn command_on<'a>(command: &[u8], word: &'a Name, rest: &'a [Name]) -> Option<Co
     }
     if command == b"explain".as_slice() {
         return explain_on(word, rest);
+    }
+    if command == b"assume".as_slice() {
+        return assume_on(word, rest);
     }
     if command == b"equal".as_slice() {
         return equal_on(word, rest);
@@ -173,6 +176,16 @@ fn is_flag(word: &[u8], flag: &[u8]) -> bool
     ensures { result ≡ bytes_eq word.now flag.now }
 {
     word == flag
+}
+
+// An assumption is looked for with the options of a decision.
+#[tactic(auto, using(crate::proofs::WordLemmas::assume_asked, crate::proofs::WordLemmas::assume_not_asked))]
+fn assume_on<'a>(file: &'a Name, rest: &'a [Name]) -> Option<Command<'a>>
+    ensures { MatchOption result (assume_asked file.now rest.now ≡ None)
+        (λ asked. assume_asked file.now rest.now ≡ Some (command_seen asked)) }
+{
+    let options = options_of(no_options(), rest)?;
+    Some(Command::Assume(file, options))
 }
 
 // Loops are told as lines, or as a graph.
@@ -320,6 +333,8 @@ fn topic_of(word: &[u8]) -> Option<Topic>
         Some(Topic::Aiger)
     } else if word == b"explain".as_slice() {
         Some(Topic::Explain)
+    } else if word == b"assume".as_slice() {
+        Some(Topic::Assume)
     } else if word == b"equal".as_slice() {
         Some(Topic::Equal)
     } else if word == b"flat".as_slice() {

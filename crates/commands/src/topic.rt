@@ -5,6 +5,7 @@ pub enum Topic {
     Rewrite,
     Aiger,
     Explain,
+    Assume,
     Equal,
     Flat,
     Loops,

@@ -8,8 +8,8 @@ use Rattle.cyc_base.specs.Values.{bits}
 use Rattle.care_sets.specs.Care.{CareSet}
 use Rattle.commands.specs.declared.form.Form.{Form}
 use Rattle.commands.specs.declared.form.Form.TheVariants.{Lines, Dot}
-use Rattle.dot_text.specs.Dot.{labelled_graph}
 use Rattle.dot_text.specs.ExplanationGraphs.{explanation_graph}
+use Rattle.dot_text.specs.RefusalGraphs.{refusal_graph}
 use Rattle.explanations.specs.declared.explanation.Explanation.{Explanation}
 use Rattle.netlist.specs.Fixpoint.{fix}
 use Rattle.netlist.specs.declared.parts.Parts.{Parts}
@@ -88,15 +88,15 @@ abbrev pub loops_explained : Form → Parts → CareSet → Option ℕ → List 
 loops_explained Lines net care loose = accepted_text net (count_of_loops net) loose ++ told_loops net (sweeps_needed net care)
 loops_explained Dot net care loose = told_graph net (accepted_text net (count_of_loops net) loose) (sweeps_needed net care)
 
--- a refusal without more, or a graph that has it as its label
+-- a refusal without more, or a graph that has its first words as the label
 abbrev pub refusal_shown : Form → Parts → Refusal → List ℕ
 refusal_shown Lines net refused = refusal_text net refused
-refusal_shown Dot net refused = labelled_graph (refusal_text net refused) []
+refusal_shown Dot net refused = refusal_graph net refused
 
 -- a wire that is undetermined at a vector, with why
 abbrev pub wire_explained : Form → Parts → List Bool → Sig → Explanation → List ℕ
 wire_explained Lines net v wire why = refusal_text net (Undetermined v wire) ++ explanation_text net why
-wire_explained Dot net v wire why = explanation_graph net (refusal_text net (Undetermined v wire)) (fix net (bits v)) why
+wire_explained Dot net v wire why = explanation_graph net wire (fix net (bits v)) why
 
 abbrev pub accepted_told : Decision → Purpose → Ending
 accepted_told decision Judges = Prints (accepted_text decision.net (count_of_loops decision.net) (loose_told decision))

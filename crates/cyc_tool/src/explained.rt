@@ -1,12 +1,10 @@
 // Why a refused wire is undetermined, and what is told of the loops of an accepted netlist.
-ghost use Rattle.std.specs.Prelude.{◌≡◌, ◌≢◌, ◌<◌, [], length, IfOk, IfSome, IfNone};
+ghost use Rattle.std.specs.Prelude.{◌≡◌, ◌≢◌, ◌<◌, length, IfOk, IfSome, IfNone};
 ghost use Rattle.care_sets.specs.Care.{CareSet};
 ghost use Rattle.commands.specs.declared.form.Form.TheVariants.{Dot, Lines};
 ghost use Rattle.cyc_base.specs.declared.trit.Trit.TheVariants.{X};
 ghost use Rattle.cyc_base.specs.Values.{bits};
 ghost use Rattle.accepted_loops.specs.Graphs.{told_graph};
-ghost use Rattle.dot_text.specs.Dot.{labelled_graph};
-ghost use Rattle.dot_text.specs.ExplanationGraphs.{explanation_graph};
 ghost use Rattle.explanations.specs.Explained.{Explains};
 ghost use Rattle.rewriting.specs.Rewriting.{sweeps_needed};
 ghost use Rattle.loops.specs.Sweeps.{gate_of};
@@ -23,12 +21,12 @@ ghost use Rattle.cyc_tool.specs.Seen.{IsRefusalExplained, outcome_of};
 
 use crate::outcome::Outcome;
 use crate::status;
-use crate::texts::{accepted_line, on_out, put_accepted_line, refusal_of, tell_refused};
+use crate::texts::{accepted_line, on_out, put_accepted_line, tell_refused};
 use accepted_loops::{tell_loops, tell_loops_graph};
 use commands::Form;
 use cyc_base::Sig;
 use cyc_io::TextSink;
-use dot_text::{put_label_graph, tell_explanation_graph};
+use dot_text::{put_refusal_graph, tell_explanation_graph};
 use explanations::{Explanation, explain};
 use fixpoint::SweepCounts;
 use loops::LoopedNetlist;
@@ -65,25 +63,7 @@ fn tell_explanation(
     }
 }
 
-// The graph of an explanation, with this text as its label.
-fn tell_labelled(
-    alloc: Global,
-    refused: &RefusedWire<'_>,
-    why: &Explanation,
-    label: &[u8],
-) -> Result<Outcome, AllocError>
-    requires valid { IsNetlist refused.now.looped.now.net }
-    requires why { IsExplanationOf refused.now.looped.now.net why.now }
-    requires some { 0 < length why.now.cycle }
-    ensures { IfOk result (λ told. outcome_of told ≡ done (Refuses (explanation_graph refused.now.looped.now.net label.now
-        (fix refused.now.looped.now.net (bits refused.now.vector.now)) why.now))) }
-{
-    let mut sink = TextSink::new(alloc);
-    tell_explanation_graph(alloc, refused.looped, refused.vector, why, label, &mut sink)?;
-    Ok(on_out(alloc, status::REFUSED, sink.into_vec()))
-}
-
-// The same with the refusal as its label.
+// A refusal with an explanation as a graph.
 fn draw_explanation(
     alloc: Global,
     refused: &RefusedWire<'_>,
@@ -94,8 +74,16 @@ fn draw_explanation(
     requires some { 0 < length why.now.cycle }
     ensures { IfOk result (λ told. outcome_of told ≡ done (Refuses (wire_explained Dot refused.now.looped.now.net refused.now.vector.now refused.now.wire why.now))) }
 {
-    let label = refusal_of(alloc, refused.looped.net(), refused.refusal)?;
-    tell_labelled(alloc, refused, why, &label)
+    let mut sink = TextSink::new(alloc);
+    tell_explanation_graph(
+        alloc,
+        refused.looped,
+        refused.vector,
+        refused.wire,
+        why,
+        &mut sink,
+    )?;
+    Ok(on_out(alloc, status::REFUSED, sink.into_vec()))
 }
 
 // A refused wire, with why.
@@ -116,23 +104,16 @@ fn tell_why(
     }
 }
 
-// A graph that has this text as its label alone.
-fn tell_label(alloc: Global, label: &[u8]) -> Result<Outcome, AllocError>
-    ensures { IfOk result (λ told. outcome_of told ≡ done (Refuses (labelled_graph label.now []))) }
-{
-    let mut sink = TextSink::new(alloc);
-    match put_label_graph(label, &mut sink) {
-        Ok(()) => Ok(on_out(alloc, status::REFUSED, sink.into_vec())),
-        Err(_) => Err(AllocError),
-    }
-}
-
+// A refusal as a graph.
 fn draw_refused(alloc: Global, net: &Netlist, refusal: &Refusal) -> Result<Outcome, AllocError>
     requires { IsRefusalOf net.now refusal.now }
     ensures { IfOk result (λ told. outcome_of told ≡ done (Refuses (refusal_shown Dot net.now refusal.now))) }
 {
-    let label = refusal_of(alloc, net, refusal)?;
-    tell_label(alloc, &label)
+    let mut sink = TextSink::new(alloc);
+    match put_refusal_graph(net, refusal, &mut sink) {
+        Ok(()) => Ok(on_out(alloc, status::REFUSED, sink.into_vec())),
+        Err(_) => Err(AllocError),
+    }
 }
 
 // A refusal without an explanation.
@@ -161,7 +142,7 @@ fn explanation_of(
 {
     let net = refused.looped.net();
     let gate = refused.wire.0 - net.columns();
-    explain(alloc, net, refused.vector, gate)
+    explain(alloc, net, refused.vector, &[], gate)
 }
 
 // A refused wire, with why it is undetermined, as lines or as a graph.

@@ -181,11 +181,7 @@ pub(crate) fn accepted_line(
 }
 
 // The text of a refusal.
-pub(crate) fn refusal_of(
-    alloc: Global,
-    net: &Netlist,
-    refusal: &Refusal,
-) -> Result<Vec<u8>, AllocError>
+fn refusal_of(alloc: Global, net: &Netlist, refusal: &Refusal) -> Result<Vec<u8>, AllocError>
     requires { IsRefusalOf net.now refusal.now }
     ensures { IfOk result (λ text. text.items ≡ refusal_text net.now refusal.now) }
 {

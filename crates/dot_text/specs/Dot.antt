@@ -1,4 +1,4 @@
--- Nodes and wires in the DOT language of Graphviz.
+-- Nodes, wires, boxes and labels in the DOT language of Graphviz.
 use Rattle.std.specs.Prelude.{ℕ, List, [], ◌∷◌, ◌++◌, ◌==◌, codes, decimal, if◌then◌else◌}
 use Rattle.std.specs.List.{flat_map}
 
@@ -23,6 +23,16 @@ node number opens name closes = (codes "  s" ++ decimal number) ++ (opens ++ (qu
 -- a wire from one signal to the gate of another
 abbrev pub wire : ℕ → ℕ → List ℕ → List ℕ
 wire from to style = (codes "  s" ++ decimal from) ++ ((codes " -> s" ++ decimal to) ++ style)
+
+-- A box beside the node of this number, with an arrow to it. Its text stands between what opens the label and what closes it.
+abbrev pub box_opens : ℕ → List ℕ
+box_opens number = (codes "  v" ++ decimal number) ++ codes " [shape=box, label=\""
+
+abbrev pub box_closes : ℕ → List ℕ
+box_closes number = (codes "\"];\n  v" ++ decimal number) ++ ((codes " -> s" ++ decimal number) ++ codes ";\n")
+
+abbrev pub box : ℕ → List ℕ → List ℕ
+box number text = box_opens number ++ (quoted text ++ box_closes number)
 
 -- a graph with this text as its label
 abbrev pub graph_head : List ℕ → List ℕ

@@ -12,7 +12,7 @@ ghost use Rattle.dot_text.specs.ExplanationGraphs.{picture_of};
 ghost use Rattle.dot_text.specs.Marks.{AreMarksOf};
 
 use cyc_base::Trit;
-use explanations::Explanation;
+use explanations::{Explanation, Pin};
 use loops::{LoopedNetlist, mark_all};
 use netlist::Netlist;
 use std::alloc::{AllocError, Global};
@@ -26,13 +26,14 @@ pub(crate) struct Drawing<'a> {
     pub(crate) values: Vec<Trit>,
     /// A gate of the loop that is drawn.
     pub(crate) first: u32,
-    /// The gates beside it that are drawn, by a mark for each gate.
+    /// The gates of the way, which are drawn too, by a mark for each gate.
     pub(crate) way: Vec<bool>,
     /// Those of the cycle.
     pub(crate) cycle: Vec<bool>,
     /// All gates that are drawn.
     pub(crate) gates: Vec<u32>,
-    /// The values of columns that are needed for the cycle, and further ones for the way.
+    /// The values of wires beside the cycle, those of columns that are needed for it, and further ones for the way.
+    pub(crate) sides: &'a [Pin],
     pub(crate) needs: &'a [Trit],
     pub(crate) also: &'a [Trit],
     ghost narrow: { count looped.now.net ≤ 4294967295 },
@@ -42,7 +43,6 @@ pub(crate) struct Drawing<'a> {
     ghost cycle_marked: { length cycle.items ≡ length looped.now.net.gates },
     ghost drawn: { gates.items ≡ filter (λ n. (loops_of looped.now.net).same first n || is_marked way.items n) (gate_numbers looped.now.net) },
     ghost inside: { All (λ n. n < length looped.now.net.gates) gates.items },
-    ghost few: { length needs.now ≤ count looped.now.net },
 }
 
 // Marks these gates, where nothing is marked.
@@ -113,6 +113,7 @@ impl<'a> Drawing<'a> {
             way,
             cycle,
             gates,
+            sides: why.sides.items(),
             needs: why.needs.items(),
             also: why.also.items(),
         })

@@ -9,7 +9,9 @@ mod drawing;
 mod explanation_graph;
 mod loop_graph;
 mod node;
+mod refusal_graph;
 
 pub use explanation_graph::tell_explanation_graph;
 pub use loop_graph::{put_labelled_cluster, put_loops_graph};
-pub use node::{open_graph, put_label_graph};
+pub use node::open_graph;
+pub use refusal_graph::put_refusal_graph;

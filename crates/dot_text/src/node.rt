@@ -1,8 +1,7 @@
 //! Nodes and wires.
 
-ghost use Rattle.std.specs.Prelude.{[]};
 ghost use Rattle.cyc_io.specs.Taken.{IsAppended, sink_call};
-ghost use Rattle.dot_text.specs.Dot.{graph_head, labelled_graph, node, quoted as quoted_text, quoted_byte, wire};
+ghost use Rattle.dot_text.specs.Dot.{box_closes, box_opens, graph_head, node, quoted as quoted_text, quoted_byte, wire};
 
 use cyc_base::Sig;
 use cyc_io::{Failed, Sink, put_numbered, write_whole};
@@ -31,6 +30,23 @@ pub(crate) fn put_quoted<K: Sink>(sink: &mut K, text: &[u8]) -> Result<(), Faile
         put_byte(sink, *byte)?;
     }
     Ok(())
+}
+
+// What stands before the text of the box at a signal's node.
+pub(crate) fn open_box<K: Sink>(sink: &mut K, signal: Sig) -> Result<(), Failed>
+    ensures { IsAppended (box_opens signal.0) (sink_call K.put K.faults sink.old sink.new) result }
+{
+    put_numbered(sink, b"  v", signal.0)?;
+    write_whole(sink, b" [shape=box, label=\"")
+}
+
+// And behind it.
+pub(crate) fn close_box<K: Sink>(sink: &mut K, signal: Sig) -> Result<(), Failed>
+    ensures { IsAppended (box_closes signal.0) (sink_call K.put K.faults sink.old sink.new) result }
+{
+    put_numbered(sink, b"\"];\n  v", signal.0)?;
+    put_numbered(sink, b" -> s", signal.0)?;
+    write_whole(sink, b";\n")
 }
 
 // The node of a signal, whose name stands between what opens its label and what closes it.
@@ -69,12 +85,4 @@ pub fn open_graph<K: Sink>(sink: &mut K, label: &[u8]) -> Result<(), Failed>
     write_whole(sink, b"digraph {\n  label=\"")?;
     put_quoted(sink, label)?;
     write_whole(sink, b"\";\n")
-}
-
-/// Appends a graph that has this text as its label, and nothing else. It takes no memory.
-pub fn put_label_graph<K: Sink>(label: &[u8], sink: &mut K) -> Result<(), Failed>
-    ensures { IsAppended (labelled_graph label.now []) (sink_call K.put K.faults sink.old sink.new) result }
-{
-    open_graph(sink, label)?;
-    write_whole(sink, b"}\n")
 }

@@ -14,7 +14,7 @@ use Rattle.netlist.specs.Fixpoint.{wire, fix, gate_value}
 use Rattle.netlist.specs.Netlists.{signal, count, gate_at, gate_sig, no_gate, IsNetlist}
 use Rattle.explanations.specs.Explained.{IsUnknown}
 use Rattle.explanations.specs.Graph.{OpenSways, IsOpenGraph}
-use Rattle.explanations.proofs.HeldLemmas.{fix_at_gate}
+use Rattle.explanations.proofs.ClearedLemmas.{fix_at_gate}
 use Rattle.explanations.proofs.NeedLemmas.{column_is_known, width_of_bits}
 use Rattle.explanations.specs.Matters.{Matters}
 use Rattle.explanations.proofs.MatterLemmas.{unknown_matters}

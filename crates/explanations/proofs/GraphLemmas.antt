@@ -18,7 +18,7 @@ use Rattle.explanations.specs.declared.explanation.Explanation.{Explanation}
 use Rattle.explanations.specs.Explained.{IsUnknown, IsLine, IsOpenCycle, Leads, AreReasons, Explains}
 use Rattle.cyc_base.specs.Values.{bit, bits}
 use Rattle.explanations.specs.Sides.{StandsOpen}
-use Rattle.explanations.proofs.HeldLemmas.{fix_at_gate}
+use Rattle.explanations.proofs.ClearedLemmas.{fix_at_gate}
 use Rattle.cyc_base.specs.declared.trit.Trit.TheVariants.{X}
 use Rattle.netlist.specs.Fixpoint.{wire, fix_gates, fix}
 use Rattle.netlist.proofs.FixpointLemmas.{length-fix_gates}

@@ -2,9 +2,11 @@ pub mod SearchLemmas
 pub mod CycleLemmas
 pub mod MatterLemmas
 pub mod PinLemmas
+pub mod ClearedLemmas
 pub mod HeldLemmas
 pub mod SideLemmas
 pub mod NeedLemmas
 pub mod GraphLemmas
 pub mod EndlessLemmas
 pub mod LawLemmas
+pub mod CycleSideLemmas

@@ -16,7 +16,8 @@ use Rattle.netlist.proofs.FixpointLemmas.{fix_is_monotone}
 use Rattle.explanations.specs.Pins.{MayBe}
 use Rattle.explanations.specs.Held.{is_marked, seen, pin_at, AreUnknownGates, IsHeldOpen, IsGreatestWithin, AreMarked, HoldsOpen}
 use Rattle.explanations.specs.Explained.{IsUnknown, AreNeeded, AreFurther, both, or_else, beyond, HasTriedWithout, IsHolding, IsNeeding, AreAllUnknown}
-use Rattle.explanations.proofs.HeldLemmas.{below_x, fix_at_gate, held_with_more_known, holds_open_with_more}
+use Rattle.explanations.proofs.ClearedLemmas.{below_x, fix_at_gate}
+use Rattle.explanations.proofs.HeldLemmas.{held_with_more_known, holds_open_with_more}
 
 -- ---- all unknown gates, at a vector
 

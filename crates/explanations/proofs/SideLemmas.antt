@@ -205,6 +205,50 @@ kept_side net on cycle n sides none = inr (restored sides n, λ known held. none
 pub leaving_first : (net : Parts) (on : ℕ → Bool) (cycle : List ℕ) (all : List Pin) → HoldsCycle net on all cycle → IsLeavingOut net on cycle 0 all all
 leaving_first net on cycle all h = record { size = refl; fewer = λ s. inr refl; holds = h; each = λ s l. absurd (omega arith) }
 
+-- what is left when one more is out is what was left before, or free
+fewer_after : (all now new : List Pin) (n : ℕ) → new ≡ set now n Free → ((s : ℕ) → (get_or now s Free ≡ Free) ⊎ (get_or now s Free ≡ get_or all s Free)) →
+    (s : ℕ) → (get_or new s Free ≡ Free) ⊎ (get_or new s Free ≡ get_or all s Free)
+fewer_after all now new n is fewer s =
+    elim (cleared-other now n s) [
+      | inl free ↦ inl (ap (λ ps. get_or ps s Free) is ∙ free)
+      | inr same ↦
+          elim (fewer s) [
+            | inl free ↦ inl (ap (λ ps. get_or ps s Free) is ∙ same ∙ free)
+            | inr own ↦ inr (ap (λ ps. get_or ps s Free) is ∙ same ∙ own)
+          ]
+    ]
+
+-- a step at any signal, where nothing is said yet of which can be left out
+pub leaving_any : (net : Parts) (on : ℕ → Bool) (cycle : List ℕ) (n : ℕ) (all now new : List Pin) → IsLeavingOut net on cycle 0 all now → HasLeftOut net on cycle n now new → IsLeavingOut net on cycle 0 all new
+leaving_any net on cycle n all now new h tried =
+    elim tried [
+      | inl out ↦
+          record {
+            size = ap length out.0 ∙ length-set now n Free ∙ h.size;
+            fewer = fewer_after all now new n out.0 h.fewer;
+            holds = out.1;
+            each = λ s l. absurd (omega arith);
+          }
+      | inr kept ↦ subst (λ (ps : List Pin). IsLeavingOut net on cycle 0 all ps) (sym kept.0) h
+    ]
+
+-- one after the other
+pub leaving_on : (net : Parts) (on : ℕ → Bool) (cycle : List ℕ) (n : ℕ) (all now new : List Pin) → IsLeavingOut net on cycle 0 all now → IsLeavingOut net on cycle n now new → IsLeavingOut net on cycle n all new
+leaving_on net on cycle n all now new first later = record {
+  size = later.size ∙ first.size;
+  fewer = λ s.
+      elim (later.fewer s) [
+        | inl free ↦ inl free
+        | inr same ↦
+            elim (first.fewer s) [
+              | inl free ↦ inl (same ∙ free)
+              | inr own ↦ inr (same ∙ own)
+            ]
+      ];
+  holds = later.holds;
+  each = later.each;
+}
+
 pub leaving_next : (net : Parts) (on : ℕ → Bool) (cycle : List ℕ) (n : ℕ) (all now new : List Pin) → IsLeavingOut net on cycle n all now → HasLeftOut net on cycle n now new → IsLeavingOut net on cycle (n + 1) all new
 leaving_next net on cycle n all now new h tried =
     elim tried [
@@ -212,15 +256,7 @@ leaving_next net on cycle n all now new h tried =
           let is : new ≡ set now n Free = out.0 in
           record {
             size = ap length is ∙ length-set now n Free ∙ h.size;
-            fewer = λ s.
-                elim (cleared-other now n s) [
-                  | inl free ↦ inl (ap (λ ps. get_or ps s Free) is ∙ free)
-                  | inr same ↦
-                      elim (h.fewer s) [
-                        | inl free ↦ inl (ap (λ ps. get_or ps s Free) is ∙ same ∙ free)
-                        | inr own ↦ inr (ap (λ ps. get_or ps s Free) is ∙ same ∙ own)
-                      ]
-                ];
+            fewer = fewer_after all now new n is h.fewer;
             holds = out.1;
             each = λ s l known held.
                 elim (cases_eq s n) [

@@ -57,6 +57,7 @@ fn explained(
     net: &Netlist,
     vector: &[bool],
     known: &[Trit],
+    preferred: &[bool],
     found: ShortCycle,
 ) -> Result<Explanation, AllocError>
     requires width { length vector.now ≡ length net.now.inputs + length net.now.latches }
@@ -67,7 +68,7 @@ fn explained(
 {
     let (cycle, way) = found.into_parts();
     let gates = joined(alloc, cycle.items(), way.items())?;
-    let sides = sides(alloc, net, known, cycle.items())?;
+    let sides = sides(alloc, net, known, cycle.items(), preferred)?;
     let needs = needs(alloc, net, vector, cycle.items())?;
     let also = further(alloc, net, vector, &gates, &needs)?;
     Ok(Explanation {
@@ -83,11 +84,13 @@ fn explained(
 ///
 /// The cycle has the fewest gates of those that lead to the gate along pins that matter. The way from it to the gate is
 /// the shortest along such pins. Signals beside the cycle, and columns, are left out in their order, each where the rest
-/// still holds the gates open.
+/// still holds the gates open. `preferred` has a mark for each signal: a side without one, or beyond its end, is left out
+/// before any that has one.
 pub fn explain(
     alloc: Global,
     net: &Netlist,
     vector: &[bool],
+    preferred: &[bool],
     gate: u32,
 ) -> Result<Option<Explanation>, AllocError>
     requires width { length vector.now ≡ length net.now.inputs + length net.now.latches }
@@ -98,7 +101,7 @@ pub fn explain(
     let known = settle_at(alloc, net, vector)?;
     let graph = open_graph(alloc, net, &known)?;
     match shortest_cycle(alloc, &graph, gate)? {
-        Some(found) => Ok(Some(explained(alloc, net, vector, &known, found)?)),
+        Some(found) => Ok(Some(explained(alloc, net, vector, &known, preferred, found)?)),
         None => Ok(None),
     }
 }

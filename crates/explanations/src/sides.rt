@@ -188,12 +188,53 @@ fn leave_all_out(
     Ok(())
 }
 
+/// Leaves out each side that can be left out and isn't one of these, in the order of the signals.
+fn leave_others_out(
+    alloc: Global,
+    net: &Netlist,
+    marks: &[bool],
+    cycle: &[u32],
+    preferred: &[bool],
+    sides: &mut [Pin],
+) -> Result<(), AllocError>
+    requires cycle { All (λ gate. gate < length net.now.gates) cycle.now }
+    requires size { length sides.old ≡ signal_count net.now }
+    requires holds { HoldsCycle net.now (is_marked_in marks.now) sides.old cycle.now }
+    ensures { OnOk result (IsLeavingOut net.now (is_marked_in marks.now) cycle.now 0 sides.old sides.new) }
+{
+    for signal in 0..net.count() {
+        if !is_marked(preferred, signal) {
+            leave_out(alloc, net, marks, cycle, sides, signal)?;
+        }
+    }
+    Ok(())
+}
+
+/// Leaves out each side that can be left out: first of those that aren't preferred.
+fn leave_out_by_preference(
+    alloc: Global,
+    net: &Netlist,
+    marks: &[bool],
+    cycle: &[u32],
+    preferred: &[bool],
+    sides: &mut [Pin],
+) -> Result<(), AllocError>
+    requires cycle { All (λ gate. gate < length net.now.gates) cycle.now }
+    requires size { length sides.old ≡ signal_count net.now }
+    requires holds { HoldsCycle net.now (is_marked_in marks.now) sides.old cycle.now }
+    ensures { OnOk result (IsLeavingOut net.now (is_marked_in marks.now) cycle.now (signal_count net.now) sides.old sides.new) }
+{
+    leave_others_out(alloc, net, marks, cycle, preferred, sides)?;
+    leave_all_out(alloc, net, marks, cycle, sides)
+}
+
 /// The same of sides of its own.
 fn fewest(
     alloc: Global,
     net: &Netlist,
     marks: &[bool],
     cycle: &[u32],
+    preferred: &[bool],
     mut sides: Vec<Pin>,
 ) -> Result<Vec<Pin>, AllocError>
     requires cycle { All (λ gate. gate < length net.now.gates) cycle.now }
@@ -201,12 +242,12 @@ fn fewest(
     requires holds { HoldsCycle net.now (is_marked_in marks.now) sides.items cycle.now }
     ensures { IfOk result (λ fewest. IsLeavingOut net.now (is_marked_in marks.now) cycle.now (signal_count net.now) sides.items fewest.items) }
 {
-    leave_all_out(alloc, net, marks, cycle, &mut sides)?;
+    leave_out_by_preference(alloc, net, marks, cycle, preferred, &mut sides)?;
     Ok(sides)
 }
 
 /// What the signals beside a cycle of unknown gates are, where it is needed to hold the cycle open: none of these can be
-/// left out alone.
+/// left out alone. Those that aren't preferred, by their marks, are left out before those that are.
 ///
 /// It takes a look at each gate of the cycle for each signal beside it, and what `Cover::extend` does at the gates that
 /// read the signal.
@@ -215,6 +256,7 @@ pub(crate) fn sides(
     net: &Netlist,
     known: &[Trit],
     cycle: &[u32],
+    preferred: &[bool],
 ) -> Result<Vec<Pin>, AllocError>
     requires known { length known.now ≡ signal_count net.now }
     requires cycle { All (StandsOpen net.now known.now) cycle.now }
@@ -222,5 +264,5 @@ pub(crate) fn sides(
 {
     let marks = marks_of(alloc, net, cycle)?;
     let all = all_sides(alloc, net, known, &marks)?;
-    fewest(alloc, net, &marks, cycle, all)
+    fewest(alloc, net, &marks, cycle, preferred, all)
 }

@@ -2,7 +2,7 @@
 use Rattle.std.specs.Prelude.{ℕ, List, [], ◌∷◌, ◌++◌, codes}
 use Rattle.std.specs.List.{flat_map}
 use Rattle.commands.specs.declared.topic.Topic.{Topic}
-use Rattle.commands.specs.declared.topic.Topic.TheVariants.{Check, Rewrite, Aiger, Explain, Equal, Flat, Loops, Sim, Delays, Demo, Storm}
+use Rattle.commands.specs.declared.topic.Topic.TheVariants.{Check, Rewrite, Aiger, Explain, Assume, Equal, Flat, Loops, Sim, Delays, Demo, Storm}
 
 -- the program's version, and the kit that it is proved with
 abbrev pub version_text : List ℕ
@@ -10,7 +10,7 @@ version_text = codes "cyc 1.0.0\nproved with rattle-kit-13f logic dac8208d650f15
 
 -- the commands, in the order in which help tells of them
 unfoldable pub topics : List Topic
-topics = Check ∷ Rewrite ∷ Aiger ∷ Explain ∷ Equal ∷ Flat ∷ Loops ∷ Sim ∷ Delays ∷ Demo ∷ Storm ∷ []
+topics = Check ∷ Rewrite ∷ Aiger ∷ Explain ∷ Assume ∷ Equal ∷ Flat ∷ Loops ∷ Sim ∷ Delays ∷ Demo ∷ Storm ∷ []
 
 -- a command's name, its files and its options
 abbrev pub words_of : Topic → List ℕ
@@ -18,6 +18,7 @@ words_of Check = codes "check FILE [--care CARE] [--nodes N] [--observe all|outp
 words_of Rewrite = codes "rewrite FILE [--care CARE] [--nodes N] [--observe all|outputs]"
 words_of Aiger = codes "aiger FILE [--care CARE] [--nodes N] [--observe all|outputs] [--binary]"
 words_of Explain = codes "explain FILE [--care CARE] [--nodes N] [--observe all|outputs] [--dot]"
+words_of Assume = codes "assume FILE [--care CARE] [--nodes N] [--observe all|outputs]"
 words_of Equal = codes "equal FILE FILE [--care CARE] [--nodes N]"
 words_of Flat = codes "flat FILE"
 words_of Loops = codes "loops FILE [--dot]"
@@ -32,6 +33,7 @@ purpose_of Check = codes "says that each loop is harmless within care, or prints
 purpose_of Rewrite = codes "writes an accepted netlist without loops, with the same outputs at every tick within care"
 purpose_of Aiger = codes "writes an accepted netlist as an and-inverter graph without loops, in AIGER's ASCII or binary form"
 purpose_of Explain = codes "does as check, and shows what leaves a refused wire unknown, or what each accepted loop needs"
+purpose_of Assume = codes "writes the weakest care file, within CARE, under which the netlist is accepted"
 purpose_of Equal = codes "says that two netlists have the same outputs and latches at every tick within care, or prints what differs"
 purpose_of Flat = codes "writes the netlist without its hierarchy"
 purpose_of Loops = codes "prints the loops and the wires that cut them open, with --dot as a graph for Graphviz"

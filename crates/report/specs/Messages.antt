@@ -17,5 +17,9 @@ limit_text limit = codes "node limit " ++ (decimal limit ++ codes " reached\n")
 abbrev pub too_large_text : ℕ → List ℕ
 too_large_text size = codes "too large " ++ (decimal size ++ codes "\n")
 
+-- an assumption of more rows than these
+abbrev pub too_many_rows_text : ℕ → List ℕ
+too_many_rows_text most = codes "over " ++ (decimal most ++ codes " rows\n")
+
 abbrev pub no_memory_text : List ℕ
 no_memory_text = codes "no memory\n"

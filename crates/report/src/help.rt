@@ -20,6 +20,7 @@ fn topics() -> &'static [Topic]
         Topic::Rewrite,
         Topic::Aiger,
         Topic::Explain,
+        Topic::Assume,
         Topic::Equal,
         Topic::Flat,
         Topic::Loops,
@@ -84,6 +85,7 @@ fn words(topic: Topic) -> &'static [u8]
         Topic::Rewrite => b"rewrite FILE [--care CARE] [--nodes N] [--observe all|outputs]",
         Topic::Aiger => b"aiger FILE [--care CARE] [--nodes N] [--observe all|outputs] [--binary]",
         Topic::Explain => b"explain FILE [--care CARE] [--nodes N] [--observe all|outputs] [--dot]",
+        Topic::Assume => b"assume FILE [--care CARE] [--nodes N] [--observe all|outputs]",
         Topic::Equal => b"equal FILE FILE [--care CARE] [--nodes N]",
         Topic::Flat => b"flat FILE",
         Topic::Loops => b"loops FILE [--dot]",
@@ -107,6 +109,8 @@ fn purpose(topic: Topic) -> &'static [u8]
             b"writes an accepted netlist as an and-inverter graph without loops, in AIGER's ASCII or binary form",
         Topic::Explain =>
             b"does as check, and shows what leaves a refused wire unknown, or what each accepted loop needs",
+        Topic::Assume =>
+            b"writes the weakest care file, within CARE, under which the netlist is accepted",
         Topic::Equal =>
             b"says that two netlists have the same outputs and latches at every tick within care, or prints what differs",
         Topic::Flat => b"writes the netlist without its hierarchy",

@@ -19,6 +19,8 @@ pub use fault::{Tail, put_fault, put_file_fault};
 pub use fault_code::FaultCode;
 pub use help::{put_help, put_topic, put_version};
 pub use loop_text::{put_loop, put_loops};
-pub use message::{NO_MEMORY_TEXT, USAGE_TEXT, put_limit, put_read_failed, put_too_large};
+pub use message::{
+    NO_MEMORY_TEXT, USAGE_TEXT, put_limit, put_read_failed, put_too_large, put_too_many_rows,
+};
 pub use tick::{put_played_tick, put_tick};
 pub use verdict::{put_accepted, put_refusal, put_ring, put_vector};

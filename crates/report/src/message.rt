@@ -1,6 +1,6 @@
 // What a call tells where there is no result.
 ghost use Rattle.cyc_io.specs.Taken.{IsAppended, sink_call};
-ghost use Rattle.report.specs.Messages.{read_failed_text, limit_text, too_large_text};
+ghost use Rattle.report.specs.Messages.{read_failed_text, limit_text, too_large_text, too_many_rows_text};
 
 use cyc_base::Name;
 use cyc_io::{Failed, Sink, put_number_between, put_two};
@@ -30,4 +30,11 @@ pub fn put_too_large<K: Sink>(size: u64, sink: &mut K) -> Result<(), Failed>
     ensures { IsAppended (too_large_text size) (sink_call K.put K.faults sink.old sink.new) result }
 {
     put_number_between(sink, b"too large ", size, b"\n")
+}
+
+/// Appends what is told where an assumption would have more rows than these. It takes no memory.
+pub fn put_too_many_rows<K: Sink>(most: u32, sink: &mut K) -> Result<(), Failed>
+    ensures { IsAppended (too_many_rows_text most) (sink_call K.put K.faults sink.old sink.new) result }
+{
+    put_number_between(sink, b"over ", most, b" rows\n")
 }

@@ -143,7 +143,7 @@ fn is_explained_by(
     if vector.len() != net.columns() as usize {
         return Err(Fail::from("another width"));
     }
-    match explain(alloc, net, vector, gate)? {
+    match explain(alloc, net, vector, &[], gate)? {
         Some(why) => Ok(is_answer(&why, number)),
         None => Ok(number == CASES - 1),
     }

@@ -4,6 +4,11 @@ use Rattle.clause_decision.proofs.Common.{IfOk-weaker, Parts, CareSet, columns, 
 use Rattle.clause_decision.proofs.SweepingLemmas.{first-needed, vector-needed}
 use Rattle.clause_decision.proofs.counting.first_needed.Goals as goal
 
+pub returns-then-cut_count-first : goal.returns-then-cut_count-first
+returns-then-cut_count-first c =
+    let l : LoopAt = c.args.block.now in
+    grind (arith, first-needed l c.cut_count.ensures.is c.args.care.now c.args.sign c.requires.serves)
+
 pub returns-then-not-branch : goal.returns-then-not-branch
 returns-then-not-branch c =
     let l : LoopAt = c.args.block.now in

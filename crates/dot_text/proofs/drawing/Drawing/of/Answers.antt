@@ -35,11 +35,8 @@ invariant_of-result-clause-inside c =
     subst P (sym c.in_ok-gates.ensures)
     (kept_inside net (λ n. (loops_of net).same (slice_index c.items.result.now 0) n || is_marked c.deref.result.now n))
 
-pub invariant_of-result-clause-few : goal.invariant_of-result-clause-few
-invariant_of-result-clause-few c = grind arith
-
 pub returns : goal.returns
 returns c =
     let net = c.args.looped.now.net in
     let why = c.args.why.now in
-    grind (arith, picture_is net c.in_ok-values.values.items why (slice_index c.items.result.now 0) c.in_ok-way.way.items c.in_ok-cycle.cycle.items c.items-4.result.now c.items-5.result.now)
+    grind (arith, picture_is net c.in_ok-values.values.items why (slice_index c.items.result.now 0) c.in_ok-way.way.items c.in_ok-cycle.cycle.items c.items-4.result.now c.items-5.result.now c.items-6.result.now)

@@ -1,0 +1,6 @@
+use Rattle.explanations.specs.Held.{is_marked}
+use Rattle.explanations.specs.Sides.{IsLeavingOut}
+use Rattle.explanations.proofs.sides.leave_others_out.Given as goal
+
+abbrev pub invariant-loop-signal : goal.invariant-loop-signal
+invariant-loop-signal l = IsLeavingOut l.net (is_marked l.marks) l.cycle 0 l.initial.sides l.sides
