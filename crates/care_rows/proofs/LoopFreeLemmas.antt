@@ -1,4 +1,5 @@
--- The model has no loop: what is kept of the netlist reads such gates alone, and so does what is kept of the assumption, and a gate that tells reads earlier ones.
+-- The model has no loop: what is kept of the netlist reads such gates alone, and so does what is kept of the assumption,
+-- and a gate that tells reads earlier ones.
 use Rattle.std.proofs.Common.{◌≡◌, inl, inr, ℕ, zero, suc, ◌+◌, ◌*◌, ◌-◌, ◌<◌, ◌≤◌, List, [], ◌∷◌, ◌++◌, length, map, drop, get_or, All, Contains, Option, Some, None, true, refl, sym, ap, ◌∙◌, subst, arith}
 use Rattle.care_rows.proofs.Common.{All-append, All-cons, All-from_recursion, All-map, All-nil, AllByRecursion, Feeds, Gate, IsLoopFree, IsSignal, Parts, Plan, Row, Sig, Walk, WireValue, all_marked, and_gate, assumed_output, assumed_signal, assumed_size, base_of, cases_lt, columns, conditions, first_assumed, gate_at, gate_sig, get_or-append_right, get_or-map, get_or-map-range_with_len, get_or_append_left, inputs_of, length-append, length-map, link, linked_piece, model_of, moved, no_gate, piece, placed_row, recursion_from_All, row_gates, row_outputs, signal, table_of, telling, telling_gates, telling_gates_of, telling_name, telling_of_rows, total_of, wire_value, rank}
 use Rattle.std.proofs.lemmas.List.Elements.{All-drop, All-take}

@@ -6,7 +6,8 @@ use Rattle.cyc_base.proofs.ListLemmas.{map-map}
 use Rattle.loops.proofs.Reading.{map_agree}
 use Rattle.netlist.proofs.FixpointLemmas.{fix_is_reached, get_or-step}
 
--- Of the signals in a set each column is a column there, and each gate, with its pins in the set, one of its cover that reads what these are there.
+-- Of the signals in a set each column is a column there, and each gate, with its pins in the set, one of its cover that
+-- reads what these are there.
 pub record Stands (small big : Parts) (set : Sig → Type 0) (at : Sig → Sig) (place : ℕ → ℕ) : Type 0 where
   pub column : (s : Sig) → s.0 < columns small → set s → (at s).0 < columns big
   pub closed : (n : ℕ) → n < length small.gates → set (gate_sig small n) → All set (gate_at small n).pins

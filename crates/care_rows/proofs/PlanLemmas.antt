@@ -18,7 +18,8 @@ pub record IsOldOf (p : Plan) (old : Parts) : Type 0 where
   pub loop_free : IsLoopFree old
   pub inputs : length p.assumed ≡ length old.inputs
 
--- With each gate that is kept all is that it reads, and so are the wires of the rows and the columns of the assumption. No such gate is on a loop.
+-- With each gate that is kept all is that it reads, and so are the wires of the rows and the columns of the assumption.
+-- No such gate is on a loop.
 pub record Fits (p : Plan) : Type 0 where
   pub valid : IsNetlist p.net
   pub used_width : length p.used ≡ columns p.net
