@@ -28,8 +28,17 @@ fn vector(alloc: Global, columns: &[u32], model: &[bool]) -> Result<Vec<bool>, A
     columns.iter().map(|c| value_of(model, *c)).collect(alloc)
 }
 
-// So many conflicts are spent at most on whether several columns can be at 0 together.
+// So many conflicts are spent at most on whether several columns can be at 0 together, and on a model that is least.
 const CONFLICTS_OF_SEVERAL: u64 = 200;
+
+// What is known of the columns to come.
+#[derive(Clone, Copy)]
+enum Rest {
+    // The last model has them as low as can be, as the solver decided them in their order, and at 0.
+    Least,
+    // The last time, so many of them could be at 0 together.
+    Several(usize),
+}
 
 // The negations of some literals.
 fn negations(alloc: Global, literals: &[u32]) -> Result<Vec<u32>, AllocError>
@@ -79,9 +88,52 @@ impl Query {
         }
     }
 
-    // Where the first of the columns to come is at 1, looks for a model of what is fixed that has several of them at 0:
-    // twice as many as the last time, or half of that, and so on. It tells how many it found.
-    fn lower(
+    // Looks for a model of what is fixed, and takes it for the last one. It tells whether there is one; soon it gives up.
+    fn try_fixed(
+        &mut self,
+        alloc: Global,
+        fixed: &[u32],
+        model: &mut Vec<bool>,
+        conflicts: u64,
+    ) -> Result<bool, AllocError>
+        requires fixed { IsWithin self.old.variables fixed.now }
+        ensures unchanged { self.new ≡ self.old }
+        ensures model { IfOk result (λ _. IsModelUnder self.old fixed.now model.old.items → IsModelUnder self.old fixed.now model.new.items) }
+    {
+        match self.ask(alloc, fixed, conflicts.min(CONFLICTS_OF_SEVERAL))? {
+            Reply::Model(other) => {
+                *model = other;
+                Ok(true)
+            }
+            Reply::NoModel => Ok(false),
+            Reply::Unknown => Ok(false),
+        }
+    }
+
+    // Looks for a model of what is fixed by deciding these columns first, in their order and at 0, and takes it for the last
+    // one. It tells whether there is one; soon it gives up.
+    fn try_least(
+        &mut self,
+        alloc: Global,
+        fixed: &[u32],
+        model: &mut Vec<bool>,
+        columns: &[u32],
+        conflicts: u64,
+    ) -> Result<bool, AllocError>
+        requires fixed { IsWithin self.old.variables fixed.now }
+        ensures unchanged { self.new ≡ self.old }
+        ensures model { IfOk result (λ _. IsModelUnder self.old fixed.now model.old.items → IsModelUnder self.old fixed.now model.new.items) }
+    {
+        let low = negations(alloc, columns)?;
+        self.prefer(alloc, &low)?;
+        let is_found = self.try_fixed(alloc, fixed, model, conflicts)?;
+        self.prefer(alloc, &[])?;
+        Ok(is_found)
+    }
+
+    // Looks for a model of what is fixed that has several of the columns at 0: twice as many as the last time, or half of
+    // that, and so on. It tells how many it found.
+    fn lower_several(
         &mut self,
         alloc: Global,
         fixed: &[u32],
@@ -95,9 +147,6 @@ impl Query {
         ensures unchanged { self.new ≡ self.old }
         ensures model { IfOk result (λ _. IsModelUnder self.old fixed.now model.old.items → IsModelUnder self.old fixed.now model.new.items) }
     {
-        if !is_first_high(columns, model) {
-            return Ok(last);
-        }
         let mut count = last.saturating_mul(2).min(columns.len());
         while count > 1 {
             if self.try_low(alloc, fixed, model, &columns[..count], conflicts)? {
@@ -106,6 +155,37 @@ impl Query {
             count /= 2;
         }
         Ok(1)
+    }
+
+    // Where the first of the columns to come is at 1, and the last model isn't known to be least, looks for a lower one of what
+    // is fixed.
+    fn lower(
+        &mut self,
+        alloc: Global,
+        fixed: &[u32],
+        model: &mut Vec<bool>,
+        columns: &[u32],
+        rest: Rest,
+        conflicts: u64,
+    ) -> Result<Rest, AllocError>
+        requires fixed { IsWithin self.old.variables fixed.now }
+        requires columns { IsWithin self.old.variables columns.now }
+        ensures unchanged { self.new ≡ self.old }
+        ensures model { IfOk result (λ _. IsModelUnder self.old fixed.now model.old.items → IsModelUnder self.old fixed.now model.new.items) }
+    {
+        match rest {
+            Rest::Least => Ok(Rest::Least),
+            Rest::Several(last) => {
+                if !is_first_high(columns, model) {
+                    return Ok(rest);
+                }
+                if last > 1 && self.try_least(alloc, fixed, model, columns, conflicts)? {
+                    return Ok(Rest::Least);
+                }
+                let count = self.lower_several(alloc, fixed, model, columns, last, conflicts)?;
+                Ok(Rest::Several(count))
+            }
+        }
     }
 
     // Fixes one more column as low as what is fixed permits: at 0 where the last model has 0 or a new one has, and else
@@ -156,9 +236,9 @@ impl Query {
         ensures unchanged { self.new ≡ self.old }
         ensures fixed { IfOk result (λ are_fixed. are_fixed ≡ true → (assumptions : List ℕ) → IsFixed self.old assumptions [] fixed.old.items model.old.items → IsFixed self.old assumptions columns.now fixed.new.items model.new.items) }
     {
-        let mut several = 1;
+        let mut rest = Rest::Several(2);
         for place in 0..columns.len() {
-            several = self.lower(alloc, fixed, model, &columns[place..], several, conflicts)?;
+            rest = self.lower(alloc, fixed, model, &columns[place..], rest, conflicts)?;
             if !self.fix_column(alloc, fixed, model, columns[place], conflicts)? {
                 return Ok(false);
             }

@@ -186,4 +186,12 @@ impl Query {
             Answer::Unknown => Ok(Reply::Unknown),
         }
     }
+
+    // Literals that are tried first from now on: the solver decides them in their order, and true.
+    pub(crate) fn prefer(&mut self, alloc: Global, literals: &[u32]) -> Result<(), AllocError>
+        ensures { self.new ≡ self.old }
+    {
+        let lits = lits_of(alloc, literals)?;
+        self.solver.prefer(&lits)
+    }
 }

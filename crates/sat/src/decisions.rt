@@ -5,7 +5,7 @@ ghost use Rattle.sat.specs.Values.{value_of};
 ghost use Rattle.sat.specs.Decisions.{IsNext};
 
 use crate::lit::Lit;
-use crate::queue::{Queue, next_open};
+use crate::queue::{Queue, next_open, next_preferred};
 use crate::trail::{NONE, Trail, is_open, is_true, phase_of};
 
 /// What the search is to do where no clause forces anything.
@@ -33,6 +33,19 @@ fn next_assumption(trail: &Trail, assumptions: &[Lit]) -> Option<Lit>
     None
 }
 
+/// The first preferred literal that is open.
+fn next_choice(trail: &Trail, queue: &mut Queue) -> Option<Lit>
+    ensures { IfSome result (λ l. value_of trail.now.values.items l ≡ Open) }
+{
+    for _ in 0..queue.preferred.as_slice().len() {
+        let lit = next_preferred(queue)?;
+        if is_open(trail, lit) {
+            return Some(lit);
+        }
+    }
+    None
+}
+
 /// An open variable with its last value.
 #[tactic(auto, using(crate::proofs::ValueLemmas::open_variable))]
 fn next_variable(trail: &Trail, queue: &mut Queue) -> Option<Lit>
@@ -49,7 +62,10 @@ fn next_beyond(trail: &Trail, queue: &mut Queue) -> Option<Lit>
     if trail.assumed == NONE {
         return None;
     }
-    next_variable(trail, queue)
+    match next_choice(trail, queue) {
+        Some(lit) => Some(lit),
+        None => next_variable(trail, queue),
+    }
 }
 
 /// The first assumption that isn't true, or else a variable that is open. Assumptions are looked at where they don't seem to

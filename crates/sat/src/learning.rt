@@ -43,7 +43,7 @@ pub(crate) fn keep_learned(
     let glue = glue_of(search, &working.lits);
     let merit = of_learned(&search.merits, glue);
     back_to(search, pair.level);
-    watch_clause(search, number, &pair, merit)?;
+    watch_clause(search, number, &working.lits, &pair, merit)?;
     assign(&mut search.trail, pair.first, number)?;
     Ok(())
 }
@@ -92,7 +92,7 @@ pub(crate) fn restore(
     let clause = formula.clause(number);
     database.push(clause)?;
     let pair = best_pair(&search.trail, clause);
-    watch_clause(search, last, &pair, GIVEN)?;
+    watch_clause(search, last, clause, &pair, GIVEN)?;
     Ok(last)
 }
 
@@ -117,7 +117,7 @@ fn keep_unit(
         glue: 1,
         score: 0.0,
     };
-    watch_clause(search, number, &alone, merit)?;
+    watch_clause(search, number, &working.lits, &alone, merit)?;
     set_reason(&mut search.trail, lit, number);
     Ok(())
 }
@@ -207,7 +207,7 @@ fn keep_reason(
     let number = keep(database, &working.lits)?;
     let pair = best_pair(&search.trail, &working.lits);
     let merit = of_learned(&search.merits, NONE);
-    watch_clause(search, number, &pair, merit)?;
+    watch_clause(search, number, &working.lits, &pair, merit)?;
     set_reason(&mut search.trail, lit, number);
     Ok(())
 }

@@ -3,31 +3,42 @@ ghost use Rattle.sat.specs.Values.{open_count};
 
 use crate::clauses::Clauses;
 use crate::lit::Lit;
-use crate::tables::{at, put};
+use crate::tables::{at, put, short};
 use crate::trail::{NONE, Trail, assign, is_false, level_of, seems_true, value};
 use crate::values::Truth;
 use std::alloc::{AllocError, Global};
 use std::mem;
 
-/// A clause that watches a literal, and another literal of it: where that is true, the clause forces nothing.
+/// Where the copy of a clause begins that watches a literal, and another literal of it: where that is true, the clause forces
+/// nothing.
 #[derive(Clone, Copy)]
 struct Watch {
-    clause: u32,
+    place: u32,
     blocker: Lit,
 }
 
 const NO_WATCH: Watch = Watch {
-    clause: NONE,
+    place: NONE,
     blocker: Lit { code: NONE },
 };
 
+/// A clause of two literals, and the one that becomes true where the other is false.
+#[derive(Clone, Copy)]
+struct Implied {
+    clause: u32,
+    lit: Lit,
+}
+
 /// Two literals of each clause, by which it is seen when it forces one (Moskewicz et al. 2001). All of it is hints.
 pub(crate) struct Watches {
-    /// The watches of each literal.
+    /// The watches of each literal in clauses of three literals or more.
     lists: Vec<Vec<Watch>>,
-    /// Of each clause the exclusive or of its two watched literals: with the one it gives the other.
-    pairs: Vec<u32>,
-    /// Those of the literal that is gone through.
+    /// Of each literal the clauses of two that it is in.
+    implied: Vec<Vec<Implied>>,
+    /// The clauses that are watched once more, so that what is read of one lies together: its number, where its copy ends,
+    /// and the codes of its literals, of which the first two are watched.
+    copies: Vec<u32>,
+    /// The watches of the literal that is gone through.
     current: Vec<Watch>,
 }
 
@@ -35,7 +46,8 @@ impl Drop for Watches {
     fn drop(self) {
         let Watches {
             lists: _,
-            pairs: _,
+            implied: _,
+            copies: _,
             current: _,
         } = self;
     }
@@ -46,7 +58,8 @@ impl Watches {
     pub(crate) fn new(alloc: Global) -> Watches {
         Watches {
             lists: Vec::new(alloc),
-            pairs: Vec::new(alloc),
+            implied: Vec::new(alloc),
+            copies: Vec::new(alloc),
             current: Vec::new(alloc),
         }
     }
@@ -61,24 +74,30 @@ pub(crate) fn widen(
     for _ in watches.lists.as_slice().len()..variables.saturating_mul(2) {
         watches.lists.push(Vec::new(alloc))?;
     }
+    for _ in watches.implied.as_slice().len()..variables.saturating_mul(2) {
+        watches.implied.push(Vec::new(alloc))?;
+    }
     Ok(())
 }
 
 /// Watches nothing.
 pub(crate) fn clear(watches: &mut Watches) {
-    watches.pairs.clear();
+    watches.copies.clear();
     watches.current.clear();
     for list in watches.lists.iter_mut() {
         list.clear();
     }
+    for list in watches.implied.iter_mut() {
+        list.clear();
+    }
 }
 
-/// Adds a watch to those of a literal.
+/// Adds an entry to those of a literal.
 #[inline(always)]
-fn push(lists: &mut [Vec<Watch>], lit: Lit, watch: Watch) -> Result<(), AllocError> {
+fn push<T: Drop>(lists: &mut [Vec<T>], lit: Lit, entry: T) -> Result<(), AllocError> {
     let place = lit.code as usize;
     if place < lists.len() {
-        lists[place].push(watch)?;
+        lists[place].push(entry)?;
     }
     Ok(())
 }
@@ -122,31 +141,84 @@ pub(crate) fn best_pair(trail: &Trail, clause: &[Lit]) -> Pair {
     pair
 }
 
-/// Watches two literals of the clause with the next number.
-pub(crate) fn attach(watches: &mut Watches, number: u32, pair: &Pair) -> Result<(), AllocError> {
-    watches.pairs.push(pair.first.code ^ pair.second.code)?;
+/// Copies a clause, the watched literals first. It answers where the copy begins.
+fn copy(
+    copies: &mut Vec<u32>,
+    number: u32,
+    clause: &[Lit],
+    pair: &Pair,
+) -> Result<u32, AllocError> {
+    let place = short(copies.as_slice().len());
+    copies.extend_from_slice(&[number, NONE, pair.first.code, pair.second.code])?;
+    for lit in clause {
+        if lit.code != pair.first.code && lit.code != pair.second.code {
+            copies.push(lit.code)?;
+        }
+    }
+    let end = short(copies.as_slice().len());
+    if end == NONE {
+        return Err(AllocError);
+    }
+    put(copies, place as usize + 1, end);
+    Ok(place)
+}
+
+/// Watches two literals of a clause, if it has two.
+pub(crate) fn attach(
+    watches: &mut Watches,
+    number: u32,
+    clause: &[Lit],
+    pair: &Pair,
+) -> Result<(), AllocError> {
     if pair.second.code == NONE {
         return Ok(());
     }
-    for (lit, blocker) in [(pair.first, pair.second), (pair.second, pair.first)] {
-        let watch = Watch {
-            clause: number,
-            blocker,
-        };
-        push(&mut watches.lists, lit, watch)?;
+    let ways = [(pair.first, pair.second), (pair.second, pair.first)];
+    if clause.len() == 2 {
+        for (lit, other) in ways {
+            let implied = Implied {
+                clause: number,
+                lit: other,
+            };
+            push(&mut watches.implied, lit, implied)?;
+        }
+        return Ok(());
+    }
+    let place = copy(&mut watches.copies, number, clause, pair)?;
+    for (lit, blocker) in ways {
+        push(&mut watches.lists, lit, Watch { place, blocker })?;
     }
     Ok(())
 }
 
-/// A literal of a clause that may be watched in place of a false one.
+/// The place past the watched literals of a copy at which a literal may be watched in place of a false one.
 #[inline(always)]
-fn replacement(trail: &Trail, clause: &[Lit], other: Lit) -> Option<Lit> {
-    for lit in clause {
-        if lit.code != other.code && !is_false(trail, *lit) {
-            return Some(*lit);
+fn replacement(trail: &Trail, copies: &[u32], place: u32) -> Option<usize> {
+    let first = place as usize + 4;
+    let end = at(copies, place as usize + 1, 0) as usize;
+    for other in first..end {
+        let lit = Lit {
+            code: at(copies, other, NONE),
+        };
+        if !is_false(trail, lit) {
+            return Some(other);
         }
     }
     None
+}
+
+/// Writes a literal to a copy in place of a watched one that is false. It answers the literal.
+#[inline(always)]
+fn replace(copies: &mut [u32], place: u32, gone: Lit, other: usize) -> Lit {
+    let lit = Lit {
+        code: at(copies, other, NONE),
+    };
+    let first = place as usize + 2;
+    let is_first = at(copies, first, NONE) == gone.code;
+    let watched = if is_first { first } else { first + 1 };
+    put(copies, watched, lit.code);
+    put(copies, other, gone.code);
+    lit
 }
 
 /// What becomes of a watch whose literal is false.
@@ -156,40 +228,41 @@ enum Outlook {
     Stays(Lit),
     /// The clause watches another literal in its place.
     Moves,
-    /// All literals of the clause are false.
-    Fails,
+    /// All literals of the clause with this number are false.
+    Fails(u32),
 }
 
 /// Looks at a clause one of whose watched literals has become false, and makes its last literal true.
 #[inline(always)]
 fn look(
-    database: &Clauses,
     trail: &mut Trail,
     lists: &mut [Vec<Watch>],
-    pairs: &mut [u32],
-    number: u32,
+    copies: &mut [u32],
+    watch: Watch,
     gone: Lit,
 ) -> Result<Outlook, AllocError>
-    requires { number < length database.now }
-    ensures open { open_count trail.new.values.items ≤ open_count trail.old.values.items }
+    ensures { open_count trail.new.values.items ≤ open_count trail.old.values.items }
 {
+    let place = watch.place as usize;
+    let both = at(copies, place + 2, NONE) ^ at(copies, place + 3, NONE);
     let other = Lit {
-        code: at(pairs, number as usize, 0) ^ gone.code,
+        code: both ^ gone.code,
     };
     if seems_true(trail, other) {
         return Ok(Outlook::Stays(other));
     }
-    if let Some(lit) = replacement(trail, database.clause(number), other) {
-        put(pairs, number as usize, other.code ^ lit.code);
-        let watch = Watch {
-            clause: number,
+    if let Some(next) = replacement(trail, copies, watch.place) {
+        let lit = replace(copies, watch.place, gone, next);
+        let moved = Watch {
+            place: watch.place,
             blocker: other,
         };
-        push(lists, lit, watch)?;
+        push(lists, lit, moved)?;
         return Ok(Outlook::Moves);
     }
+    let number = at(copies, place, NONE);
     if is_false(trail, other) {
-        return Ok(Outlook::Fails);
+        return Ok(Outlook::Fails(number));
     }
     assign(trail, other, number)?;
     Ok(Outlook::Stays(other))
@@ -201,7 +274,7 @@ fn sift(
     database: &Clauses,
     trail: &mut Trail,
     lists: &mut [Vec<Watch>],
-    pairs: &mut [u32],
+    copies: &mut [u32],
     list: &mut Vec<Watch>,
     gone: Lit,
 ) -> Result<Option<u32>, AllocError>
@@ -212,11 +285,12 @@ fn sift(
     let mut found = None;
     for place in 0..list.as_slice().len() {
         let mut watch = at(list, place, NO_WATCH);
-        if !seems_true(trail, watch.blocker) && found.is_none() && watch.clause < database.len() {
-            match look(database, trail, lists, pairs, watch.clause, gone)? {
+        if !seems_true(trail, watch.blocker) && found.is_none() {
+            match look(trail, lists, copies, watch, gone)? {
                 Outlook::Stays(blocker) => watch.blocker = blocker,
                 Outlook::Moves => continue,
-                Outlook::Fails => found = Some(watch.clause),
+                Outlook::Fails(number) if number < database.len() => found = Some(number),
+                Outlook::Fails(_) => (),
             }
         }
         put(list, kept, watch);
@@ -224,6 +298,43 @@ fn sift(
     }
     list.truncate(kept);
     Ok(found)
+}
+
+/// Follows the clauses of two literals one of which has become false. It answers one whose other literal is false.
+fn follow_all(
+    database: &Clauses,
+    trail: &mut Trail,
+    all: &[Implied],
+) -> Result<Option<u32>, AllocError>
+    ensures open { open_count trail.new.values.items ≤ open_count trail.old.values.items }
+    ensures conflict { IfOk result (λ found. IfSome found (λ number. number < length database.now)) }
+{
+    for implied in all {
+        if seems_true(trail, implied.lit) || implied.clause >= database.len() {
+            continue;
+        }
+        if is_false(trail, implied.lit) {
+            return Ok(Some(implied.clause));
+        }
+        assign(trail, implied.lit, implied.clause)?;
+    }
+    Ok(None)
+}
+
+/// Follows the clauses of two literals that a literal is in.
+fn follow_twos(
+    database: &Clauses,
+    trail: &mut Trail,
+    watches: &Watches,
+    gone: Lit,
+) -> Result<Option<u32>, AllocError>
+    ensures open { open_count trail.new.values.items ≤ open_count trail.old.values.items }
+    ensures conflict { IfOk result (λ found. IfSome found (λ number. number < length database.now)) }
+{
+    match watches.implied.as_slice().get(gone.code as usize) {
+        None => Ok(None),
+        Some(all) => follow_all(database, trail, all),
+    }
 }
 
 /// Changes the current watches for those of a literal.
@@ -234,7 +345,8 @@ fn change(watches: &mut Watches, lit: Lit) {
     }
 }
 
-/// Goes through the watches of a literal that has become false. It answers a clause that has no other literals.
+/// Goes through the clauses of three literals or more that watch a literal which has become false. It answers one that has
+/// no other literals.
 fn visit(
     database: &Clauses,
     trail: &mut Trail,
@@ -249,7 +361,7 @@ fn visit(
         database,
         trail,
         &mut watches.lists,
-        &mut watches.pairs,
+        &mut watches.copies,
         &mut watches.current,
         gone,
     )?;
@@ -272,6 +384,9 @@ pub(crate) fn propagate(
         }
         let lit = trail.lits[trail.head];
         trail.head += 1;
+        if let Some(conflict) = follow_twos(database, trail, watches, lit.negated())? {
+            return Ok(Some(conflict));
+        }
         if let Some(conflict) = visit(database, trail, watches, lit.negated())? {
             return Ok(Some(conflict));
         }

@@ -13,7 +13,7 @@ loop-place-preserved c =
     let place = c.loop-place.place in
     let column = get_or columns place 0 in
     let before = c.loop-place.invariant.0 in
-    let between = c.in_ok-several.ensures.unchanged ∙ before in
+    let between = c.in_ok-rest.ensures.unchanged ∙ before in
     let old_fixed = c.loop-place.fixed.items in
     let old_model = c.loop-place.model.items in
     let lower = c.lower.new.model.items in
@@ -24,7 +24,7 @@ loop-place-preserved c =
       λ assumptions start.
           let is = c.loop-place.invariant.2 assumptions start in
           let seen = subst (λ (q : Problem). IsModelUnder q c.deref.result.now old_model) (sym before) (subst (λ assumed. IsModelUnder p assumed old_model) (sym c.deref.ensures.value) is.under) in
-          let found = subst (λ (q : Problem). IsModelUnder q c.deref.result.now lower) before (c.in_ok-several.ensures.model seen) in
+          let found = subst (λ (q : Problem). IsModelUnder q c.deref.result.now lower) before (c.in_ok-rest.ensures.model seen) in
           let again = fixed-again p assumptions (take place columns) old_fixed old_model lower is (subst (λ assumed. IsModelUnder p assumed lower) c.deref.ensures.value found) in
           subst (λ cs. IsFixed p assumptions cs fixed model) (sym (take_more columns place 0 c.loop-place-test.true))
           (subst (λ q. IsFixed q assumptions (take place columns ++ column ∷ []) fixed model) between

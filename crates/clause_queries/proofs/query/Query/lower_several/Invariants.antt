@@ -1,6 +1,6 @@
 use Rattle.std.proofs.Common.{◌≡◌, ◌≤◌, length}
 use Rattle.clause_queries.specs.Queries.{IsModelUnder}
-use Rattle.clause_queries.proofs.query.Query.lower.Given as goal
+use Rattle.clause_queries.proofs.query.Query.lower_several.Given as goal
 
 abbrev pub invariant-loop-count : goal.invariant-loop-count
 invariant-loop-count l =
