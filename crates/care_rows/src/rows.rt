@@ -1,0 +1,20 @@
+use cyc_base::{Items, Sig};
+
+/// A wire with the value that a row asks of it.
+#[derive(Clone, Copy, Debug, PartialEq, Eq)]
+pub struct WireValue {
+    pub wire: Sig,
+    pub value: bool,
+}
+
+/// Values of wires, together. A row without values asks nothing, so each vector is in it.
+#[derive(Debug)]
+pub struct Row {
+    pub values: Items<WireValue>,
+}
+
+impl Drop for Row {
+    fn drop(self) {
+        let Row { values: _ } = self;
+    }
+}
