@@ -1,0 +1,6 @@
+pub mod PinLemmas
+pub mod RowLemmas
+pub mod CareLemmas
+pub mod FoundLemmas
+pub mod LimitLemmas
+pub mod LawLemmas

@@ -1,0 +1,303 @@
+//! Rows, found one after another.
+
+ghost use Rattle.std.specs.Prelude.{◌≡◌, ◌⊎◌, ◌≤◌, ◌↔◌, [], true, length, is_some, IfOk, IfErr, IfSome, IfNone};
+ghost use Rattle.care_sets.specs.Binding.{IsCareOf};
+ghost use Rattle.care_rows.specs.Rows.{AreSteadyMarks};
+ghost use Rattle.verdict.specs.Causes.{IsOutOfNodes};
+ghost use Rattle.verdict.specs.Enough.{IsBelowEnough};
+ghost use Rattle.verdict.specs.Verdicts.{IsJudgement};
+ghost use Rattle.assumptions.specs.Assumptions.{AreFound, IsAssumption, IsRefusedBeside, IsUndetermined as IsForUndetermined};
+ghost use Rattle.assumptions.specs.Limits.{RunsOutOfNodes};
+ghost use Rattle.assumptions.specs.Making.{Excludes, HasOneMore, IsNextRow};
+
+use crate::assumption::Assumption;
+use crate::rows::row_at;
+use crate::strengthening::strengthened;
+use bdd_ops::Diagrams;
+use care_rows::{RestrictFault, Row, steady_signals};
+use care_sets::Care;
+use cyc_base::MAX_NODES;
+use loops::LoopedNetlist;
+use refusals::{Observe, Refusal};
+use std::alloc::{AllocError, Global};
+use verdict::{DecideFault, Judgement, judge};
+
+/// How many rows are excluded at most.
+pub const MAX_ROWS: usize = 4_096;
+
+/// What is to be made harmless.
+#[derive(Drop)]
+struct Task<'a> {
+    looped: &'a LoopedNetlist<'a>,
+    care: &'a Care,
+    /// Marks of the signals that no loop takes part in.
+    steady: &'a [bool],
+    limit: u32,
+    observe: Observe,
+}
+
+fn is_undetermined(refusal: &Refusal) -> bool
+    ensures { (result ≡ true) ↔ IsForUndetermined refusal.now }
+{
+    match refusal {
+        Refusal::Undetermined { .. } => true,
+        _ => false,
+    }
+}
+
+fn has_model(care: &Care) -> bool
+    ensures { (result ≡ true) ↔ ((is_some care.now.assume ≡ true) ⊎ (is_some care.now.invariant ≡ true)) }
+{
+    care.assume().is_some() || care.invariant().is_some()
+}
+
+/// One more row, by a refusal for an undetermined wire.
+fn next_row(
+    alloc: Global,
+    task: &Task<'_>,
+    rows: &[Row],
+    refusal: &Refusal,
+) -> Result<Row, AllocError>
+    requires steady { AreSteadyMarks task.now.looped.now.net task.now.steady.now }
+    requires refused { IsRefusedBeside task.now.looped.now.net task.now.care.now task.now.observe rows.now refusal.now }
+    requires undetermined { IsForUndetermined refusal.now }
+    ensures { IfOk result (IsNextRow task.now.looped.now.net task.now.care.now task.now.observe rows.now) }
+{
+    let net = task.looped.net();
+    net.laws();
+    match refusal {
+        Refusal::Undetermined { vector, wire } => row_at(
+            alloc,
+            net,
+            task.steady,
+            task.observe,
+            vector.items(),
+            *wire,
+        ),
+        _ => unreachable!(),
+    }
+}
+
+/// What follows from a refusal with these rows excluded: one more row, where an observed wire is undetermined.
+fn go_on(
+    alloc: Global,
+    task: &Task<'_>,
+    rows: &mut Vec<Row>,
+    refusal: Refusal,
+) -> Result<Option<Assumption>, AllocError>
+    requires steady { AreSteadyMarks task.now.looped.now.net task.now.steady.now }
+    requires rows { AreFound task.now.looped.now.net task.now.care.now task.now.observe rows.old.items }
+    requires few { length rows.old.items ≤ 4096 }
+    requires refused { IsRefusedBeside task.now.looped.now.net task.now.care.now task.now.observe rows.old.items refusal }
+    ensures found { IfOk result (λ found. IfSome found (IsAssumption task.now.looped.now.net task.now.care.now task.now.observe)) }
+    ensures grown { IfOk result (λ found. IfNone found (HasOneMore task.now.looped.now.net task.now.care.now task.now.observe rows.old.items rows.new.items)) }
+{
+    if !is_undetermined(&refusal) {
+        return Ok(Some(Assumption::Refused(refusal)));
+    }
+    if rows.len() >= MAX_ROWS {
+        return Ok(Some(Assumption::TooManyRows));
+    }
+    let row = next_row(alloc, task, rows, &refusal)?;
+    rows.push(row)?;
+    Ok(None)
+}
+
+/// The same, where memory runs out as it does for a judgement.
+fn go_on_from(
+    alloc: Global,
+    task: &Task<'_>,
+    rows: &mut Vec<Row>,
+    refusal: Refusal,
+) -> Result<Option<Assumption>, DecideFault>
+    requires steady { AreSteadyMarks task.now.looped.now.net task.now.steady.now }
+    requires rows { AreFound task.now.looped.now.net task.now.care.now task.now.observe rows.old.items }
+    requires few { length rows.old.items ≤ 4096 }
+    requires refused { IsRefusedBeside task.now.looped.now.net task.now.care.now task.now.observe rows.old.items refusal }
+    ensures found { IfOk result (λ found. IfSome found (IsAssumption task.now.looped.now.net task.now.care.now task.now.observe)) }
+    ensures grown { IfOk result (λ found. IfNone found (HasOneMore task.now.looped.now.net task.now.care.now task.now.observe rows.old.items rows.new.items)) }
+    ensures fault { IfErr result (λ fault. fault ≡ DecideFault.Memory) }
+{
+    match go_on(alloc, task, rows, refusal) {
+        Ok(found) => Ok(found),
+        Err(_) => Err(DecideFault::Memory),
+    }
+}
+
+/// The judgement on a care set.
+fn judged(
+    alloc: Global,
+    d: &mut Diagrams,
+    task: &Task<'_>,
+    care: &Care,
+) -> Result<Judgement, DecideFault>
+    requires care { IsCareOf task.now.looped.now.net care.now }
+    requires limit { task.now.limit ≤ MAX_NODES }
+    ensures judgement { IfOk result (IsJudgement task.now.looped.now.net care.now task.now.observe) }
+    ensures fault { IfErr result (λ fault. (fault ≡ DecideFault.Memory) ⊎ (fault ≡ DecideFault.NodeLimit task.now.limit)) }
+    ensures cause { result ≡ Err (DecideFault.NodeLimit task.now.limit) → IsOutOfNodes d.new task.now.looped.now.net care.now task.now.limit }
+    ensures enough { result ≡ Err (DecideFault.NodeLimit task.now.limit) → IsBelowEnough task.now.looped.now.net care.now task.now.limit }
+{
+    let net = task.looped.net();
+    let blocks = task.looped.blocks();
+    let cut = task.looped.cut();
+    judge(alloc, d, net, blocks, cut, care, task.limit, task.observe)
+}
+
+/// The judgement on the care set as it is.
+#[tactic(auto, using(crate::proofs::FoundLemmas::stands_by, crate::proofs::FoundLemmas::refused_without, crate::proofs::FoundLemmas::found_at_first, crate::proofs::LimitLemmas::runs_out_without))]
+fn round_without_rows(
+    alloc: Global,
+    d: &mut Diagrams,
+    task: &Task<'_>,
+    rows: &mut Vec<Row>,
+) -> Result<Option<Assumption>, DecideFault>
+    requires steady { AreSteadyMarks task.now.looped.now.net task.now.steady.now }
+    requires care { IsCareOf task.now.looped.now.net task.now.care.now }
+    requires limit { task.now.limit ≤ MAX_NODES }
+    requires none { rows.old.items ≡ [] }
+    requires some { (is_some task.now.care.now.assume ≡ true) ⊎ (is_some task.now.care.now.invariant ≡ true) }
+    ensures found { IfOk result (λ found. IfSome found (IsAssumption task.now.looped.now.net task.now.care.now task.now.observe)) }
+    ensures grown { IfOk result (λ found. IfNone found (HasOneMore task.now.looped.now.net task.now.care.now task.now.observe rows.old.items rows.new.items)) }
+    ensures fault { IfErr result (λ fault. (fault ≡ DecideFault.Memory) ⊎ (fault ≡ DecideFault.NodeLimit task.now.limit)) }
+    ensures cause { result ≡ Err (DecideFault.NodeLimit task.now.limit) → RunsOutOfNodes d.new task.now.looped.now.net task.now.care.now task.now.observe task.now.limit }
+{
+    match judged(alloc, d, task, task.care)? {
+        Judgement::Accepted { .. } => Ok(Some(Assumption::Stands)),
+        Judgement::Refused(refusal) => go_on_from(alloc, task, rows, refusal),
+    }
+}
+
+/// The judgement on this care set, which has these rows excluded.
+#[tactic(auto, using(crate::proofs::FoundLemmas::weakest_by, crate::proofs::FoundLemmas::refused_by, crate::proofs::LimitLemmas::runs_out_by))]
+fn round_on(
+    alloc: Global,
+    d: &mut Diagrams,
+    task: &Task<'_>,
+    rows: &mut Vec<Row>,
+    stronger: Care,
+) -> Result<Option<Assumption>, DecideFault>
+    requires steady { AreSteadyMarks task.now.looped.now.net task.now.steady.now }
+    requires limit { task.now.limit ≤ MAX_NODES }
+    requires rows { AreFound task.now.looped.now.net task.now.care.now task.now.observe rows.old.items }
+    requires few { length rows.old.items ≤ 4096 }
+    requires excludes { Excludes task.now.looped.now.net task.now.care.now rows.old.items stronger }
+    ensures found { IfOk result (λ found. IfSome found (IsAssumption task.now.looped.now.net task.now.care.now task.now.observe)) }
+    ensures grown { IfOk result (λ found. IfNone found (HasOneMore task.now.looped.now.net task.now.care.now task.now.observe rows.old.items rows.new.items)) }
+    ensures fault { IfErr result (λ fault. (fault ≡ DecideFault.Memory) ⊎ (fault ≡ DecideFault.NodeLimit task.now.limit)) }
+    ensures cause { result ≡ Err (DecideFault.NodeLimit task.now.limit) → RunsOutOfNodes d.new task.now.looped.now.net task.now.care.now task.now.observe task.now.limit }
+{
+    match judged(alloc, d, task, &stronger)? {
+        Judgement::Accepted { .. } => Ok(Some(Assumption::Weakest(stronger))),
+        Judgement::Refused(refusal) => go_on_from(alloc, task, rows, refusal),
+    }
+}
+
+/// The judgement with these rows excluded.
+#[tactic(auto, using(crate::proofs::FoundLemmas::too_large_by))]
+fn round_with_rows(
+    alloc: Global,
+    d: &mut Diagrams,
+    task: &Task<'_>,
+    rows: &mut Vec<Row>,
+) -> Result<Option<Assumption>, DecideFault>
+    requires steady { AreSteadyMarks task.now.looped.now.net task.now.steady.now }
+    requires care { IsCareOf task.now.looped.now.net task.now.care.now }
+    requires limit { task.now.limit ≤ MAX_NODES }
+    requires rows { AreFound task.now.looped.now.net task.now.care.now task.now.observe rows.old.items }
+    requires few { length rows.old.items ≤ 4096 }
+    ensures found { IfOk result (λ found. IfSome found (IsAssumption task.now.looped.now.net task.now.care.now task.now.observe)) }
+    ensures grown { IfOk result (λ found. IfNone found (HasOneMore task.now.looped.now.net task.now.care.now task.now.observe rows.old.items rows.new.items)) }
+    ensures fault { IfErr result (λ fault. (fault ≡ DecideFault.Memory) ⊎ (fault ≡ DecideFault.NodeLimit task.now.limit)) }
+    ensures cause { result ≡ Err (DecideFault.NodeLimit task.now.limit) → RunsOutOfNodes d.new task.now.looped.now.net task.now.care.now task.now.observe task.now.limit }
+{
+    match strengthened(alloc, task.looped, task.care, rows) {
+        Ok(stronger) => round_on(alloc, d, task, rows, stronger),
+        Err(RestrictFault::TooLarge { gates }) => Ok(Some(Assumption::TooLarge { gates })),
+        Err(RestrictFault::Memory) => Err(DecideFault::Memory),
+    }
+}
+
+/// One judgement: what is found, or one more row.
+fn round(
+    alloc: Global,
+    d: &mut Diagrams,
+    task: &Task<'_>,
+    rows: &mut Vec<Row>,
+) -> Result<Option<Assumption>, DecideFault>
+    requires steady { AreSteadyMarks task.now.looped.now.net task.now.steady.now }
+    requires care { IsCareOf task.now.looped.now.net task.now.care.now }
+    requires limit { task.now.limit ≤ MAX_NODES }
+    requires rows { AreFound task.now.looped.now.net task.now.care.now task.now.observe rows.old.items }
+    requires few { length rows.old.items ≤ 4096 }
+    ensures found { IfOk result (λ found. IfSome found (IsAssumption task.now.looped.now.net task.now.care.now task.now.observe)) }
+    ensures grown { IfOk result (λ found. IfNone found (HasOneMore task.now.looped.now.net task.now.care.now task.now.observe rows.old.items rows.new.items)) }
+    ensures fault { IfErr result (λ fault. (fault ≡ DecideFault.Memory) ⊎ (fault ≡ DecideFault.NodeLimit task.now.limit)) }
+    ensures cause { result ≡ Err (DecideFault.NodeLimit task.now.limit) → RunsOutOfNodes d.new task.now.looped.now.net task.now.care.now task.now.observe task.now.limit }
+{
+    if rows.is_empty() && has_model(task.care) {
+        round_without_rows(alloc, d, task, rows)
+    } else {
+        round_with_rows(alloc, d, task, rows)
+    }
+}
+
+/// What is found by a task.
+fn search(alloc: Global, d: &mut Diagrams, task: &Task<'_>) -> Result<Assumption, DecideFault>
+    requires steady { AreSteadyMarks task.now.looped.now.net task.now.steady.now }
+    requires care { IsCareOf task.now.looped.now.net task.now.care.now }
+    requires limit { task.now.limit ≤ MAX_NODES }
+    ensures found { IfOk result (IsAssumption task.now.looped.now.net task.now.care.now task.now.observe) }
+    ensures fault { IfErr result (λ fault. (fault ≡ DecideFault.Memory) ⊎ (fault ≡ DecideFault.NodeLimit task.now.limit)) }
+    ensures cause { result ≡ Err (DecideFault.NodeLimit task.now.limit) → RunsOutOfNodes d.new task.now.looped.now.net task.now.care.now task.now.observe task.now.limit }
+{
+    let mut rows = Vec::new(alloc);
+    loop {
+        if let Some(found) = round(alloc, d, task, &mut rows)? {
+            return Ok(found);
+        }
+    }
+}
+
+/// The weakest assumption under which a netlist is accepted within the invariant of a care set: the care set's own
+/// assumption, with vectors excluded, row by row.
+///
+/// A row is some wires with values, in which no loop takes part, and each vector at which these have the values leaves an
+/// observed wire undetermined. While a vector of the care set is in no row and leaves one undetermined, its explanation gives
+/// the next row: the sides of its cycle where all gates are observed and these wires are known and no loop takes part in
+/// them, or else the columns that the cycle needs; and where less is observed the columns that the wire needs.
+///
+/// So `Weakest` lets a vector through, within the invariant, just where the care set does and each observed wire is
+/// determined at it (`laws`). `Stands` is answered where the care set has a model and the netlist is accepted on it. `Refused`
+/// comes where no assumption helps: a permitted initial state is outside the invariant, a next state is, or the rows exclude
+/// all vectors; `TooManyRows` with 4,096 rows that leave an observed wire undetermined somewhere. How few rows may do isn't said.
+///
+/// The faults are those of the judgement (`verdict::judge`), on the care set with some rows excluded.
+///
+/// The condition is that the care set is the netlist's, and that the limit is at most 50,000,000.
+pub fn weakest_assumption(
+    alloc: Global,
+    d: &mut Diagrams,
+    looped: &LoopedNetlist<'_>,
+    care: &Care,
+    limit: u32,
+    observe: Observe,
+) -> Result<Assumption, DecideFault>
+    requires care { IsCareOf looped.now.net care.now }
+    requires limit { limit ≤ MAX_NODES }
+    ensures found { IfOk result (IsAssumption looped.now.net care.now observe) }
+    ensures fault { IfErr result (λ fault. (fault ≡ DecideFault.Memory) ⊎ (fault ≡ DecideFault.NodeLimit limit)) }
+    ensures cause { result ≡ Err (DecideFault.NodeLimit limit) → RunsOutOfNodes d.new looped.now.net care.now observe limit }
+{
+    let Ok(steady) = steady_signals(alloc, looped) else {
+        return Err(DecideFault::Memory);
+    };
+    let task = Task {
+        looped,
+        care,
+        steady: &steady,
+        limit,
+        observe,
+    };
+    search(alloc, d, &task)
+}
