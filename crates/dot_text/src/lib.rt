@@ -5,12 +5,14 @@
 //! The layer above uses that each call appends the text of its definition.
 #![tactic(auto)]
 
+mod cut_graph;
 mod drawing;
 mod explanation_graph;
 mod loop_graph;
 mod node;
 mod refusal_graph;
 
+pub use cut_graph::put_cut_cluster;
 pub use explanation_graph::tell_explanation_graph;
 pub use loop_graph::{put_labelled_cluster, put_loops_graph};
 pub use node::open_graph;
