@@ -1,7 +1,7 @@
-//! Loops, and why a gate is undetermined, as graphs in the DOT language of Graphviz.
+//! Loops, refusals, and why a wire is undetermined, as graphs in the DOT language of Graphviz.
 //!
-//! It stands on `loops`, for a netlist with its loops and their order, and for marks of gates, and on `explanations` and
-//! `ternary_run`, for what an explanation has and which gates are unknown.
+//! It stands on `loops`, for a netlist with its loops and their order, and for marks of gates, on `refusals`, and on
+//! `explanations` and `ternary_run`, for what an explanation has and which gates are unknown.
 //! The layer above uses that each call appends the text of its definition.
 #![tactic(auto)]
 
