@@ -3,3 +3,4 @@ pub mod ErrorLemmas
 pub mod FlatLemmas
 pub mod NetlistLemmas
 pub mod ScheduleLemmas
+pub mod CareTextLemmas

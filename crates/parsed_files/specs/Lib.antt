@@ -2,5 +2,6 @@
 pub mod Faults
 pub mod NetlistFiles
 pub mod CareFiles
+pub mod CareTexts
 pub mod ScheduleFiles
 pub mod Seen

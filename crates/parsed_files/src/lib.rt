@@ -8,6 +8,7 @@
 mod care_files;
 mod errors;
 mod fault;
+pub mod laws;
 mod netlist_files;
 mod schedule_files;
 
