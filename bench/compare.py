@@ -9,10 +9,12 @@ must be the same text. Of an accepted netlist `explain` must show each loop's ga
 they are defined. What `rewrite` writes of an accepted netlist must have no loop, and that netlist and the graph of
 `aiger` must have the same outputs and next states at each care vector. What `explain` shows of an undetermined wire
 must be a shortest cycle that leads to it and the shortest way from there, by pins that matter, and the wires beside the
-cycle and the columns that hold these gates open, all of them needed. And `equal` must tell of the netlist and a version of it, with all in another order and perhaps one thing
-changed, what is found of them here: the first name that isn't matched, the refusal of one, the least vector of a
-difference with its output or latch, or that they are equal. A case that differs is printed with its files, and the
-status is then 1.
+cycle and the columns that hold these gates open, all of them needed. What `assume` writes must have the same invariant,
+and within it let a vector through exactly where the given assumption does and each observed wire is determined; `check`
+must accept it; and where no such file is accepted, `assume` must tell what refuses the netlist on these vectors. And
+`equal` must tell of the netlist and a version of it, with all in another order and perhaps one thing changed, what is
+found of them here: the first name that isn't matched, the refusal of one, the least vector of a difference with its
+output or latch, or that they are equal. A case that differs is printed with its files, and the status is then 1.
 
 CYC=PROGRAM in the environment compares that program in place of ./cyc.
 """
@@ -169,7 +171,7 @@ def holds(model, vector):
     if model is None:
         return True
     columns, net = model
-    return net.fixpoint([vector[column] for column in columns])[-1] == 1
+    return net.fixpoint([vector[column] for column in columns])[net.outputs[0]] == 1
 
 
 def vectors(columns):
@@ -180,20 +182,24 @@ def told(names, bits):
     return "".join(f" {name}={bit}" for name, bit in zip(names, bits))
 
 
-def decide(net, assume, invariant, observe):
-    """The text of the verdict, and the care vectors."""
+def observed(net, observe):
+    """The gates that are observed, in flat order."""
+    seen = {*net.outputs, *[source for source, _ in net.latches]}
+    return [gate for gate in range(net.first, len(net.names)) if observe == "all" or gate in seen]
+
+
+def decide(net, assume, invariant, observe, counts=lambda vector: True):
+    """The text of the verdict, and the care vectors, which are among those that count."""
     states, name = net.names[net.inputs : net.first], net.names
     inside = lambda state: holds(invariant, [0] * net.inputs + list(state))
     for state in vectors(len(net.latches)):
         if all(init >= 2 or init == bit for (_, init), bit in zip(net.latches, state)) and not inside(state):
             return "refused initial" + told(states, state), []
-    care = [vector for vector in vectors(net.first) if inside(vector[net.inputs :]) and holds(assume, vector)]
+    care = [it for it in vectors(net.first) if inside(it[net.inputs :]) and holds(assume, it) and counts(it)]
     if not care:
         return "refused empty care", []
     fixpoints = [net.fixpoint(vector) for vector in care]
-    seen = [*net.outputs, *[source for source, _ in net.latches]]
-    gates = range(net.first, len(name))
-    for gate in gates if observe == "all" else sorted({signal for signal in seen if signal >= net.first}):
+    for gate in observed(net, observe):
         for vector, wires in zip(care, fixpoints):
             if wires[gate] == UNKNOWN:
                 at = " at" + told(name, vector) if vector else ""
@@ -202,7 +208,7 @@ def decide(net, assume, invariant, observe):
         after = [wires[source] for source, _ in net.latches]
         if not inside(after):
             return "refused leaves at" + told(name, vector) + " next" + told(states, after), care
-    loose = sum(any(wires[gate] == UNKNOWN for wires in fixpoints) for gate in gates)
+    loose = sum(any(wires[gate] == UNKNOWN for wires in fixpoints) for gate in range(net.first, len(name)))
     tail = "" if observe == "all" else f" open={loose}"
     return f"accepted gates={len(net.gates)} loops={len(net.loops())} latches={len(net.latches)}{tail}", care
 
@@ -433,6 +439,47 @@ def why_explained_wrong(net, text):
     return held_wrong(net, {}, needs, cycle, wires) or held_wrong(net, needs, also, cycle + way, wires)
 
 
+# ---- assumptions
+
+def models_of(net, text):
+    """The models of a care file by their names: the columns that each reads, and its netlist."""
+    found = {}
+    for part in text.split(".model ")[1:]:
+        word, _, lines = part.partition("\n")
+        model = netlist_of(lines)
+        found[word] = [net.names.index(name) for name in model.names[: model.inputs]], model
+    return found
+
+
+def why_assumed_wrong(net, folder, words, assume, invariant, observe):
+    """What is wrong in what `assume` tells, if something is."""
+
+    def is_determined(vector):
+        wires = net.fixpoint(vector)
+        return all(wires[gate] != UNKNOWN for gate in observed(net, observe))
+
+    want, _ = decide(net, assume, invariant, observe, is_determined)
+    got = cyc(folder, "assume", *words)
+    if want.startswith("refused"):
+        return "" if got == f"{want}\n" else f"assume says {got!r}, not {want!r}"
+    models = models_of(net, got)
+    if not set(models) <= {"assume", "invariant"}:
+        return f"assume says {got!r}"
+    new, kept = models.get("assume"), models.get("invariant")
+    if (kept is None) != (invariant is None):
+        return f"assume has an invariant where the care file has none, or none: {got!r}"
+    for vector in vectors(net.first):
+        state = [0] * net.inputs + list(vector[net.inputs :])
+        if holds(kept, state) != holds(invariant, state):
+            return f"assume changes the invariant at {vector}: {got!r}"
+        if holds(invariant, state) and holds(new, vector) != (holds(assume, vector) and is_determined(vector)):
+            return f"assume is wrong at {vector}: {got!r}"
+    with open(f"{folder}/n.care", "w", encoding="utf-8") as it:
+        it.write(got)
+    again = cyc(folder, "check", words[0], "--observe", observe, "--care", "n.care").strip()
+    return "" if again == want else f"check says {again!r} with {got!r}"
+
+
 # ---- two netlists
 
 def shuffled(count):
@@ -560,7 +607,10 @@ def case(folder):
         with open(f"{folder}/{file}", "w", encoding="utf-8") as it:
             it.write(text)
     want, care = decide(net, assume, invariant, observe)
-    why = why_decided_wrong(net, folder, ["m.blif", "--observe", observe, *on_care], want, care)
+    words = ["m.blif", "--observe", observe, *on_care]
+    why = why_decided_wrong(net, folder, words, want, care) or why_assumed_wrong(
+        net, folder, words, assume, invariant, observe
+    )
     if not why:
         why, files["r.blif"] = why_compared_wrong(net, folder, on_care, assume, invariant)
     return (f"{why}\n" + "".join(files.values()) if why else ""), " ".join(want.split()[: 1 + want.startswith("refused")])

@@ -1,7 +1,7 @@
 -- Over files that are told, a run gives an answer.
 use Rattle.std.proofs.Common.{arith, ◌≡◌, ◌⊎◌, ℕ, List, [], ◌∷◌, Some, None, refl, sym, ap, subst, inl, inr, ◌∙◌}
 use Rattle.std.specs.Prelude.{IfSome, IsSomeAnd, MatchOption}
-use Rattle.cyc_tool.proofs.Common.{Option, Arena, Files, ShelfCall, AreGiven, rest_of, EndsAt, ComesTo, IsDecided, IsCompared, Limit, Found, Unfinished, Runs, Plan, Reads, Faulty, WantsMemory, Ends, Decides, Compares, plan_of, Outcome, no_memory, Command}
+use Rattle.cyc_tool.proofs.Common.{Option, Arena, Files, ShelfCall, AreGiven, rest_of, EndsAt, ComesTo, IsDecided, IsSought, IsCompared, Limit, Sought, Undecided, Found, Unfinished, Runs, Plan, Reads, Faulty, WantsMemory, Ends, Decides, Assumes, Compares, plan_of, Outcome, no_memory, Command}
 use Rattle.cyc_io.specs.Files.{IsFile}
 use Rattle.cyc_tool.specs.Answer.{IsOutcomeAt, IsAnswer}
 use Rattle.cyc_tool.specs.Calls.{SinkCall, ReadFailed, Verdict, IsTold, Tells}
@@ -27,6 +27,7 @@ none_failed_later shelf files (bytes ∷ given) (Faulty name fault) is gave well
 none_failed_later shelf files (bytes ∷ given) WantsMemory is gave well = absurd gave
 none_failed_later shelf files (bytes ∷ given) (Ends ending) is gave well = absurd gave
 none_failed_later shelf files (bytes ∷ given) (Decides decision purpose) is gave well = absurd gave
+none_failed_later shelf files (bytes ∷ given) (Assumes decision) is gave well = absurd gave
 none_failed_later shelf files (bytes ∷ given) (Compares c) is gave well = absurd gave
 
 -- an outcome of what is left of a plan behind these texts is one of the plan
@@ -40,6 +41,7 @@ same_outcome shelf files (bytes ∷ given) (Faulty name fault) end is gave ends 
 same_outcome shelf files (bytes ∷ given) WantsMemory end is gave ends = absurd gave
 same_outcome shelf files (bytes ∷ given) (Ends ending) end is gave ends = absurd gave
 same_outcome shelf files (bytes ∷ given) (Decides decision purpose) end is gave ends = absurd gave
+same_outcome shelf files (bytes ∷ given) (Assumes decision) end is gave ends = absurd gave
 same_outcome shelf files (bytes ∷ given) (Compares c) end is gave ends = absurd gave
 
 -- what a call came to at what is left of its plan, where the files are told
@@ -65,6 +67,11 @@ ends_told shelf files nodes end (Decides decision purpose) well ends = by_decisi
     by_decision : IsDecided decision purpose nodes end → EndsTold nodes files end (Decides decision purpose)
     by_decision (Verdict is made) = IsOutcome is
     by_decision (Limit limited is) = IsAtLimit limited (ap (λ (o : Outcome). o.status) is)
+ends_told shelf files nodes end (Assumes decision) well ends = by_assumption ends.1
+  where
+    by_assumption : IsSought decision nodes end → EndsTold nodes files end (Assumes decision)
+    by_assumption (Sought is reads) = IsOutcome is
+    by_assumption (Undecided limited is) = IsAtLimit limited (ap (λ (o : Outcome). o.status) is)
 ends_told shelf files nodes end (Compares c) well ends = by_comparison ends
   where
     by_comparison : IsCompared c nodes end → EndsTold nodes files end (Compares c)
@@ -142,6 +149,10 @@ not_met nodes (Ends ending) is met = met
 not_met nodes (Decides decision purpose) is met =
     let below = met.below.below is.width is.wide in
     absurd (omega (arith, below, is.within))
+not_met nodes (Assumes decision) is met =
+    let enough = is met.rows met.stronger met.strengthened in
+    let below = met.below.below enough.width enough.wide in
+    absurd (omega (arith, below, enough.within))
 not_met nodes (Compares c) is met =
     let enough = is met.matched in
     let below = met.below.below enough.first enough.second enough.both enough.first_wide enough.second_wide enough.both_wide in

@@ -1,9 +1,13 @@
 -- The cause of each status of a run.
 use Rattle.std.proofs.Common.{◌≡◌, ◌≢◌, ◌≤◌, ◌⊎◌, ℕ, Bool, true, false, List, [], ◌∷◌, Some, None, refl, sym, ap, subst, ◌∙◌, inl, inr, arith}
-use Rattle.cyc_tool.proofs.Common.{nat_le, if◌then◌else◌, Option, Arena, Parts, IsNetlist, written, IsRefusalOf, Refusal, Undetermined, told, ShelfCall, AreGiven, EndsAt, rest_of, ComesTo, Follows, IsDecided, IsCompared, Limit, Found, Unfinished, Runs, Ending, Prints, Outgrows, Purpose, Judges, Rewrites, WritesGraph, Explains, Demonstrates, Storms, Plan, Reads, Faulty, WantsMemory, Ends, Decides, Compares, plan_of, Outcome, no_memory, Form, Command}
+use Rattle.cyc_tool.proofs.Common.{nat_le, if◌then◌else◌, Option, Arena, Parts, IsNetlist, written, IsRefusalOf, Refusal, Undetermined, told, ShelfCall, AreGiven, EndsAt, rest_of, ComesTo, Follows, IsDecided, IsSought, IsCompared, Limit, Sought, Undecided, Found, Unfinished, Runs, Ending, Prints, Outgrows, Purpose, Judges, Rewrites, WritesGraph, Explains, Demonstrates, Storms, Plan, Reads, Faulty, WantsMemory, Ends, Decides, Assumes, Compares, plan_of, Outcome, no_memory, Form, Command}
 use Rattle.commands.specs.declared.encoding.Encoding.{Encoding}
 use Rattle.std.specs.Prelude.{◌+◌, IsSomeAnd, length}
 use Rattle.std.proofs.lemmas.Option.{none-some}
+use Rattle.assumptions.proofs.LawLemmas.{weakest_is_exact}
+use Rattle.assumptions.specs.Assumptions.{IsAssumption}
+use Rattle.assumptions.specs.declared.assumption.Assumption.{Assumption}
+use Rattle.assumptions.specs.declared.assumption.Assumption.TheVariants.{Stands, Weakest, Refused, TooManyRows, TooLarge}
 use Rattle.schedules.proofs.HarmlessLemmas.{accepted_is_harmless}
 use Rattle.cyc_base.specs.declared.limits.TheConstants.{MAX_REWRITTEN_ITEMS}
 use Rattle.aig_core.specs.declared.building.Built.{Built}
@@ -21,14 +25,14 @@ use Rattle.equality.specs.Texts.{answer_text}
 use Rattle.equality.specs.Shown.{IsShown}
 use Rattle.equality.specs.Told.{is_equal}
 use Rattle.cyc_tool.specs.Answer.{verdict_of, IsRefusalOutcome, IsVerdictOutcome}
-use Rattle.cyc_tool.specs.Calls.{SinkCall, WriteFailed, Takes, IsMadeFor, Verdict, IsTold, Tells}
-use Rattle.cyc_tool.specs.Causes.{IsHelped, IsHelpedBy, IsWithoutCommand, Leads, Reaches, IsFaulty, IsUnread, MeetsLimit, IsVerdict, IsStormed, HasMade, AreToldEqual, IsDoneWith}
-use Rattle.cyc_tool.specs.Endings.{accepted_told, aiger_told, comparison_told, found_told, graph_text, refused_told}
+use Rattle.cyc_tool.specs.Calls.{SinkCall, WriteFailed, Takes, IsMadeFor, IsWritten, Verdict, IsTold, Tells}
+use Rattle.cyc_tool.specs.Causes.{IsHelped, IsHelpedBy, IsWithoutCommand, Leads, Reaches, IsFaulty, IsUnread, MeetsLimit, IsVerdict, IsStormed, HasMade, HasWeakest, IsRefusedStill, AreToldEqual, IsDoneWith}
+use Rattle.cyc_tool.specs.Endings.{accepted_told, aiger_told, assumption_told, comparison_told, found_told, graph_text, refused_told}
 use Rattle.cyc_tool.specs.Storms.{events_of, events_told, storm_text}
-use Rattle.cyc_tool.specs.Plans.{PrintsBeside, Refuses, Declines, Decision, Comparison}
+use Rattle.cyc_tool.specs.Plans.{PrintsBeside, Refuses, Declines, WantsRows, Decision, Comparison}
 use Rattle.cyc_tool.specs.Requests.{Request}
 use Rattle.report.specs.Help.{help_text, topic_text, version_text}
-use Rattle.commands.specs.Words.{Decide, Equal, Flat, Loops, Sim, Delays, Demo, Help, HelpOn, Version, command_of}
+use Rattle.commands.specs.Words.{Decide, Assume, Equal, Flat, Loops, Sim, Delays, Demo, Help, HelpOn, Version, command_of}
 
 abbrev status_of : Outcome → ℕ
 status_of end = end.status
@@ -58,6 +62,7 @@ ending_status (PrintsBeside text lines) status is = Zero is
 ending_status (Refuses text) status is = One is
 ending_status (Declines text) status is = One is
 ending_status (Outgrows size) status is = Eight is
+ending_status (WantsRows most) status is = Eight is
 
 explained_is_one : (form : Form) (net : Parts) (refused : Refusal) (end : Outcome) → IsRefusalOutcome net (Explains form) refused end → end.status ≡ 1
 explained_is_one form net (Undetermined v wire) end ends = ap status_of ends.is
@@ -177,6 +182,34 @@ module _ (out : SinkCall) (end : Outcome) (took : Takes out end.out) (done : end
   has_made law decision (Demonstrates cells) None valid is ends made = out_is _ ends
   has_made law decision (Demonstrates cells) (Some refused) valid is ends made = not_one (ap status_of ends)
 
+  has_weakest : (decision : Decision) (assumption : Assumption) → IsNetlist decision.net
+      → IsAssumption decision.net decision.care decision.observe assumption → end ≡ told (assumption_told decision.net decision.care assumption)
+      → IsWritten decision.net decision.care assumption → HasWeakest decision out
+  has_weakest decision Stands valid found same reads = record {
+    stronger = decision.care;
+    exact = record {
+      invariant = refl;
+      lets = λ v width state.
+          (λ allowed. (allowed, found.accepted.determined v (record { width = width; state = state; allowed = allowed })), λ both. both.0);
+    };
+    harmless = accepted_is_harmless decision.net decision.care decision.observe valid found.accepted;
+    text = out_is _ same;
+    reads_back = reads;
+  }
+  has_weakest decision (Weakest stronger) valid found same reads = record {
+    stronger = stronger;
+    exact = record {
+      invariant = found.strengthened.invariant;
+      lets = λ v. weakest_is_exact decision.net decision.care decision.observe stronger v found;
+    };
+    harmless = accepted_is_harmless decision.net stronger decision.observe valid found.accepted;
+    text = out_is _ same;
+    reads_back = reads;
+  }
+  has_weakest decision (Refused refused) valid found same reads = not_one (ap status_of same)
+  has_weakest decision TooManyRows valid found same reads = not_eight (ap status_of same)
+  has_weakest decision (TooLarge gates) valid found same reads = not_eight (ap status_of same)
+
   are_equal : (c : Comparison) (answer : Answer) → end ≡ told (found_told (is_equal answer) (answer_text c.first c.second answer))
       → IsShown c.first c.second c.care answer → AreToldEqual c out
   are_equal c AreEqual same shown = (shown, out_is _ same)
@@ -185,6 +218,20 @@ module _ (out : SinkCall) (end : Outcome) (took : Takes out end.out) (done : end
   are_equal c (Second refused) same shown = not_one (ap status_of same)
   are_equal c (Output v at) same shown = not_one (ap status_of same)
   are_equal c (Latch v at) same shown = not_one (ap status_of same)
+
+-- ---- and where it is 1 though an assumption was looked for
+
+refused_still : (decision : Decision) (assumption : Assumption) (end : Outcome) → IsNetlist decision.net → IsAssumption decision.net decision.care decision.observe assumption
+    → end ≡ told (assumption_told decision.net decision.care assumption) → end.status ≡ 1 → IsRefusedStill decision
+refused_still decision (Refused refused) end valid found same one = record {
+  refused = refused;
+  still = found;
+  shown = (refusal_is_shown decision.net found.refused.stronger decision.observe refused valid found.refused.refused).1;
+}
+refused_still decision Stands end valid found same one = let status = ap status_of same in absurd (omega (arith, status, one))
+refused_still decision (Weakest stronger) end valid found same one = let status = ap status_of same in absurd (omega (arith, status, one))
+refused_still decision TooManyRows end valid found same one = let status = ap status_of same in absurd (omega (arith, status, one))
+refused_still decision (TooLarge gates) end valid found same one = let status = ap status_of same in absurd (omega (arith, status, one))
 
 -- ---- what a status shows at what is left of the plan
 
@@ -208,6 +255,15 @@ module _ (law : StormsNeverRest) (shelf : ShelfCall) (nodes : Arena) (out err : 
         made = λ done. has_made out end whole.out_text (sym whole.is ∙ done) law decision purpose (verdict_of decision) valid refl ends made;
       }) (status_is (verdict_status decision purpose (verdict_of decision) end ends))
 
+  assumption_shown : (decision : Decision) → IsNetlist decision.net → IsSought decision nodes end → Shown shelf nodes out err (Assumes decision) status
+  assumption_shown decision valid (Undecided limited same) = Full limited (whole.is ∙ ap status_of same)
+  assumption_shown decision valid (Sought sought reads) =
+      Done (record {
+        told = record { end = end; is = sought; told = whole };
+        harmless = λ done. has_weakest out end whole.out_text (sym whole.is ∙ done) decision sought.assumption valid sought.found sought.is reads;
+        refused = λ one. refused_still decision sought.assumption end valid sought.found sought.is (sym whole.is ∙ one);
+      }) (status_is (ending_status (assumption_told decision.net decision.care sought.assumption) end.status (ap status_of sought.is)))
+
   comparison_shown : (c : Comparison) → IsCompared c nodes end → Shown shelf nodes out err (Compares c) status
   comparison_shown c (Unfinished limited same) = Full limited (whole.is ∙ ap status_of same)
   comparison_shown c (Found same shown) =
@@ -223,6 +279,7 @@ module _ (law : StormsNeverRest) (shelf : ShelfCall) (nodes : Arena) (out err : 
   shown_at WantsMemory ends = absurd ends
   shown_at (Ends ending) ends = Done (told_as end _ out err status whole ends) (status_is (ending_status ending end.status (ap status_of ends)))
   shown_at (Decides decision purpose) ends = decision_shown decision purpose ends.0 ends.1
+  shown_at (Assumes decision) ends = assumption_shown decision ends.0 ends.1
   shown_at (Compares c) ends = comparison_shown c ends
 
 -- what a status shows of a run
@@ -395,6 +452,7 @@ help_told request shelf nodes out err status runs = by_command (command_of reque
     by_command (Some (HelpOn topic)) comes = told_by (topic_text topic) comes
     by_command (Some Version) comes = told_by version_text comes
     by_command (Some (Decide file options purpose)) comes = tt
+    by_command (Some (Assume file options)) comes = tt
     by_command (Some (Equal file second options)) comes = tt
     by_command (Some (Flat file)) comes = tt
     by_command (Some (Loops file form)) comes = tt

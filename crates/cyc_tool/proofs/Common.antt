@@ -13,8 +13,8 @@ pub use Rattle.cyc_base.specs.declared.trit.Trit.{Trit}
 pub use Rattle.cyc_io.specs.Faults.{Counts}
 pub use Rattle.cyc_io.specs.Files.{Files}
 pub use Rattle.cyc_tool.specs.Answer.{told}
-pub use Rattle.cyc_tool.specs.Calls.{AreGiven, ComesTo, EndsAt, Follows, Found, IsCompared, IsDecided, Limit, Runs, ShelfCall, Unfinished, rest_of}
-pub use Rattle.cyc_tool.specs.Plans.{Compares, Decides, Ending, Ends, Faulty, WantsMemory, Outgrows, Plan, Prints, Reads, plan_of, with_netlist, with_vectors}
+pub use Rattle.cyc_tool.specs.Calls.{AreGiven, ComesTo, EndsAt, Follows, Found, IsCompared, IsDecided, IsSought, Limit, Runs, ShelfCall, Sought, Undecided, Unfinished, rest_of}
+pub use Rattle.cyc_tool.specs.Plans.{Assumes, Compares, Decides, Ending, Ends, Faulty, WantsMemory, Outgrows, Plan, Prints, Reads, plan_of, with_netlist, with_vectors}
 pub use Rattle.cyc_tool.specs.Plays.{delays_text, known, played}
 pub use Rattle.cyc_tool.specs.Reading.{GoesOn, StopsIn}
 pub use Rattle.cyc_tool.specs.Requests.{Shows}

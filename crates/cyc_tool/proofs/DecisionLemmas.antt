@@ -94,14 +94,14 @@ refusal_shown net care what (Undetermined v wire) valid is =
     let known = (refusal_is_shown net care what (Undetermined v wire) valid is).1 (λ e. cc) in known.unknown
 
 -- a decision that met its limit of nodes
-at_limit : {T : Type 0} (result : Result T DecideFault) (nodes limit : ℕ) → result ≡ Err (NodeLimit nodes)
+pub at_limit : {T : Type 0} (result : Result T DecideFault) (nodes limit : ℕ) → result ≡ Err (NodeLimit nodes)
     → IfErr result (λ fault. (fault ≡ WantsMemory) ⊎ (fault ≡ NodeLimit limit)) → NodeLimit nodes ≡ NodeLimit limit
 at_limit {T} result nodes limit is fault =
     let P : Result T DecideFault → Type 0 = λ r. IfErr r (λ fault. (fault ≡ WantsMemory) ⊎ (fault ≡ NodeLimit limit)) in
     let cases : (NodeLimit nodes ≡ WantsMemory) ⊎ (NodeLimit nodes ≡ NodeLimit limit) = subst P is fault in
     elim cases [ inl e ↦ cc | inr e ↦ e ]
 
-nodes_are : (nodes limit : ℕ) → NodeLimit nodes ≡ NodeLimit limit → nodes ≡ limit
+pub nodes_are : (nodes limit : ℕ) → NodeLimit nodes ≡ NodeLimit limit → nodes ≡ limit
 nodes_are nodes limit e = cc
 
 pub limit_decides : {T : Type 0} (net : Parts) (care : CareSet) (limit : ℕ) (what : Observe) (purpose : Purpose) (arena : Arena) (end : Told)

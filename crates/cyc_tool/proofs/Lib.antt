@@ -13,4 +13,5 @@ pub mod TellLemmas
 pub mod TickLemmas
 pub mod ExplainedLemmas
 pub mod HearLemmas
+mod AssumedLemmas
 mod ComparedLemmas

@@ -1,6 +1,6 @@
--- A decision and a comparison by the options of a command, which end the call.
+-- A decision, a search for an assumption and a comparison by the options of a command, which end the call.
 use Rattle.std.proofs.Common.{◌≡◌, ◌⊎◌, ℕ, inl, inr, subst}
-use Rattle.cyc_tool.proofs.Common.{IfOk, Arena, Parts, IsNetlist, IsCompared, IsDecided, Compares, Decides, Purpose, outcome_of, Outcome, no_memory}
+use Rattle.cyc_tool.proofs.Common.{IfOk, Arena, Parts, IsNetlist, IsCompared, IsDecided, IsSought, Assumes, Compares, Decides, Purpose, outcome_of, Outcome, no_memory}
 use Rattle.std.specs.Prelude.{unwrap_or}
 use Rattle.std.specs.declared.alloc.AllocError.{AllocError}
 use Rattle.std.specs.declared.result.Result.{Result}
@@ -33,6 +33,25 @@ decides_by_options net care options purpose nodes limit what result end limited 
         ends_or_lacks result (IsDecided (decision net care options) purpose nodes) end ends
         (subst (λ (o : Observe). IfOk result (λ t. of (decision net care options).limit o (outcome_of t))) observed
         (subst (λ (n : ℕ). IfOk result (λ t. of n what (outcome_of t))) limited decided))
+
+pub seeks_by_options : (net : Parts) (care : CareSet) (options : Options) (nodes : Arena) (limit : ℕ) (what : Observe) (result : Result Told AllocError) (end : Outcome)
+    → limit ≡ unwrap_or options.nodes DEFAULT_NODES → what ≡ unwrap_or options.observe All → IsNetlist net → EndsAs result end
+    → IfOk result (λ told. IsSought (record { net = net; care = care; limit = limit; observe = what }) nodes (outcome_of told))
+    → FollowsStill (Assumes (decision net care options)) nodes end
+seeks_by_options net care options nodes limit what result end limited observed valid ends sought = record {
+  follows = λ files counts.
+      follows_still files counts nodes end (Assumes (decision net care options))
+      (elim told [ inl is ↦ inl (valid, is) | inr lacks ↦ inr lacks ]);
+}
+  where
+    of : ℕ → Observe → Outcome → Type 0
+    of n o = IsSought (record { net = net; care = care; limit = n; observe = o }) nodes
+
+    told : IsSought (decision net care options) nodes end ⊎ (end ≡ no_memory)
+    told =
+        ends_or_lacks result (IsSought (decision net care options) nodes) end ends
+        (subst (λ (o : Observe). IfOk result (λ t. of (decision net care options).limit o (outcome_of t))) observed
+        (subst (λ (n : ℕ). IfOk result (λ t. of n what (outcome_of t))) limited sought))
 
 pub compares_by_options : (first second : Parts) (care : CareSet) (options : Options) (nodes : Arena) (limit : ℕ) (result : Result Told AllocError) (end : Outcome)
     → limit ≡ unwrap_or options.nodes DEFAULT_NODES → EndsAs result end

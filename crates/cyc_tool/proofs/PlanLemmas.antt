@@ -1,6 +1,6 @@
 -- Going along a plan, from one part of a call to the next.
 use Rattle.std.proofs.Common.{arith, ◌≡◌, ◌≢◌, ◌⊎◌, ℕ, ◌≤◌, List, [], ◌∷◌, ◌++◌, Some, None, Ok, Err, refl, sym, ap, subst, ◌∙◌, inl, inr}
-use Rattle.cyc_tool.proofs.Common.{IfOk, Option, Arena, Counts, Files, AreGiven, rest_of, EndsAt, Follows, IsErrorOf, told, Ending, Plan, Reads, Faulty, WantsMemory, Ends, Decides, Compares, GoesOn, StopsIn, outcome_of, Outcome, no_memory}
+use Rattle.cyc_tool.proofs.Common.{IfOk, Option, Arena, Counts, Files, AreGiven, rest_of, EndsAt, Follows, IsErrorOf, told, Ending, Plan, Reads, Faulty, WantsMemory, Ends, Decides, Assumes, Compares, GoesOn, StopsIn, outcome_of, Outcome, no_memory}
 use Rattle.std.specs.declared.alloc.AllocError.{AllocError}
 use Rattle.std.specs.declared.result.Result.{Result}
 use Rattle.std.specs.List.{AllByRecursion}
@@ -21,6 +21,7 @@ gave_more files (bytes ∷ given) more (Faulty name fault) gave later = absurd g
 gave_more files (bytes ∷ given) more WantsMemory gave later = absurd gave
 gave_more files (bytes ∷ given) more (Ends ending) gave later = absurd gave
 gave_more files (bytes ∷ given) more (Decides decision purpose) gave later = absurd gave
+gave_more files (bytes ∷ given) more (Assumes decision) gave later = absurd gave
 gave_more files (bytes ∷ given) more (Compares c) gave later = absurd gave
 
 rest_more : (files : Option Files) (given more : List (List ℕ)) (plan : Plan) → AreGiven files given plan
@@ -31,6 +32,7 @@ rest_more files (bytes ∷ given) more (Faulty name fault) gave = absurd gave
 rest_more files (bytes ∷ given) more WantsMemory gave = absurd gave
 rest_more files (bytes ∷ given) more (Ends ending) gave = absurd gave
 rest_more files (bytes ∷ given) more (Decides decision purpose) gave = absurd gave
+rest_more files (bytes ∷ given) more (Assumes decision) gave = absurd gave
 rest_more files (bytes ∷ given) more (Compares c) gave = absurd gave
 
 -- the names of their files
@@ -42,12 +44,14 @@ names_first Q [] (bytes ∷ more) (Faulty name fault) all = tt
 names_first Q [] (bytes ∷ more) WantsMemory all = tt
 names_first Q [] (bytes ∷ more) (Ends ending) all = tt
 names_first Q [] (bytes ∷ more) (Decides decision purpose) all = tt
+names_first Q [] (bytes ∷ more) (Assumes decision) all = tt
 names_first Q [] (bytes ∷ more) (Compares c) all = tt
 names_first Q (bytes ∷ given) more (Reads role name next) all = (all.0, names_first Q given more (next bytes) all.1)
 names_first Q (bytes ∷ given) more (Faulty name fault) all = tt
 names_first Q (bytes ∷ given) more WantsMemory all = tt
 names_first Q (bytes ∷ given) more (Ends ending) all = tt
 names_first Q (bytes ∷ given) more (Decides decision purpose) all = tt
+names_first Q (bytes ∷ given) more (Assumes decision) all = tt
 names_first Q (bytes ∷ given) more (Compares c) all = tt
 
 names_later : (Q : List ℕ → Type 0) (files : Option Files) (given more : List (List ℕ)) (plan : Plan) → AreGiven files given plan
@@ -58,6 +62,7 @@ names_later Q files (bytes ∷ given) more (Faulty name fault) gave all = absurd
 names_later Q files (bytes ∷ given) more WantsMemory gave all = absurd gave
 names_later Q files (bytes ∷ given) more (Ends ending) gave all = absurd gave
 names_later Q files (bytes ∷ given) more (Decides decision purpose) gave all = absurd gave
+names_later Q files (bytes ∷ given) more (Assumes decision) gave all = absurd gave
 names_later Q files (bytes ∷ given) more (Compares c) gave all = absurd gave
 
 -- a read that failed in the second part failed in both together
@@ -68,6 +73,7 @@ ends_before files a b c nodes end (Faulty name fault) later ends = ends
 ends_before files a b c nodes end WantsMemory later ends = ends
 ends_before files a b c nodes end (Ends ending) later ends = ends
 ends_before files a b c nodes end (Decides decision purpose) later ends = ends
+ends_before files a b c nodes end (Assumes decision) later ends = ends
 ends_before files a b c nodes end (Compares comparison) later ends = ends
 
 follows_more : (files : Option Files) (a b c : Counts) (nodes : Arena) (end : Outcome) (plan rest : Plan)

@@ -1,7 +1,7 @@
 -- What a call comes to.
 use Rattle.std.proofs.Common.{◌≡◌, ◌⊎◌, ◌≤◌, ℕ, List, Some, None, refl, sym, subst, arith}
 use Rattle.cyc_tool.proofs.Common.{Option, Counts, Files, Arena, Command, ShelfCall, ComesTo, Follows, plan_of, Shows, Outcome, no_memory}
-use Rattle.commands.specs.Words.{Decide, Equal, Flat, Loops, Sim, Delays, Demo, Help, HelpOn, Version}
+use Rattle.commands.specs.Words.{Decide, Assume, Equal, Flat, Loops, Sim, Delays, Demo, Help, HelpOn, Version}
 use Rattle.cyc_tool.specs.Calls.{KeepsNodes}
 use Rattle.cyc_tool.specs.Texts.{usage}
 
@@ -22,6 +22,7 @@ comes_to_usage shows asked files counts nodes end is ends =
 pub keeps_still : (asked : Option Command) (nodes : Arena) → KeepsNodes asked nodes nodes
 keeps_still None nodes = refl
 keeps_still (Some (Decide file options purpose)) nodes = tt
+keeps_still (Some (Assume file options)) nodes = tt
 keeps_still (Some (Equal file second options)) nodes = tt
 keeps_still (Some (Flat file)) nodes = refl
 keeps_still (Some (Loops file form)) nodes = refl

@@ -1,19 +1,21 @@
--- The answers to a request, by its files. There is one, but for a wire that is to be explained.
+-- The answers to a request, by its files. There is one, but for a wire that is to be explained and for an assumption.
 use Rattle.std.specs.Prelude.{◌≡◌, ◌+◌, ◌-◌, Bool, List, length, Some, None, MatchOption}
 use Rattle.std.specs.declared.option.Option.{Option}
 use Rattle.cyc_base.specs.declared.sig.Sig.{Sig}
 use Rattle.cyc_io.specs.Files.{Files}
 use Rattle.netlist.specs.declared.parts.Parts.{Parts}
+use Rattle.assumptions.specs.Assumptions.{IsAssumption}
+use Rattle.assumptions.specs.declared.assumption.Assumption.{Assumption}
 use Rattle.explanations.specs.Explained.{Explains as ExplainsGate}
 use Rattle.explanations.specs.declared.explanation.Explanation.{Explanation}
 use Rattle.refusals.specs.Refusals.{refusal}
 use Rattle.refusals.specs.declared.refusal.Refusal.{Refusal}
 use Rattle.refusals.specs.declared.refusal.Refusal.TheVariants.{Undetermined}
-use Rattle.report.specs.Messages.{too_large_text}
+use Rattle.report.specs.Messages.{too_large_text, too_many_rows_text}
 use Rattle.commands.specs.Words.{command_of, Purpose, Explains}
 use Rattle.commands.specs.declared.form.Form.{Form}
-use Rattle.cyc_tool.specs.Endings.{accepted_told, refused_told, wire_explained, comparison_told}
-use Rattle.cyc_tool.specs.Plans.{Ending, Prints, PrintsBeside, Refuses, Declines, Outgrows, Decision, Comparison, Plan, Reads, Faulty, WantsMemory, Ends, Decides, Compares, plan_of}
+use Rattle.cyc_tool.specs.Endings.{accepted_told, refused_told, wire_explained, assumption_told, comparison_told}
+use Rattle.cyc_tool.specs.Plans.{Ending, Prints, PrintsBeside, Refuses, Declines, Outgrows, WantsRows, Decision, Comparison, Plan, Reads, Faulty, WantsMemory, Ends, Decides, Assumes, Compares, plan_of}
 use Rattle.cyc_tool.specs.Requests.{Request}
 use Rattle.cyc_tool.specs.Texts.{Outcome, on_out, on_both, on_err, usage, has_fault, no_memory, read_failed}
 
@@ -24,6 +26,7 @@ told (PrintsBeside text lines) = on_both 0 text lines
 told (Refuses text) = on_out 1 text
 told (Declines text) = on_err 1 text
 told (Outgrows size) = on_err 8 (too_large_text size)
+told (WantsRows most) = on_err 8 (too_many_rows_text most)
 
 -- what refuses the netlist of a decision, if anything does
 abbrev pub verdict_of : Decision → Option Refusal
@@ -47,6 +50,12 @@ abbrev pub IsVerdictOutcome : Decision → Purpose → Option Refusal → Outcom
 IsVerdictOutcome decision purpose None end = end ≡ told (accepted_told decision purpose)
 IsVerdictOutcome decision purpose (Some refused) end = IsRefusalOutcome decision.net purpose refused end
 
+-- What is found where an assumption is looked for is told. It isn't the only one: an assumption may be found by other rows.
+pub record IsAssumed (decision : Decision) (end : Outcome) : Type 0 where
+  pub assumption : Assumption
+  pub found : IsAssumption decision.net decision.care decision.observe assumption
+  pub is : end ≡ told (assumption_told decision.net decision.care assumption)
+
 -- the outcome of a comparison
 abbrev pub compared : Comparison → Outcome
 compared c = told (comparison_told c)
@@ -58,6 +67,7 @@ IsOutcomeAt files (Faulty name fault) end = end ≡ has_fault name fault
 IsOutcomeAt files WantsMemory end = end ≡ no_memory
 IsOutcomeAt files (Ends ending) end = end ≡ told ending
 IsOutcomeAt files (Decides decision purpose) end = IsVerdictOutcome decision purpose (verdict_of decision) end
+IsOutcomeAt files (Assumes decision) end = IsAssumed decision end
 IsOutcomeAt files (Compares c) end = end ≡ compared c
 
 -- an answer to a request, where these are the files

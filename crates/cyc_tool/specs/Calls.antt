@@ -1,5 +1,5 @@
 -- What a call of `run` did with its shelf and its sinks.
-use Rattle.std.specs.Prelude.{◌≡◌, ◌≢◌, ◌≤◌, ◌⊎◌, ℕ, List, [], ◌∷◌, length, Some, None, IfOk}
+use Rattle.std.specs.Prelude.{◌≡◌, ◌≢◌, ◌≤◌, ◌⊎◌, ℕ, List, [], ◌∷◌, length, All, Some, None, Ok, IfOk}
 use Rattle.std.specs.declared.option.Option.{Option}
 use Rattle.std.specs.List.{AllByRecursion}
 use Rattle.std.specs.Io.KnownBytes.{Appends}
@@ -7,21 +7,29 @@ use Rattle.cyc_io.specs.Faults.{Rose, Counts}
 use Rattle.cyc_io.specs.Files.{Files, IsFile}
 pub use Rattle.cyc_io.specs.Taken.{SinkCall, sink_call}
 use Rattle.cyc_io.specs.Taken.{AppendsPrefix}
+use Rattle.assumptions.specs.Limits.{RunsOutOfNodes}
+use Rattle.assumptions.specs.declared.assumption.Assumption.{Assumption}
+use Rattle.assumptions.specs.declared.assumption.Assumption.TheVariants.{Stands, Weakest}
 use Rattle.bdd_store.specs.Arena.{Arena}
+use Rattle.blif_write.specs.Laws.{IsSmall}
+use Rattle.care_sets.specs.Care.{CareSet}
 use Rattle.netlist.specs.Netlists.{IsNetlist}
+use Rattle.netlist.specs.declared.parts.Parts.{Parts}
 use Rattle.verdict.specs.Causes.{IsOutOfNodes}
 use Rattle.verdict.specs.Enough.{IsBelowEnough}
-use Rattle.commands.specs.Words.{Decide, Command, Equal, Demo, command_of, Purpose, Judges, Rewrites, WritesGraph, Explains, Demonstrates, Storms}
+use Rattle.commands.specs.Words.{Decide, Command, Assume, Equal, Demo, command_of, Purpose, Judges, Rewrites, WritesGraph, Explains, Demonstrates, Storms}
+use Rattle.parsed_files.specs.CareFiles.{care_of}
+use Rattle.parsed_files.specs.CareTexts.{AreNamed, models_of}
 use Rattle.parsed_files.specs.NetlistFiles.{netlist_of}
-use Rattle.cyc_base.specs.declared.limits.TheConstants.{MAX_REWRITTEN_ITEMS}
+use Rattle.cyc_base.specs.declared.limits.TheConstants.{MAX_FILE_BYTES, MAX_REWRITTEN_ITEMS}
 use Rattle.refusals.specs.declared.refusal.Refusal.{Refusal}
 use Rattle.equal.specs.Rebound.{IsLimited as IsComparisonLimited}
 use Rattle.equality.specs.Shown.{ShowsItself}
 use Rattle.rewriting.specs.Graphs.{graph_of, most_ands, IsGraphing}
 use Rattle.rewriting.specs.Rewriting.{rewritten, rewritten_size, IsRewriting}
-use Rattle.cyc_tool.specs.Answer.{told, verdict_of, IsVerdictOutcome, compared}
-use Rattle.cyc_tool.specs.Endings.{accepted_told}
-use Rattle.cyc_tool.specs.Plans.{Role, Netlist, Care, Vectors, Recorded, Decision, Comparison, Plan, Reads, Faulty, WantsMemory, Ends, Decides, Compares, plan_of}
+use Rattle.cyc_tool.specs.Answer.{told, verdict_of, IsVerdictOutcome, IsAssumed, compared}
+use Rattle.cyc_tool.specs.Endings.{accepted_told, care_text}
+use Rattle.cyc_tool.specs.Plans.{Role, Netlist, Care, Vectors, Recorded, Decision, Comparison, Plan, Reads, Faulty, WantsMemory, Ends, Decides, Assumes, Compares, plan_of}
 use Rattle.cyc_tool.specs.Requests.{Request, Shows}
 use Rattle.cyc_tool.specs.Texts.{Outcome, usage, has_fault, read_failed, limit_reached, no_memory}
 
@@ -68,6 +76,7 @@ AreGiven files (bytes ∷ given) (Faulty name fault) = ⊥
 AreGiven files (bytes ∷ given) WantsMemory = ⊥
 AreGiven files (bytes ∷ given) (Ends ending) = ⊥
 AreGiven files (bytes ∷ given) (Decides decision purpose) = ⊥
+AreGiven files (bytes ∷ given) (Assumes decision) = ⊥
 AreGiven files (bytes ∷ given) (Compares c) = ⊥
 
 -- what is left of a plan behind these texts
@@ -118,6 +127,27 @@ pub data IsDecided (decision : Decision) (purpose : Purpose) (nodes : Arena) (en
       → IsDecided decision purpose nodes end
   Limit : IsLimited decision nodes → end ≡ limit_reached decision.limit → IsDecided decision purpose nodes end
 
+-- A decision on a stronger care set met the limit of nodes.
+abbrev pub IsSearchLimited : Decision → Arena → Type 0
+IsSearchLimited decision nodes = RunsOutOfNodes nodes decision.net decision.care decision.observe decision.limit
+
+-- The text of a care set is a care file of this care set, where its models have the names of one and neither they nor the
+-- text are too large.
+abbrev pub IsCareFile : Parts → CareSet → Type 0
+IsCareFile net care =
+    AreNamed care → All IsSmall (models_of care) → length (care_text care) ≤ MAX_FILE_BYTES → care_of net (care_text care) ≡ Ok care
+
+-- So is what is written of an assumption.
+abbrev pub IsWritten : Parts → CareSet → Assumption → Type 0
+IsWritten net care Stands = IsCareFile net care
+IsWritten net care (Weakest stronger) = IsCareFile net stronger
+IsWritten net care assumption = Unit {0}
+
+-- An assumption was looked for, and what is found is told, or the limit of nodes was met.
+pub data IsSought (decision : Decision) (nodes : Arena) (end : Outcome) : Type 0 where
+  Sought : (is : IsAssumed decision end) → IsWritten decision.net decision.care is.assumption → IsSought decision nodes end
+  Undecided : IsSearchLimited decision nodes → end ≡ limit_reached decision.limit → IsSought decision nodes end
+
 -- A comparison came to what is found, which shows itself, or met its limit of nodes: it is below what is enough for both
 -- decisions and the comparison.
 pub data IsCompared (c : Comparison) (nodes : Arena) (end : Outcome) : Type 0 where
@@ -131,6 +161,7 @@ EndsAt shelf nodes end (Faulty name fault) = end ≡ has_fault name fault
 EndsAt shelf nodes end WantsMemory = ⊥
 EndsAt shelf nodes end (Ends ending) = end ≡ told ending
 EndsAt shelf nodes end (Decides decision purpose) = IsNetlist decision.net × IsDecided decision purpose nodes end
+EndsAt shelf nodes end (Assumes decision) = IsNetlist decision.net × IsSought decision nodes end
 EndsAt shelf nodes end (Compares c) = IsCompared c nodes end
 
 -- A call went along a plan to this outcome, by what the shelf gave and these diagrams show, or it wants memory. It
@@ -150,9 +181,10 @@ abbrev pub ComesTo : Shows → Option Command → ShelfCall → Arena → Outcom
 ComesTo shows None shelf nodes end = ComesToUsage shelf end
 ComesTo shows (Some command) shelf nodes end = Follows (plan_of shows command) shelf nodes end
 
--- A command that decides a netlist or compares two uses the diagrams. Any other leaves them as they were, and so do words outside the grammar.
+-- A command that decides a netlist, looks for an assumption or compares two netlists uses the diagrams. Any other leaves them as they were, and so do words outside the grammar.
 abbrev pub KeepsNodes : Option Command → Arena → Arena → Type 0
 KeepsNodes (Some (Decide file options purpose)) before now = Unit {0}
+KeepsNodes (Some (Assume file options)) before now = Unit {0}
 KeepsNodes (Some (Equal file second options)) before now = Unit {0}
 KeepsNodes (Some (Demo cells)) before now = Unit {0}
 KeepsNodes other before now = now ≡ before

@@ -1,9 +1,13 @@
 -- What follows of a run for each status, and where the files are told.
-use Rattle.std.specs.Prelude.{◌≡◌, ◌≢◌, ◌≤◌, ◌⊎◌, codes, ℕ, Bool, List, Some, None, IfSome, IsSomeAnd}
+use Rattle.std.specs.Prelude.{◌≡◌, ◌≢◌, ◌≤◌, ◌↔◌, ◌⊎◌, codes, ℕ, Bool, true, List, length, Some, None, IfSome, IsSomeAnd}
 use Rattle.std.specs.declared.option.Option.{Option}
+use Rattle.assumptions.specs.Assumptions.{IsRefused, IsStrengthened}
 use Rattle.bdd_store.specs.Arena.{Arena}
+use Rattle.care_rows.specs.declared.rows.Row.{Row}
+use Rattle.care_sets.specs.Care.{CareSet, columns, is_allowed, is_in_invariant, state_of}
 use Rattle.schedules.specs.Harmless.{IsHarmless}
 use Rattle.cyc_io.specs.Files.{Files}
+use Rattle.refusals.specs.Acceptance.{AreDetermined, observed}
 use Rattle.refusals.specs.Refusals.{IsUnknownAt, Proves}
 use Rattle.refusals.specs.declared.refusal.Refusal.{Refusal}
 use Rattle.refusals.specs.declared.refusal.Refusal.TheVariants.{EmptyCare, Undetermined}
@@ -20,10 +24,10 @@ use Rattle.equality.specs.Runs.{RunAlike}
 use Rattle.equality.specs.Shown.{ShowsItself}
 use Rattle.rewriting.specs.Graphs.{graph_of, IsGraphing}
 use Rattle.rewriting.specs.Rewriting.{rewritten, IsRewriting}
-use Rattle.cyc_tool.specs.Answer.{told, verdict_of, IsVerdictOutcome, compared, IsAnswer}
-use Rattle.cyc_tool.specs.Calls.{ShelfCall, SinkCall, ReadFailed, WriteFailed, Takes, AreGiven, rest_of, IsLimited, IsTold}
-use Rattle.cyc_tool.specs.Endings.{accepted_told, graph_text}
-use Rattle.cyc_tool.specs.Plans.{Decision, Comparison, Plan, Reads, Faulty, Ends, Decides, Compares, plan_of}
+use Rattle.cyc_tool.specs.Answer.{told, verdict_of, IsVerdictOutcome, IsAssumed, compared, IsAnswer}
+use Rattle.cyc_tool.specs.Calls.{ShelfCall, SinkCall, ReadFailed, WriteFailed, Takes, AreGiven, rest_of, IsLimited, IsSearchLimited, IsCareFile, IsTold}
+use Rattle.cyc_tool.specs.Endings.{accepted_told, care_text, graph_text}
+use Rattle.cyc_tool.specs.Plans.{Decision, Comparison, Plan, Reads, Faulty, Ends, Decides, Assumes, Compares, plan_of}
 use Rattle.cyc_tool.specs.Requests.{Request}
 use Rattle.cyc_tool.specs.Texts.{Outcome, no_memory}
 
@@ -62,9 +66,10 @@ abbrev pub IsUnread : ShelfCall → Plan → Type 0
 IsUnread shelf (Reads role name next) = ReadFailed shelf name
 IsUnread shelf plan = ⊥
 
--- The decision or the comparison that is next met its limit of nodes.
+-- The decision or the comparison that is next met its limit of nodes, or the search for an assumption.
 abbrev pub MeetsLimit : Arena → Plan → Type 0
 MeetsLimit nodes (Decides decision purpose) = IsLimited decision nodes
+MeetsLimit nodes (Assumes decision) = IsSearchLimited decision nodes
 MeetsLimit nodes (Compares c) = IsComparisonLimited nodes c.first c.second c.care c.limit
 MeetsLimit nodes plan = ⊥
 
@@ -116,6 +121,33 @@ pub record IsVerdictDone (decision : Decision) (purpose : Purpose) (out err : Si
   pub told : IsToldAs (IsVerdictOutcome decision purpose verdict) out err status
   pub made : status ≡ 0 → HasMade decision purpose out
 
+-- A care set lets a vector through just where that of a decision does and each observed wire is determined at it, within the
+-- invariant, which is the same.
+pub record IsExact (decision : Decision) (stronger : CareSet) : Type 0 where
+  pub invariant : stronger.invariant ≡ decision.care.invariant
+  pub lets : (v : List Bool) → length v ≡ columns decision.net → is_in_invariant decision.care (state_of decision.net v) ≡ true →
+      (is_allowed stronger v ≡ true) ↔ ((is_allowed decision.care v ≡ true) × AreDetermined decision.net v (observed decision.net decision.observe))
+
+-- What a user has of the care models that are on out: on their care set the netlist is harmless, and it is the weakest such.
+pub record HasWeakest (decision : Decision) (out : SinkCall) : Type 0 where
+  pub stronger : CareSet
+  pub exact : IsExact decision stronger
+  pub harmless : IsHarmless decision.net stronger decision.observe
+  pub text : Takes out (care_text stronger)
+  pub reads_back : IsCareFile decision.net stronger
+
+-- This refuses the netlist on a stronger care set, and isn't an undetermined wire. It shows itself.
+pub record IsRefusedStill (decision : Decision) : Type 0 where
+  pub refused : Refusal
+  pub still : IsRefused decision.net decision.care decision.observe refused
+  pub shown : refused ≢ EmptyCare → Proves decision.net still.refused.stronger refused
+
+-- What was found where an assumption was looked for was told, and it shows itself.
+pub record IsAssumptionDone (decision : Decision) (out err : SinkCall) (status : ℕ) : Type 0 where
+  pub told : IsToldAs (IsAssumed decision) out err status
+  pub harmless : status ≡ 0 → HasWeakest decision out
+  pub refused : status ≡ 1 → IsRefusedStill decision
+
 -- What two netlists that are told equal have: each run of the first within care and each run of the second, over the same
 -- inputs and from equal latches, have equal outputs and latches by name at each tick, whatever their windows of older reads,
 -- their pasts and their fair schedules are.
@@ -133,6 +165,7 @@ pub record IsComparisonDone (c : Comparison) (out err : SinkCall) (status : ℕ)
 abbrev pub IsDoneWith : SinkCall → SinkCall → ℕ → Plan → Type 0
 IsDoneWith out err status (Ends ending) = IsTold (told ending) out err status
 IsDoneWith out err status (Decides decision purpose) = IsVerdictDone decision purpose out err status
+IsDoneWith out err status (Assumes decision) = IsAssumptionDone decision out err status
 IsDoneWith out err status (Compares c) = IsComparisonDone c out err status
 IsDoneWith out err status plan = ⊥
 
@@ -154,9 +187,12 @@ abbrev pub GivesAnswer : Request → ShelfCall → Arena → SinkCall → SinkCa
 GivesAnswer request shelf nodes out err status = IfSome shelf.files (λ files. IsWell request shelf out err files
     → IsToldAs (IsAnswer request files) out err status ⊎ (Reaches (MeetsLimit nodes) request shelf × (status ≡ 6)) ⊎ IsTold no_memory out err status)
 
--- The limit of the decision that is next is enough, or that of the comparison, unless a name isn't matched.
+-- The limit of the decision that is next is enough, or that of the comparison, unless a name isn't matched. For an
+-- assumption it is enough on each stronger care set.
 abbrev pub IsEnoughFor : Plan → Type 0
 IsEnoughFor (Decides decision purpose) = IsEnough decision.net decision.care decision.limit
+IsEnoughFor (Assumes decision) =
+    (rows : List Row) (stronger : CareSet) → IsStrengthened decision.net decision.care decision.observe rows stronger → IsEnough decision.net stronger decision.limit
 IsEnoughFor (Compares c) = unmatched c.first c.second ≡ None → IsEnoughForBoth c.first c.second c.care c.limit
 IsEnoughFor plan = Unit {0}
 

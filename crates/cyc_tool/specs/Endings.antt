@@ -1,5 +1,5 @@
 -- What a call ends with that makes a decision, by its verdict: nothing, or what refuses the netlist. And what one ends
--- with that compares two netlists.
+-- with that looks for an assumption, or compares two netlists.
 use Rattle.std.specs.Prelude.{ℕ, ◌+◌, ◌++◌, Bool, true, false, List, [], length, nat_le, if◌then◌else◌, Some, None}
 use Rattle.std.specs.declared.option.Option.{Option}
 use Rattle.cyc_base.specs.declared.limits.TheConstants.{MAX_REWRITTEN_ITEMS}
@@ -14,11 +14,15 @@ use Rattle.explanations.specs.declared.explanation.Explanation.{Explanation}
 use Rattle.netlist.specs.Fixpoint.{fix}
 use Rattle.netlist.specs.declared.parts.Parts.{Parts}
 use Rattle.loops.specs.Listed.{first_gates}
-use Rattle.blif_write.specs.Written.{written}
+use Rattle.assumptions.specs.declared.assumption.Assumption.{Assumption}
+use Rattle.assumptions.specs.declared.assumption.Assumption.TheVariants.{Stands, Weakest, Refused, TooManyRows, TooLarge}
+use Rattle.assumptions.specs.declared.search.TheConstants.{MAX_ROWS}
+use Rattle.blif_write.specs.Written.{models_written, written}
 use Rattle.aig_core.specs.declared.building.Built.{Built}
 use Rattle.aig_core.specs.Text.{aiger_text, binary_text}
 use Rattle.commands.specs.declared.encoding.Encoding.{Encoding}
 use Rattle.commands.specs.declared.encoding.Encoding.TheVariants.{Ascii, Binary}
+use Rattle.parsed_files.specs.CareTexts.{models_of}
 use Rattle.refusals.specs.Refusals.{loose_gates}
 use Rattle.refusals.specs.declared.observe.Observe.{Observe}
 use Rattle.refusals.specs.declared.observe.Observe.TheVariants.{All, Outputs}
@@ -33,7 +37,7 @@ use Rattle.rewriting.specs.Graphs.{graph_of, most_ands}
 use Rattle.rewriting.specs.Rewriting.{rewritten, rewritten_size, sweeps_needed}
 use Rattle.equality.specs.Told.{are_equal, found_text}
 use Rattle.commands.specs.Words.{Purpose, Judges, Rewrites, WritesGraph, Explains, Demonstrates, Storms}
-use Rattle.cyc_tool.specs.Plans.{Ending, Prints, Refuses, Declines, Outgrows, Decision, Comparison}
+use Rattle.cyc_tool.specs.Plans.{Ending, Prints, Refuses, Declines, Outgrows, WantsRows, Decision, Comparison}
 use Rattle.cyc_tool.specs.Storms.{events_of, events_told, storm_text}
 
 -- a number that is told only where the outputs alone are observed
@@ -114,6 +118,19 @@ refused_told net (WritesGraph encoding) refused = Declines (refusal_text net ref
 refused_told net (Explains form) refused = Refuses (refusal_shown form net refused)
 refused_told net (Demonstrates cells) refused = Refuses (refusal_text net refused)
 refused_told net (Storms rounds) refused = storm_or_refusal net rounds refused
+
+-- the text of a care set: its models, the assumption first
+abbrev pub care_text : CareSet → List ℕ
+care_text care = models_written (models_of care)
+
+-- what is found where an assumption is looked for within a care set: this one or a stronger one, what refuses the netlist
+-- under each assumption, or how large the assumption would be
+abbrev pub assumption_told : Parts → CareSet → Assumption → Ending
+assumption_told net care Stands = Prints (care_text care)
+assumption_told net care (Weakest stronger) = Prints (care_text stronger)
+assumption_told net care (Refused refused) = Declines (refusal_text net refused)
+assumption_told net care TooManyRows = WantsRows MAX_ROWS
+assumption_told net care (TooLarge gates) = Outgrows gates
 
 -- what is found of two netlists, which are equal or aren't
 abbrev pub found_told : Bool → List ℕ → Ending

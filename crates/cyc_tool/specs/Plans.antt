@@ -14,7 +14,7 @@ use Rattle.blif_write.specs.Written.{written}
 use Rattle.care_sets.specs.Care.{CareSet}
 use Rattle.refusals.specs.declared.observe.Observe.{Observe}
 use Rattle.refusals.specs.declared.observe.Observe.TheVariants as observe
-use Rattle.commands.specs.Words.{Options, Purpose, Demonstrates, Command, Decide, Equal, Flat, Loops, Sim, Delays, Demo, Help, HelpOn, Version}
+use Rattle.commands.specs.Words.{Options, Purpose, Demonstrates, Command, Decide, Assume, Equal, Flat, Loops, Sim, Delays, Demo, Help, HelpOn, Version}
 use Rattle.commands.specs.declared.form.Form.{Form}
 use Rattle.commands.specs.declared.form.Form.TheVariants.{Lines, Dot}
 use Rattle.parsed_files.specs.CareFiles.{no_care, care_of}
@@ -48,6 +48,8 @@ pub data Ending : Type 0 where
   Declines : List ℕ → Ending
   -- a result would have so many gates and latches, or ANDs, which are too many
   Outgrows : ℕ → Ending
+  -- an assumption would have more rows than so many
+  WantsRows : ℕ → Ending
 
 -- a netlist to be decided on a care set, with at most so many nodes, where these wires are observed
 pub record Decision : Type 0 where
@@ -75,6 +77,8 @@ pub data Plan : Type 0 where
   Ends : Ending → Plan
   -- a decision is made, and its verdict says what the call ends with
   Decides : Decision → Purpose → Plan
+  -- the weakest assumption is looked for under which the decision accepts, and what is found says what the call ends with
+  Assumes : Decision → Plan
   -- two netlists are compared, and what is found says what the call ends with
   Compares : Comparison → Plan
 
@@ -115,6 +119,14 @@ deciding_on net options purpose = with_care options.care net (λ care. Decides (
 -- and of the netlist of a file
 abbrev pub deciding : List ℕ → Options → Purpose → Plan
 deciding file options purpose = with_netlist file (λ net. deciding_on net options purpose)
+
+-- the weakest assumption of a netlist, within its care set
+abbrev pub assuming_on : Options → Parts → Plan
+assuming_on options net = with_care options.care net (λ care. Assumes (decision net care options))
+
+-- and of the netlist of a file
+abbrev pub assuming : List ℕ → Options → Plan
+assuming file options = with_netlist file (assuming_on options)
 
 abbrev pub comparison : Parts → Parts → CareSet → Options → Comparison
 comparison first second care options = record { first = first; second = second; care = care; limit = unwrap_or options.nodes DEFAULT_NODES }
@@ -193,6 +205,7 @@ ring_deciding cells = using ring_file (netlist_of (ring_text cells)) (ring_decid
 -- for before the next is read.
 abbrev pub plan_of : Shows → Command → Plan
 plan_of shows (Decide file options purpose) = deciding file options purpose
+plan_of shows (Assume file options) = assuming file options
 plan_of shows (Equal file second options) = comparing file second options
 plan_of shows (Flat file) = flattening file
 plan_of shows (Loops file form) = finding_loops form file

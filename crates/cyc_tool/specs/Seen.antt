@@ -6,6 +6,9 @@ use Rattle.netlist.specs.declared.parts.Parts.{Parts}
 use Rattle.aig_core.specs.declared.building.Built.{Built}
 use Rattle.aig_core.specs.declared.fault.AigFault.{AigFault}
 use Rattle.aig_core.specs.declared.fault.AigFault.TheVariants.{TooLarge as ManyAnds, Memory as NoRoom}
+use Rattle.assumptions.specs.declared.assumption.Assumption.{Assumption}
+use Rattle.assumptions.specs.declared.assumption.Assumption.TheVariants as assumptions
+use Rattle.care_sets.specs.Binding.{IsCareOf}
 use Rattle.commands.specs.declared.encoding.Encoding.{Encoding}
 use Rattle.blif_write.specs.Written.{written}
 use Rattle.commands.specs.Words.{Purpose, Explains}
@@ -97,6 +100,13 @@ IsSaid net (judgements.Refused refused) = IsToldRefusal net refused
 abbrev pub IsTellable : Parts → Blocks → Verdict → Type 0
 IsTellable net blocks (Accepted counts loose) = length counts.per_block ≡ length blocks.list
 IsTellable net blocks (Refused refused) = IsToldRefusal net refused
+
+-- what is found where an assumption is looked for, and can be told: a care set is the netlist's, and what refuses it has
+-- its widths
+abbrev pub IsTellableAssumption : Parts → Assumption → Type 0
+IsTellableAssumption net (assumptions.Weakest stronger) = IsCareOf net stronger
+IsTellableAssumption net (assumptions.Refused refused) = IsRefusalOf net refused
+IsTellableAssumption net assumption = Unit {0}
 
 -- want of memory
 abbrev pub no_memory : Stop

@@ -351,7 +351,7 @@ fn tell_verdict(
 }
 
 // That the limit of nodes was met.
-fn tell_limited(alloc: Global, fault: &DecideFault) -> Result<Outcome, AllocError>
+pub(crate) fn tell_limited(alloc: Global, fault: &DecideFault) -> Result<Outcome, AllocError>
     ensures { IfOk result (λ told. IsLimitOf fault.now told) }
 {
     match fault {

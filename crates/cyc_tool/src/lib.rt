@@ -5,6 +5,7 @@
 //! nodes, wants memory, or that a read or a write failed.
 #![tactic(auto)]
 
+mod assumed;
 mod compared;
 mod decision;
 mod explained;

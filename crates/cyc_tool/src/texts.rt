@@ -5,12 +5,13 @@ ghost use Rattle.parsed_files.specs.Seen.{fault_seen};
 ghost use Rattle.delay_core.specs.declared.plan.TickEnd.{TickEnd as TickEnded};
 ghost use Rattle.cyc_tool.specs.Answer.{told as done};
 ghost use Rattle.cyc_tool.specs.Endings.{count_of_loops, graph_text};
-ghost use Rattle.cyc_tool.specs.Plans.{Declines, Outgrows, Prints, Refuses, loops_shown, probed_told};
+ghost use Rattle.cyc_tool.specs.Plans.{Declines, Outgrows, WantsRows, Prints, Refuses, loops_shown, probed_told};
 ghost use Rattle.cyc_tool.specs.Plays.{delays_text};
 ghost use Rattle.cyc_tool.specs.Seen.{outcome_of};
 ghost use Rattle.cyc_tool.specs.Simulation.{sim_text};
 ghost use Rattle.cyc_tool.specs.Texts.{has_fault, limit_reached, on_both as both_of, on_err as err_of, on_out as out_of, read_failed, usage};
 ghost use Rattle.aig_core.specs.Answers.{FitsNetlist};
+ghost use Rattle.assumptions.specs.declared.search.TheConstants.{MAX_ROWS as most_rows};
 ghost use Rattle.aig_core.specs.Text.{aiger_text, binary_text};
 ghost use Rattle.blif_write.specs.Written.{written};
 ghost use Rattle.refusals.specs.Refusals.{IsRefusalOf};
@@ -23,6 +24,7 @@ use crate::plays::end_lines;
 use crate::sim_lines::simulate;
 use crate::status;
 use aig_core::{write_ascii, write_binary};
+use assumptions::MAX_ROWS;
 use blif_write::write;
 use commands::{Encoding, Form, Topic};
 use cyc_base::{Name, Trits};
@@ -36,7 +38,7 @@ use probes::Kind;
 use refusals::Refusal;
 use report::{
     USAGE_TEXT, put_accepted, put_file_fault, put_help, put_limit, put_loops, put_read_failed,
-    put_refusal, put_too_large, put_topic, put_version,
+    put_refusal, put_too_large, put_too_many_rows, put_topic, put_version,
 };
 use rewriting::Built;
 use std::alloc::{AllocError, Global};
@@ -142,6 +144,17 @@ pub(crate) fn tell_too_large(alloc: Global, size: u64) -> Result<Outcome, AllocE
 {
     let mut sink = TextSink::new(alloc);
     match put_too_large(size, &mut sink) {
+        Ok(()) => Ok(on_err(alloc, status::TOO_LARGE, sink.into_vec())),
+        Err(_) => Err(AllocError),
+    }
+}
+
+// That an assumption would have too many rows.
+pub(crate) fn tell_too_many_rows(alloc: Global) -> Result<Outcome, AllocError>
+    ensures { IfOk result (λ told. outcome_of told ≡ done (WantsRows most_rows)) }
+{
+    let mut sink = TextSink::new(alloc);
+    match put_too_many_rows(MAX_ROWS as u32, &mut sink) {
         Ok(()) => Ok(on_err(alloc, status::TOO_LARGE, sink.into_vec())),
         Err(_) => Err(AllocError),
     }

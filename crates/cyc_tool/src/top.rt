@@ -13,6 +13,7 @@ ghost use Rattle.cyc_tool.specs.Reading.{FollowsAlone, FollowsStillAlone};
 ghost use Rattle.cyc_tool.specs.Requests.{Shows, request, shown_by};
 ghost use Rattle.cyc_tool.specs.Seen.{end_of, outcome_of, stop_outcome};
 
+use crate::assumed::assume_file;
 use crate::compared::compare_files;
 use crate::decision::{Task, tell_decision};
 use crate::outcome::{Outcome, Stop, or_stop};
@@ -218,6 +219,7 @@ fn carry_out<S: Shelf>(
         Command::Decide(netlist, options, purpose) => {
             decide_file(alloc, shelf, netlist, options, purpose, d)
         }
+        Command::Assume(netlist, options) => assume_file(alloc, shelf, netlist, options, d),
         Command::Equal(netlist, second, options) => {
             compare_files(alloc, shelf, netlist, second, options, d)
         }
@@ -324,8 +326,8 @@ fn tell_end<O: Sink, E: Sink>(end: &Result<Outcome, Stop>, out: &mut O, err: &mu
 ///
 /// A file that is `-` is standard input: `/dev/stdin` is read from the shelf.
 ///
-/// `d` may hold anything when the call starts. A command that decides or compares starts it anew, and its nodes at the end of
-/// the call show the cause of status 6. All other words leave it as it was.
+/// `d` may hold anything when the call starts. A command that decides, compares or looks for an assumption starts it anew, and
+/// its nodes at the end of the call show the cause of status 6. All other words leave it as it was.
 ///
 /// `probes` are told the changes of a run that `delays` plays, if they are of the kind that the words ask for, and what they
 /// show comes on out in their order, behind the lines of the ticks; of the kind `Vcd` it is all of out, and these lines go
@@ -333,8 +335,8 @@ fn tell_end<O: Sink, E: Sink>(end: &Result<Outcome, Stop>, out: &mut O, err: &mu
 ///
 /// 0: done, accepted or equal. 1: refused, or not equal. 2: the words aren't in the grammar. 3: a file has a fault. 4: a file wasn't read.
 /// 5: a write failed; each sink has a prefix of its text. 6: the limit of nodes was met, which is below what is enough.
-/// 7: want of memory. 8: the rewritten netlist would have over 4,000,000 gates and latches, its graph as many ANDs, or the
-/// storm as many events.
+/// 7: want of memory. 8: the rewritten netlist would have over 4,000,000 gates and latches, its graph as many ANDs, the storm
+/// as many events, or the assumption as many gates or over 4,096 rows.
 pub fn run<S: Shelf, O: Sink, E: Sink>(
     alloc: Global,
     words: &[Name],

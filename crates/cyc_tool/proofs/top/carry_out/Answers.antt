@@ -7,6 +7,9 @@ use Rattle.cyc_tool.proofs.top.carry_out.Goals as goal
 pub returns-in-Decide-clause-comes : goal.returns-in-Decide-clause-comes
 returns-in-Decide-clause-comes g c = rw c.in-Decide.is c.decide_file.ensures.comes
 
+pub returns-in-Assume-clause-comes : goal.returns-in-Assume-clause-comes
+returns-in-Assume-clause-comes g c = rw c.in-Assume.is c.assume_file.ensures.comes
+
 pub returns-in-Equal-clause-comes : goal.returns-in-Equal-clause-comes
 returns-in-Equal-clause-comes g c = rw c.in-Equal.is c.compare_files.ensures.comes
 
