@@ -13,7 +13,7 @@ import sys
 import tempfile
 import time
 
-from families import AND, CHOOSE, COPY, NOT, OR, XOR, Model, add_adder, add_selection, full_adder, is_equal_to, numbered, rotated
+from families import AND, CHOOSE, COPY, NOT, XOR, Model, full_adder, numbered
 
 REFUSED = {}
 
@@ -107,31 +107,25 @@ def memory():
 
 @refused
 def mesh():
-    """Four by four routers: what leaves one to a side comes straight, from either turn or from within, as two bits say; turns
-    from rows to columns only."""
+    """Four by four routers. What leaves one to a side comes straight on, from within, or else, where neither is granted, from the
+    side that turns right: a cycle for each rectangle."""
     n = 4
     places = [(i, j) for i in range(n) for j in range(n)]
-    steps = {"e": (0, 1), "w": (0, -1), "s": (1, 0), "n": (-1, 0)}
+    steps = {"e": (0, 1), "s": (1, 0), "w": (0, -1), "n": (-1, 0)}
+    before = dict(zip("eswn", "nesw"))
     outputs = [(i, j, to) for i, j in places for to in steps]
-    inputs = [f"back{i}_{j}" for i, j in places] + [f"l{i}_{j}" for i, j in places] + [f"{bit}{i}_{j}{to}" for i, j, to in outputs for bit in "pq"]
-    m = Model("mesh", inputs, [f"{to}{i}_{j}" for i, j, to in outputs])
+    grants = [f"{word}{i}_{j}{to}" for i, j, to in outputs for word in ("straight", "local")]
+    m = Model("mesh", [*grants, *(f"from{i}_{j}" for i, j in places)], [f"{to}{i}_{j}" for i, j, to in outputs])
     zero = m.gate([], "zero")
+
+    def arriving(i, j, direction):
+        row, column = i - steps[direction][0], j - steps[direction][1]
+        return f"{direction}{row}_{column}" if 0 <= row < n and 0 <= column < n else zero
+
     for i, j, to in outputs:
         at = f"{i}_{j}{to}"
-
-        def arriving(direction):
-            row, column = i - steps[direction][0], j - steps[direction][1]
-            return f"{direction}{row}_{column}" if 0 <= row < n and 0 <= column < n else zero
-
-        # a packet that came from a column turns into a row only where the router is told to send it back
-        may_turn = f"back{i}_{j}" if to in "ew" else m.gate(["1"], f"one_{at}")
-        sides = "ns" if to in "ew" else "ew"
-        for k, rows in enumerate((["00- 1"], ["10- 1"], ["011 1"], ["111 1"])):
-            m.gate(rows, f"take{k}_{at}", f"p{at}", f"q{at}", may_turn)
-        add_selection(
-            m, f"{to}{i}_{j}", (f"take0_{at}", f"l{i}_{j}"), (f"take1_{at}", arriving(to)),
-            *((f"take{k}_{at}", arriving(side)) for k, side in enumerate(sides, 2)),
-        )
+        m.gate(CHOOSE, f"turn{at}", f"local{at}", f"from{i}_{j}", arriving(i, j, before[to]))
+        m.gate(CHOOSE, f"{to}{i}_{j}", f"straight{at}", arriving(i, j, to), f"turn{at}")
     return m
 
 

@@ -1,11 +1,11 @@
 -- The names that most proofs of this crate cite, passed on from one place. Declares nothing.
 pub use Rattle.accepted_loops.specs.Columns.{AreColumnsRead, IsAmong, IsReadBelow, columns_read, is_read, is_upstream, marked_columns}
-pub use Rattle.accepted_loops.specs.Graphs.{told_cluster}
+pub use Rattle.accepted_loops.specs.Graphs.{short_cluster, told_cluster, whole_cluster}
 pub use Rattle.accepted_loops.specs.Lines.{column_name, columns_line, sweeps_line, told_lines}
 pub use Rattle.care_sets.specs.Care.{CareSet}
 pub use Rattle.cyc_io.proofs.TakenLemmas.{appended_cut, appended_equal, appended_then}
 pub use Rattle.cyc_io.specs.Text.{text_bytes}
-pub use Rattle.dot_text.specs.LoopGraphs.{labelled_cluster}
+pub use Rattle.dot_text.specs.LoopGraphs.{cut_cluster, labelled_cluster}
 pub use Rattle.loops.specs.Cones.{AddMarks, is_marked}
 pub use Rattle.loops.proofs.ListLemmas.{all_came, comes_at}
 pub use Rattle.loops.specs.Blocks.{AreBlocksOf}

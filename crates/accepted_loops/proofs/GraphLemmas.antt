@@ -1,6 +1,7 @@
 -- The graph of loops.
-use Rattle.std.proofs.Common.{◌≡◌, ℕ, List, ◌++◌, ap, ◌∙◌, append_assoc}
-use Rattle.accepted_loops.proofs.Common.{CareSet, labelled_cluster, Blocks, Cut, SweepCounts, AreBlocksOf, IsCutOf, loops_of, gate_numbers, loop_of, begins_with, Parts, loop_lines, sweeps_needed, counts_are_needed, sweeps_of, AreSweepsOnCare, columns_read, told_cluster, columns_line, sweeps_line}
+use Rattle.std.proofs.Common.{◌≡◌, ◌<◌, ◌≤◌, ℕ, Bool, List, ◌++◌, length, ap, ◌∙◌, append_assoc, arith}
+use Rattle.std.proofs.lemmas.Bool.{lt-ltb}
+use Rattle.accepted_loops.proofs.Common.{CareSet, Blocks, Cut, SweepCounts, AreBlocksOf, IsCutOf, loops_of, gate_numbers, loop_of, begins_with, Parts, sweeps_needed, counts_are_needed, sweeps_of, AreSweepsOnCare, if◌then◌else◌, short_cluster, told_cluster, whole_cluster}
 use Rattle.accepted_loops.specs.Graphs.{told_clusters}
 use Rattle.accepted_loops.proofs.LineLemmas.{begun-passes, numbered-alike}
 
@@ -19,6 +20,14 @@ pub drawn_on_care : (net : Parts) (blocks : Blocks) (cut : Cut) (care : CareSet)
 drawn_on_care net blocks cut care counts are is on_care =
     numbered-alike (told_cluster net (sweeps_of blocks counts)) (told_cluster net (sweeps_needed net care)) (λ n. begins_with (loop_of net n) n)
     (λ k n begun.
-    ap (λ (m : ℕ). labelled_cluster net (loops_of net) k (loop_lines net k n ++ (sweeps_line k m ++ columns_line net k (columns_read net n))) (loop_of net n))
+    ap (λ (m : ℕ). told_cluster net (λ gate. m) k n)
     (counts_are_needed net blocks cut care counts are is on_care n (begun-passes ((loops_of net).same n) (gate_numbers net) n begun)))
     (gate_numbers net) 1
+
+-- which of the two is drawn
+
+pub short_told : (net : Parts) (sweeps : ℕ → ℕ) (number first : ℕ) → 32 < length (loop_of net first) → told_cluster net sweeps number first ≡ short_cluster net sweeps number first
+short_told net sweeps number first many = ap (λ (b : Bool). if b then short_cluster net sweeps number first else whole_cluster net sweeps number first) (lt-ltb 32 (length (loop_of net first)) many)
+
+pub whole_told : (net : Parts) (sweeps : ℕ → ℕ) (number first : ℕ) → length (loop_of net first) ≤ 32 → told_cluster net sweeps number first ≡ whole_cluster net sweeps number first
+whole_told net sweeps number first few = grind arith

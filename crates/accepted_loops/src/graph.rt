@@ -4,7 +4,7 @@ ghost use Rattle.std.specs.Prelude.{◌≡◌, ◌<◌, ◌++◌, All, IfOk, OnO
 ghost use Rattle.care_sets.specs.Care.{CareSet};
 ghost use Rattle.cyc_io.specs.Text.{text_bytes};
 ghost use Rattle.dot_text.specs.Dot.{graph_head};
-ghost use Rattle.dot_text.specs.LoopGraphs.{labelled_cluster};
+ghost use Rattle.dot_text.specs.LoopGraphs.{cut_cluster, labelled_cluster};
 ghost use Rattle.loops.specs.Found.{loops_of};
 ghost use Rattle.loops.specs.Left.{loop_seen};
 ghost use Rattle.loops.specs.Looped.{IsLooped};
@@ -12,14 +12,17 @@ ghost use Rattle.loops.specs.Numbered.{IsLoopOf};
 ghost use Rattle.rewriting.specs.Rewriting.{sweeps_needed};
 ghost use Rattle.unroll.specs.Unrolled.{sweeps_of};
 ghost use Rattle.verdict.specs.Verdicts.{AreSweepsOnCare};
-ghost use Rattle.accepted_loops.specs.Graphs.{told_cluster, told_clusters, told_graph};
-ghost use Rattle.accepted_loops.specs.Lines.{told_lines};
+ghost use Rattle.accepted_loops.specs.Graphs.{short_cluster, told_cluster, told_clusters, told_graph, whole_cluster};
+ghost use Rattle.accepted_loops.specs.Lines.{sweeps_line, told_lines};
 
-use crate::lines::tell_loop;
+use crate::lines::{put_sweeps_line, sweeps_at, tell_loop};
 use cyc_io::{TextSink, write_whole};
-use dot_text::{open_graph, put_labelled_cluster};
+use dot_text::{open_graph, put_cut_cluster, put_labelled_cluster};
 use loops::{ListedLoop, LoopedNetlist, SweepCounts};
 use std::alloc::{AllocError, Global};
+
+// The most gates of a loop that are drawn.
+const MOST_DRAWN: usize = 32;
 
 // The lines of a loop.
 fn lines_of(
@@ -55,7 +58,79 @@ fn tell_labelled(
     Ok(())
 }
 
+// The cluster of a loop, with its gates.
+fn tell_whole(
+    alloc: Global,
+    looped: &LoopedNetlist<'_>,
+    sweeps: &SweepCounts,
+    listed: ListedLoop<'_>,
+    sink: &mut TextSink,
+) -> Result<(), AllocError>
+    requires sweeps { length sweeps.now.per_block ≡ length looped.now.blocks.list }
+    requires listed { IsLoopOf looped.now.net (loop_seen listed) }
+    ensures told { OnOk result (text_bytes sink.new ≡ text_bytes sink.old ++ whole_cluster looped.now.net (sweeps_of looped.now.blocks sweeps.now) listed.entry.number listed.entry.first) }
+    ensures looped { OnOk result (IsLooped looped.now) }
+{
+    let lines = lines_of(alloc, looped, sweeps, listed)?;
+    tell_labelled(looped, listed.number, &lines, listed.gates, sink)
+}
+
+// The line of the sweeps that a loop needs.
+fn sweeps_text(
+    alloc: Global,
+    looped: &LoopedNetlist<'_>,
+    sweeps: &SweepCounts,
+    listed: ListedLoop<'_>,
+) -> Result<Vec<u8>, AllocError>
+    requires sweeps { length sweeps.now.per_block ≡ length looped.now.blocks.list }
+    requires listed { IsLoopOf looped.now.net (loop_seen listed) }
+    ensures told { IfOk result (λ text. text.items ≡ sweeps_line listed.entry.number (sweeps_of looped.now.blocks sweeps.now listed.entry.first)) }
+    ensures looped { OnOk result (IsLooped looped.now) }
+{
+    let count = sweeps_at(looped, sweeps, listed.first);
+    let mut sink = TextSink::new(alloc);
+    match put_sweeps_line(&mut sink, listed.number, count) {
+        Ok(()) => Ok(sink.into_vec()),
+        Err(_) => Err(AllocError),
+    }
+}
+
+// A cluster of cut wires with this label.
+fn tell_cuts(
+    looped: &LoopedNetlist<'_>,
+    number: u32,
+    label: &[u8],
+    gates: &[u32],
+    sink: &mut TextSink,
+) -> Result<(), AllocError>
+    requires { All (λ gate. gate < length looped.now.net.gates) gates.now }
+    ensures { OnOk result (text_bytes sink.new ≡ text_bytes sink.old ++ cut_cluster looped.now.net (loops_of looped.now.net) number label.now gates.now) }
+{
+    if put_cut_cluster(looped, number, label, gates, sink).is_err() {
+        return Err(AllocError);
+    }
+    Ok(())
+}
+
+// The cluster of a loop, with its cut wires.
+fn tell_short(
+    alloc: Global,
+    looped: &LoopedNetlist<'_>,
+    sweeps: &SweepCounts,
+    listed: ListedLoop<'_>,
+    sink: &mut TextSink,
+) -> Result<(), AllocError>
+    requires sweeps { length sweeps.now.per_block ≡ length looped.now.blocks.list }
+    requires listed { IsLoopOf looped.now.net (loop_seen listed) }
+    ensures told { OnOk result (text_bytes sink.new ≡ text_bytes sink.old ++ short_cluster looped.now.net (sweeps_of looped.now.blocks sweeps.now) listed.entry.number listed.entry.first) }
+    ensures looped { OnOk result (IsLooped looped.now) }
+{
+    let line = sweeps_text(alloc, looped, sweeps, listed)?;
+    tell_cuts(looped, listed.number, &line, listed.gates, sink)
+}
+
 // The cluster of a loop.
+#[tactic(auto, using(crate::proofs::GraphLemmas::short_told, crate::proofs::GraphLemmas::whole_told))]
 fn tell_cluster(
     alloc: Global,
     looped: &LoopedNetlist<'_>,
@@ -68,8 +143,11 @@ fn tell_cluster(
     ensures told { OnOk result (text_bytes sink.new ≡ text_bytes sink.old ++ told_cluster looped.now.net (sweeps_of looped.now.blocks sweeps.now) listed.entry.number listed.entry.first) }
     ensures looped { OnOk result (IsLooped looped.now) }
 {
-    let lines = lines_of(alloc, looped, sweeps, listed)?;
-    tell_labelled(looped, listed.number, &lines, listed.gates, sink)
+    if listed.gates.len() > MOST_DRAWN {
+        tell_short(alloc, looped, sweeps, listed, sink)
+    } else {
+        tell_whole(alloc, looped, sweeps, listed, sink)
+    }
 }
 
 // The clusters of all loops.
@@ -111,7 +189,8 @@ fn tell_end(sink: &mut TextSink) -> Result<(), AllocError>
 }
 
 /// Appends a graph with this text as its label, which has a cluster for each loop of a netlist, in the order of their first
-/// gates. The label of a cluster has the lines that `tell_loops` tells of its loop.
+/// gates. The label of a cluster has the lines that `tell_loops` tells of its loop. A loop of over 32 gates is drawn by its
+/// cut wires and the number of the gates between, and its label has the line of its sweeps alone.
 ///
 /// The condition is that there is a number for each block. It takes time in proportion to the loops times the gates and
 /// pins.

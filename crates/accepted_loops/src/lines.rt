@@ -86,7 +86,7 @@ fn put_columns_line<K: Sink>(
     write_whole(sink, b"\n")
 }
 
-fn put_sweeps_line<K: Sink>(sink: &mut K, number: u32, sweeps: u32) -> Result<(), Failed>
+pub(crate) fn put_sweeps_line<K: Sink>(sink: &mut K, number: u32, sweeps: u32) -> Result<(), Failed>
     ensures { IsAppended (sweeps_line number sweeps) (sink_call K.put K.faults sink.old sink.new) result }
 {
     put_numbered(sink, b"loop ", number)?;
@@ -113,7 +113,7 @@ fn put_told<K: Sink>(
 }
 
 // How many sweeps the loop of a gate needs.
-fn sweeps_at(looped: &LoopedNetlist<'_>, sweeps: &SweepCounts, gate: u32) -> u32
+pub(crate) fn sweeps_at(looped: &LoopedNetlist<'_>, sweeps: &SweepCounts, gate: u32) -> u32
     requires sweeps { length sweeps.now.per_block ≡ length looped.now.blocks.list }
     requires gate { gate < length looped.now.net.gates }
     ensures sweeps { result ≡ sweeps_of looped.now.blocks sweeps.now gate }

@@ -4,3 +4,4 @@ pub mod Limits
 pub mod Laws
 -- The code's own: what its parts say to each other.
 pub mod Making
+pub mod Implied

@@ -8,6 +8,7 @@
 
 mod assumption;
 mod copying;
+mod implied;
 pub mod laws;
 mod rows;
 mod search;

@@ -11,6 +11,7 @@ ghost use Rattle.assumptions.specs.Limits.{RunsOutOfNodes};
 ghost use Rattle.assumptions.specs.Making.{Excludes, HasOneMore, IsNextRow};
 
 use crate::assumption::Assumption;
+use crate::implied::shortened;
 use crate::rows::row_at;
 use crate::strengthening::strengthened;
 use bdd_ops::Diagrams;
@@ -24,6 +25,9 @@ use verdict::{DecideFault, Judgement, judge};
 
 /// How many rows are excluded at most.
 pub const MAX_ROWS: usize = 4_096;
+
+/// How many rows a person may read.
+const READ_ROWS: usize = 64;
 
 /// What is to be made harmless.
 #[derive(Drop)]
@@ -78,6 +82,26 @@ fn next_row(
     }
 }
 
+/// The same row, without values that its others imply. That is done for the first rows alone, which a person may read.
+fn short_row(
+    alloc: Global,
+    task: &Task<'_>,
+    rows: &[Row],
+    refusal: &Refusal,
+) -> Result<Row, AllocError>
+    requires steady { AreSteadyMarks task.now.looped.now.net task.now.steady.now }
+    requires refused { IsRefusedBeside task.now.looped.now.net task.now.care.now task.now.observe rows.now refusal.now }
+    requires undetermined { IsForUndetermined refusal.now }
+    ensures { IfOk result (IsNextRow task.now.looped.now.net task.now.care.now task.now.observe rows.now) }
+{
+    let row = next_row(alloc, task, rows, refusal)?;
+    if rows.len() < READ_ROWS {
+        shortened(alloc, task.looped, &row)
+    } else {
+        Ok(row)
+    }
+}
+
 /// What follows from a refusal with these rows excluded: one more row, where an observed wire is undetermined.
 fn go_on(
     alloc: Global,
@@ -98,7 +122,7 @@ fn go_on(
     if rows.len() >= MAX_ROWS {
         return Ok(Some(Assumption::TooManyRows));
     }
-    let row = next_row(alloc, task, rows, &refusal)?;
+    let row = short_row(alloc, task, rows, &refusal)?;
     rows.push(row)?;
     Ok(None)
 }
@@ -265,7 +289,8 @@ fn search(alloc: Global, d: &mut Diagrams, task: &Task<'_>) -> Result<Assumption
 /// A row is some wires with values, in which no loop takes part, and each vector at which these have the values leaves an
 /// observed wire undetermined. While a vector of the care set is in no row and leaves one undetermined, its explanation gives
 /// the next row: the sides of its cycle where all gates are observed and these wires are known and no loop takes part in
-/// them, or else the columns that the cycle needs; and where less is observed the columns that the wire needs.
+/// them, or else the columns that the cycle needs; and where less is observed the columns that the wire needs. Of the first
+/// rows values are left out that their others imply at each vector.
 ///
 /// So `Weakest` lets a vector through, within the invariant, just where the care set does and each observed wire is
 /// determined at it (`laws`). `Stands` is answered where the care set has a model and the netlist is accepted on it. `Refused`

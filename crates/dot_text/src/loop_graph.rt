@@ -7,7 +7,7 @@ ghost use Rattle.loops.specs.Found.{loops_of};
 ghost use Rattle.loops.specs.Left.{loop_seen};
 ghost use Rattle.loops.specs.Numbered.{IsLoopOf};
 ghost use Rattle.netlist.specs.Netlists.{IsSignal};
-ghost use Rattle.dot_text.specs.LoopGraphs.{cluster_body, clusters, gate_node, labelled_cluster, loop_graph, loop_wire, loop_wires, loops_graph, wire_style as wire_style_of};
+ghost use Rattle.dot_text.specs.LoopGraphs.{cluster_body, cluster_opens, clusters, gate_node, labelled_cluster, loop_graph, loop_wire, loop_wires, loops_graph, wire_style as wire_style_of};
 
 use crate::node::{put_node, put_quoted, put_wire};
 use cyc_base::Sig;
@@ -15,7 +15,7 @@ use cyc_io::{Failed, Sink, put_numbered, write_whole};
 use loops::{ListedLoop, LoopedNetlist, source_in_loop};
 use netlist::Netlist;
 
-fn put_gate<K: Sink>(sink: &mut K, net: &Netlist, gate: u32) -> Result<(), Failed>
+pub(crate) fn put_gate<K: Sink>(sink: &mut K, net: &Netlist, gate: u32) -> Result<(), Failed>
     requires { gate < length net.now.gates }
     ensures { IsAppended (gate_node net.now gate) (sink_call K.put K.faults sink.old sink.new) result }
 {
@@ -111,6 +111,16 @@ fn put_body<K: Sink>(sink: &mut K, looped: &LoopedNetlist<'_>, gates: &[u32]) ->
     write_whole(sink, b"}\n")
 }
 
+// What stands before the body of a cluster with this text as its label.
+pub(crate) fn open_cluster<K: Sink>(sink: &mut K, number: u32, label: &[u8]) -> Result<(), Failed>
+    ensures { IsAppended (cluster_opens number label.now) (sink_call K.put K.faults sink.old sink.new) result }
+{
+    put_numbered(sink, b"subgraph cluster_", number)?;
+    write_whole(sink, b" {\n  label=\"")?;
+    put_quoted(sink, label)?;
+    write_whole(sink, b"\";\n")
+}
+
 /// Appends these gates and the wires between them as the cluster of this number, with this text as its label, cut wires
 /// dashed. It takes no memory.
 ///
@@ -125,10 +135,7 @@ pub fn put_labelled_cluster<K: Sink>(
     requires { All (λ gate. gate < length looped.now.net.gates) gates.now }
     ensures { IsAppended (labelled_cluster looped.now.net (loops_of looped.now.net) number label.now gates.now) (sink_call K.put K.faults sink.old sink.new) result }
 {
-    put_numbered(sink, b"subgraph cluster_", number)?;
-    write_whole(sink, b" {\n  label=\"")?;
-    put_quoted(sink, label)?;
-    write_whole(sink, b"\";\n")?;
+    open_cluster(sink, number, label)?;
     put_body(sink, looped, gates)
 }
 

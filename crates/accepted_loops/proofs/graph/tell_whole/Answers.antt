@@ -2,7 +2,7 @@ use Rattle.std.proofs.Common.{◌++◌, ◌∙◌, List, ℕ, ap₂}
 use Rattle.accepted_loops.proofs.Common.{IfOk-weaker, text_bytes, labelled_cluster, loops_of}
 use Rattle.std.proofs.lemmas.Result.{on_ok_weaker}
 use Rattle.loops.proofs.ListedLemmas.{loop_gates_inside}
-use Rattle.accepted_loops.proofs.graph.tell_cluster.Goals as goal
+use Rattle.accepted_loops.proofs.graph.tell_whole.Goals as goal
 
 pub tell_labelled-requires : goal.tell_labelled-requires
 tell_labelled-requires c = rw c.requires.listed.gates (loop_gates_inside c.args.looped.now.net c.args.listed.first)
