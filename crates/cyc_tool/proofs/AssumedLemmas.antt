@@ -48,8 +48,8 @@ is_care_file net care reads valid is named small short =
     care_texts_read_back net care back.models (care_text care) is valid named back.named back.read back.flat short
 
 -- a care set that is found is the netlist's, and what refuses it has its widths
-pub assumption_fits : (net : Parts) (care : CareSet) (what : Observe) (assumption : Assumption) → IsNetlist net → IsAssumption net care what assumption
-    → IsTellableAssumption net assumption
+pub assumption_fits : (net : Parts) (care : CareSet) (what : Observe) (answer : Assumption) → IsNetlist net → IsAssumption net care what answer
+    → IsTellableAssumption net answer
 assumption_fits net care what Stands valid found = tt
 assumption_fits net care what (Weakest stronger) valid found = found.strengthened.bound
 assumption_fits net care what (Refused refused) valid found = refusal_fits net found.refused.stronger what refused valid found.refused.refused
@@ -57,12 +57,12 @@ assumption_fits net care what TooManyRows valid found = tt
 assumption_fits net care what (TooLarge gates) valid found = tt
 
 -- what is found is told
-pub found_seeks : (decision : Decision) (nodes : Arena) (assumption : Assumption) (result : Result Told AllocError)
-    → IsAssumption decision.net decision.care decision.observe assumption
-    → IfOk result (λ told. outcome_of told ≡ done (assumption_told decision.net decision.care assumption))
-    → IfOk result (λ told. IsWritten decision.net decision.care assumption) → IfOk result (λ told. IsSought decision nodes (outcome_of told))
-found_seeks decision nodes assumption (Ok told) found same written = Sought (record { assumption = assumption; found = found; is = same }) written
-found_seeks decision nodes assumption (Err lacks) found same written = tt
+pub found_seeks : (decision : Decision) (nodes : Arena) (answer : Assumption) (result : Result Told AllocError)
+    → IsAssumption decision.net decision.care decision.observe answer
+    → IfOk result (λ told. outcome_of told ≡ done (assumption_told decision.net decision.care answer))
+    → IfOk result (λ told. IsWritten decision.net decision.care answer) → IfOk result (λ told. IsSought decision nodes (outcome_of told))
+found_seeks decision nodes answer (Ok told) found same written = Sought (record { answer = answer; found = found; is = same }) written
+found_seeks decision nodes answer (Err lacks) found same written = tt
 
 -- a decision on a stronger care set that met its limit of nodes
 pub limit_seeks : {T : Type 0} (decision : Decision) (nodes : Arena) (end : Told) (result : Result T DecideFault) (fault : DecideFault) → result ≡ Err fault

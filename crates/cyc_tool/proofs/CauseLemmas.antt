@@ -182,9 +182,9 @@ module _ (out : SinkCall) (end : Outcome) (took : Takes out end.out) (done : end
   has_made law decision (Demonstrates cells) None valid is ends made = out_is _ ends
   has_made law decision (Demonstrates cells) (Some refused) valid is ends made = not_one (ap status_of ends)
 
-  has_weakest : (decision : Decision) (assumption : Assumption) → IsNetlist decision.net
-      → IsAssumption decision.net decision.care decision.observe assumption → end ≡ told (assumption_told decision.net decision.care assumption)
-      → IsWritten decision.net decision.care assumption → HasWeakest decision out
+  has_weakest : (decision : Decision) (answer : Assumption) → IsNetlist decision.net
+      → IsAssumption decision.net decision.care decision.observe answer → end ≡ told (assumption_told decision.net decision.care answer)
+      → IsWritten decision.net decision.care answer → HasWeakest decision out
   has_weakest decision Stands valid found same reads = record {
     stronger = decision.care;
     exact = record {
@@ -221,8 +221,8 @@ module _ (out : SinkCall) (end : Outcome) (took : Takes out end.out) (done : end
 
 -- ---- and where it is 1 though an assumption was looked for
 
-refused_still : (decision : Decision) (assumption : Assumption) (end : Outcome) → IsNetlist decision.net → IsAssumption decision.net decision.care decision.observe assumption
-    → end ≡ told (assumption_told decision.net decision.care assumption) → end.status ≡ 1 → IsRefusedStill decision
+refused_still : (decision : Decision) (answer : Assumption) (end : Outcome) → IsNetlist decision.net → IsAssumption decision.net decision.care decision.observe answer
+    → end ≡ told (assumption_told decision.net decision.care answer) → end.status ≡ 1 → IsRefusedStill decision
 refused_still decision (Refused refused) end valid found same one = record {
   refused = refused;
   still = found;
@@ -260,9 +260,9 @@ module _ (law : StormsNeverRest) (shelf : ShelfCall) (nodes : Arena) (out err : 
   assumption_shown decision valid (Sought sought reads) =
       Done (record {
         told = record { end = end; is = sought; told = whole };
-        harmless = λ done. has_weakest out end whole.out_text (sym whole.is ∙ done) decision sought.assumption valid sought.found sought.is reads;
-        refused = λ one. refused_still decision sought.assumption end valid sought.found sought.is (sym whole.is ∙ one);
-      }) (status_is (ending_status (assumption_told decision.net decision.care sought.assumption) end.status (ap status_of sought.is)))
+        harmless = λ done. has_weakest out end whole.out_text (sym whole.is ∙ done) decision sought.answer valid sought.found sought.is reads;
+        refused = λ one. refused_still decision sought.answer end valid sought.found sought.is (sym whole.is ∙ one);
+      }) (status_is (ending_status (assumption_told decision.net decision.care sought.answer) end.status (ap status_of sought.is)))
 
   comparison_shown : (c : Comparison) → IsCompared c nodes end → Shown shelf nodes out err (Compares c) status
   comparison_shown c (Unfinished limited same) = Full limited (whole.is ∙ ap status_of same)

@@ -52,9 +52,9 @@ IsVerdictOutcome decision purpose (Some refused) end = IsRefusalOutcome decision
 
 -- What is found where an assumption is looked for is told. It isn't the only one: an assumption may be found by other rows.
 pub record IsAssumed (decision : Decision) (end : Outcome) : Type 0 where
-  pub assumption : Assumption
-  pub found : IsAssumption decision.net decision.care decision.observe assumption
-  pub is : end ≡ told (assumption_told decision.net decision.care assumption)
+  pub answer : Assumption
+  pub found : IsAssumption decision.net decision.care decision.observe answer
+  pub is : end ≡ told (assumption_told decision.net decision.care answer)
 
 -- the outcome of a comparison
 abbrev pub compared : Comparison → Outcome

@@ -141,11 +141,11 @@ IsCareFile net care =
 abbrev pub IsWritten : Parts → CareSet → Assumption → Type 0
 IsWritten net care Stands = IsCareFile net care
 IsWritten net care (Weakest stronger) = IsCareFile net stronger
-IsWritten net care assumption = Unit {0}
+IsWritten net care answer = Unit {0}
 
 -- An assumption was looked for, and what is found is told, or the limit of nodes was met.
 pub data IsSought (decision : Decision) (nodes : Arena) (end : Outcome) : Type 0 where
-  Sought : (is : IsAssumed decision end) → IsWritten decision.net decision.care is.assumption → IsSought decision nodes end
+  Sought : (is : IsAssumed decision end) → IsWritten decision.net decision.care is.answer → IsSought decision nodes end
   Undecided : IsSearchLimited decision nodes → end ≡ limit_reached decision.limit → IsSought decision nodes end
 
 -- A comparison came to what is found, which shows itself, or met its limit of nodes: it is below what is enough for both

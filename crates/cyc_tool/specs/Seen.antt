@@ -106,7 +106,7 @@ IsTellable net blocks (Refused refused) = IsToldRefusal net refused
 abbrev pub IsTellableAssumption : Parts → Assumption → Type 0
 IsTellableAssumption net (assumptions.Weakest stronger) = IsCareOf net stronger
 IsTellableAssumption net (assumptions.Refused refused) = IsRefusalOf net refused
-IsTellableAssumption net assumption = Unit {0}
+IsTellableAssumption net answer = Unit {0}
 
 -- want of memory
 abbrev pub no_memory : Stop

@@ -75,14 +75,14 @@ fn tell_assumption(
     alloc: Global,
     net: &Netlist,
     care: &Care,
-    assumption: &Assumption,
+    answer: &Assumption,
 ) -> Result<Outcome, AllocError>
     requires care { IsCareOf net.now care.now }
-    requires fits { IsTellableAssumption net.now assumption.now }
-    ensures told { IfOk result (λ told. outcome_of told ≡ done (assumption_told net.now care.now assumption.now)) }
-    ensures written { IfOk result (λ told. IsWritten net.now care.now assumption.now) }
+    requires fits { IsTellableAssumption net.now answer.now }
+    ensures told { IfOk result (λ told. outcome_of told ≡ done (assumption_told net.now care.now answer.now)) }
+    ensures written { IfOk result (λ told. IsWritten net.now care.now answer.now) }
 {
-    match assumption {
+    match answer {
         Assumption::Stands => tell_care(alloc, care),
         Assumption::Weakest(stronger) => tell_care(alloc, stronger),
         Assumption::Refused(refusal) => tell_declined(alloc, net, refusal),
@@ -107,7 +107,7 @@ fn tell_sought_in(
 {
     let found = weakest_assumption(alloc, d, looped, care, limit, observe);
     match &found {
-        Ok(assumption) => tell_assumption(alloc, looped.net(), care, assumption),
+        Ok(answer) => tell_assumption(alloc, looped.net(), care, answer),
         Err(fault) => tell_limited(alloc, fault),
     }
 }

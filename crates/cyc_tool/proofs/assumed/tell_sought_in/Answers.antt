@@ -6,13 +6,13 @@ use Rattle.cyc_tool.proofs.assumed.tell_sought_in.Goals as goal
 pub tell_assumption-requires-clause-fits : goal.tell_assumption-requires-clause-fits
 tell_assumption-requires-clause-fits c =
     rw c.net.ensures.net
-    (assumption_fits c.args.looped.now.net c.args.care.now c.args.observe c.in-Ok.assumption c.requires.valid
+    (assumption_fits c.args.looped.now.net c.args.care.now c.args.observe c.in-Ok.answer c.requires.valid
     (rw c.in-Ok.is at c.weakest_assumption-found.ensures.found))
 
 pub returns-in-Ok : goal.returns-in-Ok
 returns-in-Ok c =
     let decision : Decision = record { net = c.args.looped.now.net; care = c.args.care.now; limit = c.args.limit; observe = c.args.observe } in
-    found_seeks decision c.weakest_assumption-found.new.d c.in-Ok.assumption c.tell_assumption.result (rw c.in-Ok.is at c.weakest_assumption-found.ensures.found)
+    found_seeks decision c.weakest_assumption-found.new.d c.in-Ok.answer c.tell_assumption.result (rw c.in-Ok.is at c.weakest_assumption-found.ensures.found)
     (rw c.net.ensures.net at c.tell_assumption.ensures.told) (rw c.net.ensures.net at c.tell_assumption.ensures.written)
 
 pub returns : goal.returns
