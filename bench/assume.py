@@ -13,6 +13,7 @@ import sys
 import tempfile
 import time
 
+import families
 from families import AND, CHOOSE, COPY, NOT, XOR, Model, full_adder, numbered
 
 REFUSED = {}
@@ -60,18 +61,7 @@ def opcode():
 @refused
 def round_robin():
     """An arbiter of 16 requests, whose pointer may have no bit set."""
-    n = 16
-    m = Model("round_robin", ["en", *numbered("r", n)], numbered("g", n))
-    for i in range(n):
-        m.latch(f"d{i}", f"p{i}", 0 if i else 1)
-    for i in range(n):
-        m.gate(["1-- 1", "-10 1"], f"c{i}", f"p{i}", f"c{(i - 1) % n}", f"r{(i - 1) % n}")
-        m.gate(AND, f"g{i}", f"c{i}", f"r{i}")
-    m.gate(["-" * i + "1" + "-" * (n - 1 - i) + " 1" for i in range(n)], "any", *numbered("g", n))
-    m.gate(AND, "move", "any", "en")
-    for i in range(n):
-        m.gate(CHOOSE, f"d{i}", "move", f"g{(i - 1) % n}", f"p{i}")
-    return m
+    return families.round_robin(16)[0]
 
 
 @refused
