@@ -96,6 +96,24 @@ def memory():
 
 
 @refused
+def held_mesh():
+    """Four by four routers of eight bits: each shows what comes from the west or from the north, whichever is granted, and else
+    what it showed."""
+    n, bits = 4, 8
+    places = [(i, j) for i in range(n) for j in range(n)]
+    grants = [f"grant{k}_{i}_{j}" for i, j in places for k in range(2)]
+    edges = [f"{word}{i}_{b}" for word in ("west", "north") for i in range(n) for b in range(bits)]
+    m = Model("held_mesh", [*grants, *edges], [f"out{n - 1}_{j}_{b}" for j in range(n) for b in range(bits)])
+    for i, j in places:
+        for b in range(bits):
+            west = f"out{i}_{j - 1}_{b}" if j else f"west{i}_{b}"
+            north = f"out{i - 1}_{j}_{b}" if i else f"north{j}_{b}"
+            m.gate(CHOOSE, f"else{i}_{j}_{b}", f"grant1_{i}_{j}", north, f"out{i}_{j}_{b}")
+            m.gate(CHOOSE, f"out{i}_{j}_{b}", f"grant0_{i}_{j}", west, f"else{i}_{j}_{b}")
+    return m
+
+
+@refused
 def mesh():
     """Four by four routers. What leaves one to a side comes straight on, from within, or else, where neither is granted, from the
     side that turns right: a cycle for each rectangle."""
