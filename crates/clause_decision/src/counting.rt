@@ -1,5 +1,6 @@
 //! How many sweeps a loop needs on care. A care vector is a witness: it needs as many as ternary simulation tells, first
-//! that of zeros. After so many sweeps, clauses tell whether another vector needs more, which is the next witness.
+//! that of zeros. After so many sweeps, clauses tell whether another vector needs more, which is the next witness: of one
+//! sweep more at least, and for a loop that is much of its netlist of as many as simulation tells.
 
 ghost use Rattle.std.specs.Prelude.{◌≡◌, ◌<◌, ◌≤◌, ◌+◌, ℕ, true, length, Contains, IfOk, IfSome};
 ghost use Rattle.netlist.specs.Netlists.{count};
@@ -29,6 +30,9 @@ use loops::LoopedNetlist;
 use refusals::is_care_vector;
 use std::alloc::{AllocError, Global};
 use ternary_clauses::{ClausesFault, Rails};
+
+/// How many times as large as a loop its netlist may be for the whole to be simulated for that loop's sake.
+const MOST_TIMES: usize = 256;
 
 /// What shows, at a care vector, that sweeps are too few.
 #[derive(Clone, Copy)]
@@ -91,8 +95,14 @@ fn ask_after(
     }
 }
 
+/// Whether a loop is a small part of its netlist. The solver, which has the clauses of the loop's cone alone, is then asked
+/// sooner than the whole is simulated.
+fn is_small_part(block: &LoopedBlock<'_>) -> bool {
+    block.gates().len() < block.net().gates() as usize / MOST_TIMES
+}
+
 /// How many sweeps are needed at least, where so many are too few at the vector of a model: one more, and where that isn't
-/// the most that can be, as many as at a vector near this one.
+/// the most that can be, and the loop isn't a small part of its netlist, as many as at a vector near this one.
 fn needed_at(
     alloc: Global,
     swept: &Swept,
@@ -110,7 +120,8 @@ fn needed_at(
 {
     let most = block.cut_count();
     let one_more = sweeps + 1;
-    if one_more == most {
+    let is_enough = one_more == most || is_small_part(block);
+    if is_enough {
         return Ok(one_more);
     }
     let vector = swept.cone.vector_in(alloc, block.net(), model)?;
@@ -174,8 +185,8 @@ fn next_needed(
     Ok(needed_by(alloc, swept, block, care, reply, sweeps)?)
 }
 
-/// How many sweeps are needed at least: those at the vector of zeros, if it is one of care, or near it. A loop with one cut
-/// wire mostly needs no look at a vector.
+/// How many sweeps are needed at least: those at the vector of zeros, if it is one of care, or near it. No vector is looked at
+/// for a loop that is a small part of its netlist, and mostly none for one with one cut wire.
 fn first_needed(
     alloc: Global,
     block: &LoopedBlock<'_>,
@@ -188,6 +199,9 @@ fn first_needed(
 {
     let first = first_of(sign);
     if block.cut_count() <= first {
+        return Ok(first);
+    }
+    if is_small_part(block) {
         return Ok(first);
     }
     let net = block.net();
