@@ -84,7 +84,7 @@ impl Fanout {
     }
 
     /// Puts the gates that read this signal at the end of the queue.
-    pub(crate) fn queue_readers(
+    pub fn queue_readers(
         &self,
         signal: Sig,
         queue: &mut VecDeque<u32>,
