@@ -16,7 +16,7 @@ import sys
 import tempfile
 
 TOP = pathlib.Path(__file__).resolve().parent.parent
-AND, OR, NOT, COPY = ["11 1"], ["1- 1", "-1 1"], ["0 1"], ["1 1"]
+AND, OR, NOT, COPY, XOR = ["11 1"], ["1- 1", "-1 1"], ["0 1"], ["1 1"], ["10 1", "01 1"]
 CHOOSE = ["11- 1", "0-1 1"]  # the second where the first is 1, else the third
 SHAPES = {}
 
@@ -182,14 +182,20 @@ def simulated(text, tick, ticks=1):
     return Files("sim", "net.blif", "net.vectors", net_blif=text, net_vectors=(tick + "\n") * ticks)
 
 
-@shape(2)
-def pigeons(n):
-    """A cover that says that one of n + 1 pigeons has no hole of n, or two have one, where all is unknown."""
+def holes(n):
+    """Rows that say that one of n + 1 pigeons has no hole of n, or two have one, and how many pins they have."""
     pins = [(p, h) for p in range(n + 1) for h in range(n)]
     rows = ["".join("0" if q == p else "-" for q, _ in pins) + " 1" for p in range(n + 1)]
     rows += ["".join("1" if h == g and p in (a, b) else "-" for p, h in pins) + " 1" for g in range(n) for a in range(n + 1) for b in range(a)]
-    names = numbered("i", len(pins))
-    return simulated(model("pigeons", names, ["y"], [gate(rows, "y", *names)]), "x" * len(pins))
+    return len(pins), rows
+
+
+@shape(2)
+def pigeons(n):
+    """A cover that says that one of n + 1 pigeons has no hole of n, or two have one, where all is unknown."""
+    count, rows = holes(n)
+    names = numbered("i", count)
+    return simulated(model("pigeons", names, ["y"], [gate(rows, "y", *names)]), "x" * count)
 
 
 @shape(2)
@@ -258,6 +264,160 @@ def long_names_traced(n):
     rounds = ("round\n" + "".join(f"e {'a' * n} {age} 1\n" for age in (0, 1))) * 1000
     text = f"schedule 2\nwindow 1\npast 00\nstate\ngates 1\ntick\n{rounds}"
     return Files("delays", "net.blif", "net.vectors", "net.schedule", "--probe", "trace", net_blif=net, net_vectors="0\n", net_schedule=text)
+
+
+@shape(10)
+def rail_covers(n):
+    """A ring of four gates, each a cover of 30 inputs and of the gate before it, with n random rows."""
+    pins = numbered("i", 30)
+    lines = [gate(random_rows(31, n), f"g{k}", *pins, f"g{(k - 1) % 4}") for k in range(4)]
+    return check(model("covers", pins, ["g0"], lines))
+
+
+def parity_rows(n):
+    """Rows that say that some node of a random 4-regular graph of n nodes has the wrong parity; its edges are the pins.
+    The parities that are asked add up to 1, so always some node has (Tseitin 1968)."""
+    while True:
+        ends = [k for k in range(n) for _ in range(4)]
+        random.shuffle(ends)
+        edges = list(zip(ends[::2], ends[1::2]))
+        if len({tuple(sorted(e)) for e in edges}) == len(edges) and all(a != b for a, b in edges):
+            break
+    rows = []
+    for node in range(n):
+        at = [k for k, edge in enumerate(edges) if node in edge]
+        for bits in range(16):
+            if bin(bits).count("1") % 2 != int(node == 0):
+                row = ["-"] * len(edges)
+                for j, k in enumerate(at):
+                    row[k] = str(bits >> j & 1)
+                rows.append("".join(row) + " 1")
+    return len(edges), rows
+
+
+@shape(5)
+def parity_cover(n):
+    """A cover that says that a parity formula over a random graph of n nodes fails, as it always does, where all is unknown."""
+    count, rows = parity_rows(n)
+    names = numbered("i", count)
+    return simulated(model("parity", names, ["y"], [gate(rows, "y", *names)]), "x" * count)
+
+
+@shape(5)
+def parity_cover_checked(n):
+    """Two such covers, each of which also reads the other, under `--observe outputs`."""
+    count, rows = parity_rows(n)
+    names = numbered("i", count)
+    rows = ["-" + row for row in rows]
+    lines = [gate(rows, "y", "z", *names), gate(rows, "z", "y", *names)]
+    return check(model("parity", names, ["y"], lines), None, "--observe", "outputs")
+
+
+@shape(16)
+def grid_directions(n):
+    """n by n cells with four wires each, one a direction; a select of each row and column says which way data goes."""
+    lines = []
+    for i in range(n):
+        for j in range(n):
+            for way, (di, dj), select in (("e", (0, -1), f"r{i}"), ("w", (0, 1), f"r{i}"), ("s", (-1, 0), f"c{j}"), ("n", (1, 0), f"c{j}")):
+                a, b = (i + di) % n, (j + dj) % n
+                turn = {"e": "s", "w": "n", "s": "e", "n": "w"}[way]
+                lines.append(gate(["1-1- 1", "0--1 1"] if way in "es" else ["0-1- 1", "1--1 1"], f"{way}{i}_{j}", select, "x", f"{way}{a}_{b}", f"d{i}_{j}"))
+    columns = ["x", *numbered("r", n), *numbered("c", n), *[f"d{i}_{j}" for i in range(n) for j in range(n)]]
+    return check(model("grid", columns, ["e0_0"], lines))
+
+
+def multiplexer_ring(n):
+    return [gate(CHOOSE, f"g{k}", f"s{k}", f"d{k}", f"g{(k - 1) % n}") for k in range(n)]
+
+
+def explained(text, care=None):
+    return Files("explain", "net.blif", *(["--care", "net.care"] if care else []), net_blif=text, **({"net_care": care} if care else {}))
+
+
+@shape(500)
+def explain_ring(n):
+    """A ring of n multiplexers, each with a select and data of its own."""
+    return explained(model("ring", [*numbered("s", n), *numbered("d", n)], ["g0"], multiplexer_ring(n)))
+
+
+@shape(500)
+def explain_chords(n):
+    """A ring of n gates, each of which reads one more at random beside a side of its own."""
+    lines = [gate(["11- 1", "-11 1"], f"g{k}", f"g{(k - 1) % n}", f"s{k}", f"g{random.randrange(n)}") for k in range(n)]
+    return explained(model("chords", numbered("s", n), ["g0"], lines))
+
+
+@shape(250)
+def explain_way(n):
+    """A gate that reads itself before n multiplexers in a line, the last of which is the first that isn't determined."""
+    lines = [gate(CHOOSE, f"m{k}", f"s{k}", f"d{k}", f"m{k + 1}") for k in range(n - 1)]
+    lines += [gate(OR, f"m{n - 1}", f"s{n - 1}", f"m{n - 1}")]
+    return explained(model("way", [*numbered("s", n), *numbered("d", n)], ["m0"], lines))
+
+
+@shape(60)
+def explain_sides(n):
+    """A ring of n gates, each of which reads 16 sides."""
+    lines = [gate(["1" + "1" * 16 + " 1"], f"g{k}", f"g{(k - 1) % n}", *[f"s{k}_{j}" for j in range(16)]) for k in range(n)]
+    return explained(model("sides", [f"s{k}_{j}" for k in range(n) for j in range(16)], ["g0"], lines))
+
+
+@shape(250)
+def explain_wide(n):
+    """A ring of three gates of n pins each."""
+    lines = [gate(wide("1", 1, n), f"g{k}", f"g{(k - 1) % 3}", *[f"s{k}_{j}" for j in range(n - 1)]) for k in range(3)]
+    return explained(model("wide", [f"s{k}_{j}" for k in range(3) for j in range(n - 1)], ["g0"], lines))
+
+
+@shape(100)
+def explain_or(n):
+    """A ring of three ORs of n pins each, as a row for each pin."""
+    rows = ["-" * k + "1" + "-" * (n - k - 1) + " 1" for k in range(n)]
+    lines = [gate(rows, f"g{k}", f"g{(k - 1) % 3}", *[f"s{k}_{j}" for j in range(n - 1)]) for k in range(3)]
+    return explained(model("wide", [f"s{k}_{j}" for k in range(3) for j in range(n - 1)], ["g0"], lines))
+
+
+@shape(2000)
+def explain_accepted(n):
+    """n loops of two gates that are accepted."""
+    inputs = ["x", *[f"u{k}{w}" for k in range(n) for w in "cd"]]
+    lines = [line for k in range(n) for line in pair("x", f"u{k}")]
+    return explained(model("loops", inputs, [f"u{k}y" for k in range(n)], lines))
+
+
+def compared(first, second):
+    return Files("equal", "net.blif", "other.blif", net_blif=first, other_blif=second)
+
+
+@shape(64)
+def equal_adders(n):
+    """A ripple adder of n bits beside one whose operands are exchanged."""
+    def adder(a, b):
+        lines = [gate(["11 1"], "c0", a + "0", b + "0"), gate(XOR, "s0", a + "0", b + "0")]
+        for k in range(1, n):
+            lines += [gate(["100 1", "010 1", "001 1", "111 1"], f"s{k}", f"{a}{k}", f"{b}{k}", f"c{k - 1}"), gate(["11- 1", "1-1 1", "-11 1"], f"c{k}", f"{a}{k}", f"{b}{k}", f"c{k - 1}")]
+        return model("adder", [*numbered("a", n), *numbered("b", n)], [*numbered("s", n), f"c{n - 1}"], lines)
+    return compared(adder("a", "b"), adder("b", "a"))
+
+
+@shape(100)
+def care_parity(n):
+    """An invariant that is a parity of n latches in random order, which are a ring."""
+    order = list(range(n))
+    random.shuffle(order)
+    lines = [f".latch l{(k - 1) % n} l{k} {int(k == 0)}" for k in range(n)]
+    care = [gate(COPY, "p0", f"l{order[0]}"), *[gate(XOR, f"p{k}", f"p{k - 1}", f"l{order[k]}") for k in range(1, n)]]
+    return check(model("net", ["x", "c", "d"], ["y"], [*lines, *pair("x")]), model("invariant", numbered("l", n), [f"p{n - 1}"], care))
+
+
+@shape(2)
+def storm_holes(n):
+    """A storm over n + 1 pigeons and n holes, whose pins are gates that read themselves."""
+    count, rows = holes(n)
+    names = numbered("i", count)
+    lines = [gate(OR, name, "x", name) for name in names] + [gate(rows, "y", *names)]
+    return Files("storm", "net.blif", "10", net_blif=model("holes", ["x"], ["y"], lines))
 
 
 # From here on linear.
@@ -332,8 +492,7 @@ def latch_pipeline(n):
 @shape(2000)
 def parity_chain(n):
     """A chain of n XORs, decided."""
-    xor = ["10 1", "01 1"]
-    chain = [gate(xor, "p1", "i0", "i1"), *[gate(xor, f"p{k}", f"p{k - 1}", f"i{k}") for k in range(2, n)]]
+    chain = [gate(XOR, "p1", "i0", "i1"), *[gate(XOR, f"p{k}", f"p{k - 1}", f"i{k}") for k in range(2, n)]]
     return check(model("parity", numbered("i", n), [f"p{n - 1}"], chain))
 
 
@@ -350,6 +509,121 @@ def events(n):
     chain = [gate(NOT, "g0", "x"), *[gate(NOT, f"g{k}", f"g{k - 1}") for k in range(1, 10)]]
     rounds = ("round\n" + "".join(f"e g{k} 0\n" for k in range(10))) * n
     return Files("delays", "net.blif", "net.vectors", "net.schedule", net_blif=model("chain", ["x"], ["g9"], chain), net_vectors="1\n", net_schedule="schedule 1\nlatches\ngates 0000000000\ntick\n" + rounds)
+
+
+@shape(5000)
+def cut_hub(n):
+    """n rings of eight gates through one hub, which reads them by a tree."""
+    links, gates = [], 1
+    ends = []
+    for _ in range(n):
+        links += [(0, gates)] + [(gates + k, gates + k + 1) for k in range(6)]
+        ends.append(gates + 6)
+        gates += 7
+    while len(ends) > 1:
+        links += [(a, gates + k // 2) for k, a in enumerate(ends)]
+        fresh = (len(ends) + 1) // 2
+        ends = list(range(gates, gates + fresh))
+        gates += fresh
+    return shuffled(links + [(ends[0], 0)], gates)
+
+
+@shape(100)
+def cut_barriers(n):
+    """A ring of n layers of 30 gates, each of which reads all of the layer before it."""
+    links = [(k * 30 + i, (k + 1) % n * 30 + j) for k in range(n) for i in range(30) for j in range(30)]
+    return shuffled(links, 30 * n)
+
+
+@shape(20000)
+def random_regular(n):
+    """A graph in which each gate reads three others at random."""
+    return shuffled([(random.randrange(n), k) for k in range(n) for _ in range(3)], n)
+
+
+@shape(20000)
+def nested_loops(n):
+    """n gates in a row, each of which reads the one before it and the one behind it."""
+    links = [(k, k + 1) for k in range(n - 1)] + [(k + 1, k) for k in range(n - 1)]
+    return shuffled(links, n)
+
+
+@shape(20000)
+def nested_rings(n):
+    """A line of n gates with edges back that are nested: the gate k reads the gate n - k."""
+    links = [(k, k + 1) for k in range(n - 1)] + [(n - 1 - k, k) for k in range(n // 2)]
+    return shuffled(links, n)
+
+
+@shape(250)
+def arbiter_onehot(n):
+    """A round robin arbiter of n requests, whose pointer is a register of n bits; the invariant has a row for each of its states."""
+    lines = [f".latch p{(k - 1) % n} p{k} {int(k == 0)}" for k in range(n)]
+    for k in range(n):
+        lines += [gate(["1- 1", "-1 1"], f"t{k}", f"p{k}", f"u{(k - 1) % n}"), gate(AND, f"g{k}", f"t{k}", f"r{k}"), gate(["10 1"], f"u{k}", f"t{k}", f"r{k}")]
+    bits = numbered("p", n)
+    rows = ["".join("1" if j == k else "0" for j in range(n)) + " 1" for k in range(n)]
+    return check(model("arbiter", numbered("r", n), numbered("g", n), lines), model("invariant", bits, ["ok"], [gate(rows, "ok", *bits)]))
+
+
+@shape(20000)
+def equal_itself(n):
+    """A netlist of n random gates without a loop, beside itself."""
+    signals = numbered("i", 64)
+    lines = []
+    for k in range(n):
+        lines.append(gate(random.choice([AND, OR, XOR]), f"g{k}", *random.sample(signals[-200:], 2)))
+        signals.append(f"g{k}")
+    text = model("net", numbered("i", 64), signals[-32:], lines)
+    return compared(text, text)
+
+
+@shape(5000)
+def equal_latches(n):
+    """n latches, each of which loads an XOR of its neighbours, beside the same with other wires."""
+    def net(word):
+        lines = []
+        for k in range(n):
+            lines += [f".latch {word}{k} l{k} 0", gate(XOR, f"{word}{k}", f"l{(k - 1) % n}", f"l{(k + 1) % n}")]
+        return model("latches", [], ["l0"], lines)
+    return compared(net("a"), net("b"))
+
+
+@shape(20000)
+def care_leaves(n):
+    """An assumption that is an OR of n inputs as a tree, as wide as the netlist."""
+    care, wires = [], [f"i{k}" for k in range(n)]
+    while len(wires) > 1:
+        fresh = []
+        for k in range(0, len(wires) - 1, 2):
+            care.append(gate(OR, f"w{len(care)}", wires[k], wires[k + 1]))
+            fresh.append(f"w{len(care) - 1}")
+        wires = fresh + (wires[-1:] if len(wires) % 2 else [])
+    return check(model("net", [*numbered("i", n), "x", "c", "d"], ["y"], pair("x")), model("assume", numbered("i", n), wires, care))
+
+
+@shape(2000)
+def care_initial(n):
+    """An invariant that says of each of n latches that it equals the next one."""
+    lines = [f".latch l{(k - 1) % n} l{k} 0" for k in range(n)]
+    care = [gate(["11 1", "00 1"], f"e{k}", f"l{k}", f"l{(k + 1) % n}") for k in range(n)]
+    care += [gate(COPY, "a0", "e0"), *[gate(AND, f"a{k}", f"a{k - 1}", f"e{k}") for k in range(1, n)]]
+    return check(model("net", ["x", "c", "d"], ["y"], [*lines, *pair("x")]), model("invariant", numbered("l", n), [f"a{n - 1}"], care))
+
+
+@shape(10000)
+def storm_gates(n):
+    """A storm of 100 rounds over n gates behind one that reads itself."""
+    lines = [gate(OR, "g0", "x", "g0"), *[gate(NOT, f"g{k}", f"g{k - 1}") for k in range(1, n)]]
+    return Files("storm", "net.blif", "100", net_blif=model("storm", ["x"], [f"g{n - 1}"], lines))
+
+
+@shape(100)
+def sim_wide_loop(n):
+    """A loop of n gates, each of which reads all n, over 100 ticks."""
+    lines = [gate(wide("1", 1, n + 1), f"g{k}", "x", *numbered("g", n)) for k in range(n)]
+    net = model("loop", ["x"], ["g0"], lines)
+    return Files("sim", "net.blif", "net.vectors", net_blif=net, net_vectors="1\n0\n" * 50)
 
 
 def run(program, files, seconds, memory):

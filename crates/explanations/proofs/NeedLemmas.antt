@@ -1,21 +1,24 @@
 -- Leaving columns out one by one.
-use Rattle.std.proofs.Common.{◌≡◌, ◌≢◌, inl, inr, ℕ, zero, suc, ◌+◌, ◌<◌, Bool, true, false, List, [], ◌∷◌, length, map, get_or, set, replicate, refl, ap, sym, ◌∙◌, subst, arith, true≢false}
+use Rattle.std.proofs.Common.{◌≡◌, ◌≢◌, ◌⊎◌, inl, inr, ℕ, zero, suc, ◌+◌, ◌-◌, ◌*◌, ◌<◌, ◌≤◌, Bool, true, false, List, [], ◌∷◌, length, map, get_or, set, replicate, refl, ap, sym, ◌∙◌, subst, arith, true≢false}
 use Rattle.std.specs.List.{All, AllZip, zip}
 use Rattle.std.proofs.lemmas.Bool.{cases_eq, cases_lt}
-use Rattle.std.proofs.lemmas.List.{length-map, get_or_append_left, get_or_past, get_or-set_other, length-set}
+use Rattle.std.proofs.lemmas.List.{length-map, get_or_append_left, get_or_past, get_or-set_other, get_or-set_same, length-set}
 use Rattle.cyc_base.specs.declared.sig.Sig.{Sig}
 use Rattle.cyc_base.specs.declared.trit.Trit.{Trit}
 use Rattle.cyc_base.specs.declared.trit.Trit.TheVariants.{Zero, One, X}
 use Rattle.cyc_base.specs.Values.{bit, bits, Below, EachBelow}
-use Rattle.cyc_base.proofs.OrderLemmas.{Below-refl, EachBelow-refl, EachBelow-trans, EachBelow-at, EachBelow-length, EachBelow-unknown}
+use Rattle.cyc_base.proofs.OrderLemmas.{Below-refl, EachBelow-refl, EachBelow-trans, EachBelow-at, EachBelow-from_at, EachBelow-length, EachBelow-unknown}
 use Rattle.cover_logic.specs.Extensions.{ext}
 use Rattle.netlist.specs.declared.parts.Parts.{Parts}
 use Rattle.netlist.specs.Fixpoint.{wire, fix_gates, fix}
 use Rattle.netlist.specs.Netlists.{count, gate_at, gate_sig, no_gate, IsNetlist}
 use Rattle.netlist.proofs.FixpointLemmas.{fix_is_monotone}
+use Rattle.ternary_run.proofs.SettlingLemmas.{falls, length-fix}
+use Rattle.explanations.specs.declared.needs.Holding.{Holding}
+use Rattle.explanations.specs.declared.needs.Run.{Run}
 use Rattle.explanations.specs.Pins.{MayBe}
 use Rattle.explanations.specs.Held.{is_marked, seen, pin_at, AreUnknownGates, IsHeldOpen, IsGreatestWithin, AreMarked, HoldsOpen}
-use Rattle.explanations.specs.Explained.{IsUnknown, AreNeeded, AreFurther, both, or_else, beyond, HasTriedWithout, IsHolding, IsNeeding, AreAllUnknown}
+use Rattle.explanations.specs.Explained.{IsUnknown, AreNeeded, AreFurther, both, or_else, beyond, HasTriedWithout, IsHolding, IsNeeding, IsNeededRun, IsNextRun, IsWithoutRun, AreAllUnknown}
 use Rattle.explanations.proofs.ClearedLemmas.{below_x, fix_at_gate}
 use Rattle.explanations.proofs.HeldLemmas.{held_with_more_known, holds_open_with_more}
 
@@ -103,12 +106,7 @@ pub vector_holding_at : (net : Parts) (v : List Bool) (known given : List Trit) 
 vector_holding_at net v known given marks valid width is fixed h =
     rw is (vector_holding net v marks valid width (rw (fixed, is) at h))
 
--- ---- one column less
-
-below_without : (given : List Trit) (column : ℕ) → EachBelow (set given column X) given
-below_without [] column = tt
-below_without (t ∷ given) zero = (tt, EachBelow-refl given)
-below_without (t ∷ given) (suc column) = (Below-refl t, below_without given column)
+-- ---- fewer columns
 
 set_below : (low high : List Trit) (column : ℕ) → EachBelow low high → EachBelow (set low column X) (set high column X)
 set_below [] [] column h = tt
@@ -117,43 +115,79 @@ set_below (x ∷ xs) [] column h = absurd h
 set_below (x ∷ xs) (y ∷ ys) zero h = (tt, h.1)
 set_below (x ∷ xs) (y ∷ ys) (suc column) h = (h.0, set_below xs ys column h.1)
 
-module _ (net : Parts) (given : List Trit) (marks : List Bool) (h : IsHolding net given marks) (column : ℕ) where
-  less_below : EachBelow (fix net (set given column X)) (fix net given)
-  less_below = fix_is_monotone net (set given column X) given (below_without given column)
+pub length-fix_of : (net : Parts) (given fewer : List Trit) → length given ≡ length net.inputs + length net.latches → EachBelow fewer given → length (fix net fewer) ≡ count net
+length-fix_of net given fewer width below = length-fix net fewer (EachBelow-length fewer given below ∙ width)
 
-  -- the gates that are held open are unknown with less, too
-  pub less_unknown : AreUnknownGates net (fix net (set given column X)) marks
+module _ (net : Parts) (given : List Trit) (marks : List Bool) (h : IsHolding net given marks) (fewer : List Trit) (below : EachBelow fewer given) where
+  -- the gates that are held open are unknown with fewer, too
+  pub less_unknown : AreUnknownGates net (fix net fewer) marks
   less_unknown n e =
       let was = h.greatest.held.unknown n e in (
         was.0,
-        below_x (get_or (fix net (set given column X)) n X)
-            (subst (λ (t : Trit). Below (get_or (fix net (set given column X)) n X) t) was.1 (EachBelow-at (fix net (set given column X)) (fix net given) n less_below)),
+        below_x (get_or (fix net fewer) n X)
+            (subst (λ (t : Trit). Below (get_or (fix net fewer) n X) t) was.1 (EachBelow-at (fix net fewer) (fix net given) n (fix_is_monotone net fewer given below))),
       )
 
-  pub less_holding : (less : List Bool) → IsGreatestWithin net (fix net (set given column X)) marks less → IsHolding net (set given column X) less
+  pub less_holding : (less : List Bool) → IsGreatestWithin net (fix net fewer) marks less → IsHolding net fewer less
   less_holding less g = record {
-    width = length-set given column X ∙ h.width;
+    width = EachBelow-length fewer given below ∙ h.width;
     size = g.size ∙ h.size;
     greatest = record {
       held = g.held;
       greatest = λ others held.
           g.greatest others held
-          (h.greatest.greatest others (held_with_more_known net (set given column X) given others held h.width (below_without given column)));
+          (h.greatest.greatest others (held_with_more_known net fewer given others held h.width below));
     };
   }
+
+pub without_none : (kept given : List Trit) (first : ℕ) → IsWithoutRun kept first first given given
+without_none kept given first = record {
+  size = refl;
+  before = λ n l. refl;
+  inside = λ n low high. absurd (omega arith);
+  behind = λ n l. refl;
+}
+
+pub without_one_more : (kept given fewer : List Trit) (first column : ℕ) (value : Trit) → first ≤ column → column < length given → value ≡ get_or kept column X → IsWithoutRun kept first column given fewer →
+    IsWithoutRun kept first (column + 1) given (set fewer column value)
+without_one_more kept given fewer first column value from within is h = record {
+  size = length-set fewer column value ∙ h.size;
+  before = λ n l. get_or-set_other fewer column n value X (λ same. omega (arith, same)) ∙ h.before n l;
+  inside = λ n low high.
+      elim (cases_eq n column) [
+        | inl same ↦
+            let size = h.size in
+            rw same (get_or-set_same fewer column value X (omega arith) ∙ is)
+        | inr apart ↦ get_or-set_other fewer column n value X apart ∙ h.inside n low (omega arith)
+      ];
+  behind = λ n l. get_or-set_other fewer column n value X (λ same. omega (arith, same)) ∙ h.behind n (omega arith);
+}
+
+module _ (kept given fewer : List Trit) (first last : ℕ) (keeps : EachBelow kept given) (is : IsWithoutRun kept first last given fewer) where
+  fewer_at : (n : ℕ) → (get_or fewer n X ≡ get_or given n X) ⊎ (get_or fewer n X ≡ get_or kept n X)
+  fewer_at n = grind (arith, cases_lt n first, cases_lt n last, is.before n, is.inside n, is.behind n)
+
+  pub without_below : EachBelow fewer given
+  without_below =
+      EachBelow-from_at fewer given is.size
+      (λ n l. elim (fewer_at n) [
+        | inl same ↦ rw same (Below-refl (get_or given n X))
+        | inr same ↦ rw same (EachBelow-at kept given n keeps)
+      ])
+
+  pub keeps_without : EachBelow kept fewer
+  keeps_without =
+      EachBelow-from_at kept fewer (EachBelow-length kept given keeps ∙ sym is.size)
+      (λ n l. elim (fewer_at n) [
+        | inl same ↦ rw same (EachBelow-at kept given n keeps)
+        | inr same ↦ rw same (Below-refl (get_or kept n X))
+      ])
 
 -- a value that isn't needed where nothing is
 get_or-unknown : (n k : ℕ) → get_or (replicate n X) k X ≡ X
 get_or-unknown zero k = refl
 get_or-unknown (suc n) zero = refl
 get_or-unknown (suc n) (suc k) = get_or-unknown n k
-
-keeps_without : (kept given : List Trit) (column : ℕ) → EachBelow kept given → get_or kept column X ≡ X → EachBelow kept (set given column X)
-keeps_without [] [] column h e = tt
-keeps_without [] (g ∷ given) column h e = absurd h
-keeps_without (t ∷ kept) [] column h e = absurd h
-keeps_without (t ∷ kept) (g ∷ given) zero h e = (rw e tt, h.1)
-keeps_without (t ∷ kept) (g ∷ given) (suc column) h e = (h.0, keeps_without kept given column h.1 e)
 
 -- what the greatest set lacks is not held open
 pub not_held : (net : Parts) (given : List Trit) (marks : List Bool) (gates : List ℕ) → IsHolding net given marks → (AreMarked net marks gates → ⊥) → ¬ HoldsOpen net given gates
@@ -172,68 +206,92 @@ needing_first net v gates kept given marks h is keeps all unknown = record {
     marked : (g : ℕ) → IsUnknown net (fix net (bits v)) g → is_marked marks (gate_sig net g).0 ≡ true
     marked g u = (let l = u.gate in all.all (gate_sig net g).0 (omega arith) (omega arith) u.unknown)
 
-module _ (net : Parts) (v : List Bool) (gates : List ℕ) (kept : List Trit) (n : ℕ) (given : List Trit) (marks : List Bool) (h : IsNeeding net v gates kept n given marks) where
-  -- a column that is kept
-  pub needing_kept : (get_or kept n X ≡ X → ⊥) → IsNeeding net v gates kept (n + 1) given marks
-  needing_kept known = record {
-    holding = h.holding;
-    of_vector = h.of_vector;
-    keeps = h.keeps;
-    among = h.among;
-    each = λ column l free.
-        elim (cases_eq column n) [
-          | inl same ↦ absurd (known (ap (λ m. get_or kept m X) (sym same) ∙ free))
-          | inr apart ↦ h.each column (omega arith) free
-        ];
-  }
+-- a column that is left out is X
+cleared : (ts : List Trit) (m : ℕ) → get_or (set ts m X) m X ≡ X
+cleared [] m = refl
+cleared (t ∷ ts) zero = refl
+cleared (t ∷ ts) (suc m) = cleared ts m
 
-  -- the gates stay open without the column
-  needing_less : (less : List Bool) → get_or kept n X ≡ X → IsHolding net (set given n X) less → AreMarked net less gates → IsNeeding net v gates kept (n + 1) (set given n X) less
-  needing_less less free holding among = record {
+module _ (net : Parts) (v : List Bool) (gates : List ℕ) (kept : List Trit) (first : ℕ) (given : List Trit) (marks : List Bool) (h : IsNeeding net v gates kept first given marks) where
+  -- the gates stay open without the run
+  needing_less : (last : ℕ) (fewer : List Trit) (less : List Bool) → IsWithoutRun kept first last given fewer → IsHolding net fewer less → AreMarked net less gates → IsNeeding net v gates kept last fewer less
+  needing_less last fewer less is holding among = record {
     holding = holding;
-    of_vector = EachBelow-trans (set given n X) given (bits v) (below_without given n) h.of_vector;
-    keeps = keeps_without kept given n h.keeps free;
+    of_vector = EachBelow-trans fewer given (bits v) (without_below kept given fewer first last h.keeps is) h.of_vector;
+    keeps = keeps_without kept given fewer first last h.keeps is;
     among = among;
     each = λ column l own known open'.
-        elim (cases_eq column n) [
-          | inl same ↦ known (ap (λ m. get_or (set given n X) m X) same ∙ cleared given n)
-          | inr apart ↦
-              h.each column (omega arith) own (λ x. known (get_or-set_other given n column X X apart ∙ x))
-              (holds_open_with_more net (set (set given n X) column X) (set given column X) gates
+        elim (cases_lt column first) [
+          | inl before ↦
+              h.each column before own (λ x. known (is.before column before ∙ x))
+              (holds_open_with_more net (set fewer column X) (set given column X) gates
               (length-set given column X ∙ h.holding.width)
-              (set_below (set given n X) given column (below_without given n)) open')
+              (set_below fewer given column (without_below kept given fewer first last h.keeps is)) open')
+          | inr behind ↦ known (is.inside column behind l ∙ own)
         ];
   }
-    where
-      cleared : (ts : List Trit) (m : ℕ) → get_or (set ts m X) m X ≡ X
-      cleared [] m = refl
-      cleared (t ∷ ts) zero = refl
-      cleared (t ∷ ts) (suc m) = cleared ts m
 
-  -- they don't, so that its value is needed
-  needing_it : (¬ HoldsOpen net (set given n X) gates) → IsNeeding net v gates kept (n + 1) given marks
-  needing_it none = record {
+  -- they don't stay so without the one column, and its value is needed
+  needing_it : IsNeededRun net gates kept first (first + 1) given → IsNeeding net v gates kept (first + 1) given marks
+  needing_it needed = record {
     holding = h.holding;
     of_vector = h.of_vector;
     keeps = h.keeps;
     among = h.among;
     each = λ column l own known open'.
-        elim (cases_eq column n) [
-          | inl same ↦ none (subst (λ (m : ℕ). HoldsOpen net (set given m X) gates) same open')
+        elim (cases_eq column first) [
+          | inl same ↦
+              let here : get_or kept first X ≡ X = subst (λ (m : ℕ). get_or kept m X ≡ X) same own in
+              needed.not
+              (holds_open_with_more net (set given first X) needed.fewer gates (needed.is.size ∙ h.holding.width)
+              (EachBelow-from_at (set given first X) needed.fewer (length-set given first X ∙ sym needed.is.size) (λ n in_list. alike here n))
+              (subst (λ (m : ℕ). HoldsOpen net (set given m X) gates) same open'))
           | inr apart ↦ h.each column (omega arith) own known open'
         ];
   }
+    where
+      alike : get_or kept first X ≡ X → (n : ℕ) → Below (get_or (set given first X) n X) (get_or needed.fewer n X)
+      alike here n =
+          elim (cases_eq n first) [
+            | inl same ↦ rw (same, cleared given first) tt
+            | inr apart ↦ rw (get_or-set_other given first n X X apart, other n apart) (Below-refl (get_or given n X))
+          ]
+        where
+          other : (m : ℕ) → (m ≡ first → ⊥) → get_or needed.fewer m X ≡ get_or given m X
+          other m apart = grind (arith, cases_lt m first, needed.is.before m, needed.is.behind m)
 
-  pub needing_next : (next : List Trit) (next_marks : List Bool) → get_or kept n X ≡ X → HasTriedWithout net gates n given marks next next_marks → IsNeeding net v gates kept (n + 1) next next_marks
-  needing_next next next_marks free tried =
-      elim tried [
-        | inl out ↦
-            let holding : IsHolding net (set given n X) next_marks = subst (λ (ts : List Trit). IsHolding net ts next_marks) out.0 out.1 in
-            subst (λ (ts : List Trit). IsNeeding net v gates kept (n + 1) ts next_marks) (sym out.0) (needing_less next_marks free holding out.2)
-        | inr stays ↦
-            subst (λ (ts : List Trit). IsNeeding net v gates kept (n + 1) ts next_marks) (sym stays.0)
-            (subst (λ (ms : List Bool). IsNeeding net v gates kept (n + 1) given ms) (sym stays.1) (needing_it stays.2))
-      ]
+  pub needing_next : (columns : ℕ) (run next : Run) (old new : Holding) (out : Bool) → run.first ≡ first → given ≡ old.given.items → marks ≡ old.marks.items →
+      HasTriedWithout net gates kept run old new out → IsNextRun columns run out next → IsNeeding net v gates kept next.first new.given.items new.marks.items
+  needing_next columns run next old new true at is own tried after =
+      rw (after.out_of refl, at)
+      (needing_less (first + run.count) new.given.items new.marks.items (rw (at, ← is) at tried.0) tried.1 tried.2)
+  needing_next columns run next old new false at is own tried after =
+      rw (tried.0, tried.1, ← is, ← own)
+      (elim (after.stays refl) [
+        | inl half ↦ rw (half.0, at) h
+        | inr single ↦ rw (single.0, at) (needing_it (rw (at, single.1, ← is) at tried.2))
+      ])
+
+-- the columns that are left and those of the run, so weighed that it falls with each try
+abbrev pub tries_left : ℕ → Run → ℕ
+tries_left columns run = (columns - run.first) * suc columns + run.count
+
+pub tries_fall : (columns : ℕ) (run next : Run) (out : Bool) → 0 < run.count → run.first + run.count ≤ columns → IsNextRun columns run out next → tries_left columns next < tries_left columns run
+tries_fall columns run next out some within after =
+    elim (forward out after) [
+      | inl ahead ↦
+          (let further = falls (columns - next.first) (columns - run.first) columns (run.count - 1) next.count (omega (arith, after.within)) (omega (arith, after.within)) in
+          omega (arith, further))
+      | inr half ↦ rw half.0 (let less = half.1 in omega arith)
+    ]
+  where
+    forward : (b : Bool) → IsNextRun columns run b next → (run.first < next.first) ⊎ ((next.first ≡ run.first) × (next.count < run.count))
+    forward true a = (let is = a.out_of refl in inl (omega arith))
+    forward false a =
+        elim (a.stays refl) [
+          | inl half ↦ inr half
+          | inr single ↦ (let is = single.0 in inl (omega arith))
+        ]
 
 pub all_needed : (net : Parts) (v : List Bool) (gates : List ℕ) (columns n : ℕ) (given : List Trit) (marks : List Bool) → length v ≡ n → IsNeeding net v gates (replicate columns X) n given marks → AreNeeded net v gates given
 all_needed net v gates columns n given marks width h = record {

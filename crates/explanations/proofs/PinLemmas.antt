@@ -4,6 +4,7 @@ use Rattle.std.specs.List.{list_any, AllZip, All}
 use Rattle.std.specs.Prelude.{IfOk}
 use Rattle.std.specs.declared.result.Result.{Result}
 use Rattle.std.proofs.lemmas.Bool.{or_cases, or_parts, or_left, or_right, false_from_ne_true}
+use Rattle.std.proofs.lemmas.List.{length-set}
 use Rattle.cyc_base.specs.declared.trit.Trit.{Trit}
 use Rattle.cyc_base.specs.declared.trit.Trit.TheVariants.{Zero, One, X}
 use Rattle.cyc_base.specs.Values.{bit, Below, EachBelow}
@@ -16,7 +17,7 @@ use Rattle.cover_logic.proofs.ExtensionLemmas.{exact_says, exact_from, ext_is_mo
 use Rattle.cover_logic.proofs.TautologyLemmas.{matches_other, completes-reset, set-completes}
 use Rattle.explanations.specs.declared.pins.Pin.{Pin}
 use Rattle.explanations.specs.declared.pins.Pin.TheVariants.{Known, Open, Free}
-use Rattle.explanations.specs.Pins.{trit_of, is_free, MayBe, StaysOpen, CanBe, spoiling, IsBetter, free_count}
+use Rattle.explanations.specs.Pins.{trit_of, is_free, MayBe, StaysOpen, AreAsGood, CanBe, spoiling, IsBetter, free_count}
 
 -- ---- rows at the two values of a pin
 
@@ -197,10 +198,20 @@ free_there [] pin e = refl
 free_there (p ∷ pins) zero e = e
 free_there (p ∷ pins) (suc pin) e = free_there pins pin e
 
-pub by_better : (cover : Cover) (pins : List Pin) (pin : ℕ) (b wanted can : Bool) → get_or pins pin Open ≡ Free → IsBetter cover pin wanted b →
-    (can ≡ true) ↔ CanBe cover (set pins pin (Known b)) wanted → (can ≡ true) ↔ CanBe cover pins wanted
-by_better cover pins pin b wanted can free better h =
-    (λ e. can_be_at cover pins pin b wanted (free_there pins pin free) (h.0 e), λ c. h.1 (can_be_by_better cover pins pin b wanted better c))
+pub as_good_same : (cover : Cover) (wanted : Bool) (pins : List Pin) → AreAsGood cover wanted pins pins
+as_good_same cover wanted pins = record { size = refl; can = (λ c. c, λ c. c) }
+
+pub as_good_later : (cover : Cover) (wanted : Bool) (pins chosen others : List Pin) → AreAsGood cover wanted pins chosen → AreAsGood cover wanted chosen others → AreAsGood cover wanted pins others
+as_good_later cover wanted pins chosen others h k = record { size = k.size ∙ h.size; can = (λ c. h.can.0 (k.can.0 c), λ c. k.can.1 (h.can.1 c)) }
+
+pub as_good_better : (cover : Cover) (pins : List Pin) (pin : ℕ) (b wanted : Bool) → get_or pins pin Free ≡ Free → IsBetter cover pin wanted b → AreAsGood cover wanted pins (set pins pin (Known b))
+as_good_better cover pins pin b wanted free better = record {
+  size = length-set pins pin (Known b);
+  can = (can_be_at cover pins pin b wanted free, can_be_by_better cover pins pin b wanted better);
+}
+
+pub by_as_good : (cover : Cover) (wanted : Bool) (pins chosen : List Pin) (can : Bool) → AreAsGood cover wanted pins chosen → (can ≡ true) ↔ CanBe cover chosen wanted → (can ≡ true) ↔ CanBe cover pins wanted
+by_as_good cover wanted pins chosen can h k = (λ e. h.can.0 (k.0 e), λ c. k.1 (h.can.1 c))
 
 pub by_low : (cover : Cover) (pins : List Pin) (pin : ℕ) (wanted : Bool) → get_or pins pin Open ≡ Free → CanBe cover (set pins pin (Known false)) wanted → CanBe cover pins wanted
 by_low cover pins pin wanted free c = can_be_at cover pins pin false wanted (free_there pins pin free) c

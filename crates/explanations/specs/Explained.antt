@@ -10,6 +10,8 @@ use Rattle.explanations.specs.declared.explanation.Explanation.{Explanation}
 use Rattle.explanations.specs.Cycles.{HasNoneTwice, last}
 use Rattle.explanations.specs.Matters.{Sways}
 use Rattle.explanations.specs.Sides.{AreSides}
+use Rattle.explanations.specs.declared.needs.Holding.{Holding}
+use Rattle.explanations.specs.declared.needs.Run.{Run}
 use Rattle.explanations.specs.declared.shortest.ShortCycle.{ShortCycle}
 use Rattle.explanations.specs.Held.{IsGreatest, AreMarked, HoldsOpen}
 
@@ -88,6 +90,10 @@ pub record IsHolding (net : Parts) (given : List Trit) (marks : List Bool) : Typ
   pub size : length marks ≡ count net
   pub greatest : IsGreatest net (fix net given) marks
 
+-- what is known is what the values determine
+abbrev pub IsSettled : Parts → Holding → Type 0
+IsSettled net holding = holding.known.items ≡ fix net holding.given.items
+
 -- Of the first n columns each was left out that can be, but for those that are kept.
 pub record IsNeeding (net : Parts) (v : List Bool) (gates : List ℕ) (kept : List Trit) (n : ℕ) (given : List Trit) (marks : List Bool) : Type 0 where
   pub holding : IsHolding net given marks
@@ -96,11 +102,36 @@ pub record IsNeeding (net : Parts) (v : List Bool) (gates : List ℕ) (kept : Li
   pub among : AreMarked net marks gates
   pub each : (column : ℕ) → column < n → slice_index_or kept column X ≡ X → slice_index_or given column X ≢ X → ¬ HoldsOpen net (slice_set given column X) gates
 
--- a column is left out, or else nothing changes and it can't be
-abbrev pub HasTriedWithout : Parts → List ℕ → ℕ → List Trit → List Bool → List Trit → List Bool → Type 0
-HasTriedWithout net gates column given marks next next_marks =
-    ((next ≡ slice_set given column X) × IsHolding net next next_marks × AreMarked net next_marks gates)
-    ⊎ ((next ≡ given) × (next_marks ≡ marks) × (¬ HoldsOpen net (slice_set given column X) gates))
+-- the values without those of a run of columns, but for those that are kept
+pub record IsWithoutRun (kept : List Trit) (first last : ℕ) (given fewer : List Trit) : Type 0 where
+  pub size : length fewer ≡ length given
+  pub before : (n : ℕ) → n < first → slice_index_or fewer n X ≡ slice_index_or given n X
+  pub inside : (n : ℕ) → first ≤ n → n < last → slice_index_or fewer n X ≡ slice_index_or kept n X
+  pub behind : (n : ℕ) → last ≤ n → slice_index_or fewer n X ≡ slice_index_or given n X
+
+-- the gates aren't held open without the run
+pub record IsNeededRun (net : Parts) (gates : List ℕ) (kept : List Trit) (first last : ℕ) (given : List Trit) : Type 0 where
+  pub fewer : List Trit
+  pub is : IsWithoutRun kept first last given fewer
+  pub not : ¬ HoldsOpen net fewer gates
+
+-- a run of columns is left out, or else nothing changes and it can't be
+abbrev pub HasTriedWithout : Parts → List ℕ → List Trit → Run → Holding → Holding → Bool → Type 0
+HasTriedWithout net gates kept run old new true =
+    IsWithoutRun kept run.first (run.first + run.count) old.given.items new.given.items
+    × IsHolding net new.given.items new.marks.items
+    × AreMarked net new.marks.items gates
+HasTriedWithout net gates kept run old new false =
+    (new.given.items ≡ old.given.items)
+    × (new.marks.items ≡ old.marks.items)
+    × IsNeededRun net gates kept run.first (run.first + run.count) old.given.items
+
+-- the run that is tried behind one that was left out, or wasn't: there is none left only behind the last column
+pub record IsNextRun (columns : ℕ) (run : Run) (out : Bool) (next : Run) : Type 0 where
+  pub within : next.first + next.count ≤ columns
+  pub some : next.first < columns → 0 < next.count
+  pub out_of : out ≡ true → next.first ≡ run.first + run.count
+  pub stays : out ≡ false → (next.first ≡ run.first) × (next.count < run.count) ⊎ (next.first ≡ run.first + 1) × (run.count ≡ 1)
 
 -- a value that isn't needed already
 abbrev pub beyond : Trit → Trit → Trit

@@ -1,11 +1,13 @@
 -- Sets of gates that some values hold open.
-use Rattle.std.specs.Prelude.{◌≡◌, ◌≤◌, ◌<◌, ◌+◌, ℕ, Bool, true, false, List, length, map, slice_index_or, slice_set, All, suc, [], ◌∷◌}
+use Rattle.std.specs.Prelude.{◌≡◌, ◌≢◌, ◌⊎◌, ◌≤◌, ◌<◌, ◌+◌, ◌*◌, ◌++◌, ℕ, Bool, true, false, List, length, map, slice_index_or, slice_set, All, Contains, suc, [], ◌∷◌}
 use Rattle.cyc_base.specs.declared.sig.Sig.{Sig}
 use Rattle.cyc_base.specs.declared.trit.Trit.{Trit}
 use Rattle.cyc_base.specs.declared.trit.Trit.TheVariants.{Zero, One, X}
 use Rattle.netlist.specs.declared.parts.Parts.{Parts}
 use Rattle.netlist.specs.Fixpoint.{wire, fix}
 use Rattle.netlist.specs.Netlists.{count, gate_at, gate_sig}
+use Rattle.ternary_run.specs.declared.fanout.Read.{Read}
+use Rattle.ternary_run.specs.Reading.{readers_of}
 use Rattle.explanations.specs.declared.pins.Pin.{Pin}
 use Rattle.explanations.specs.declared.pins.Pin.TheVariants.{Known, Open, Free}
 use Rattle.explanations.specs.Pins.{StaysOpen}
@@ -78,20 +80,25 @@ HasTried net known g old new true =
     (new ≡ slice_set old (gate_sig net g).0 false) × (is_marked old (gate_sig net g).0 ≡ true) × (¬ IsHeld net known old g)
 HasTried net known g old new false = (new ≡ old) × (is_marked old (gate_sig net g).0 ≡ true → IsHeld net known old g)
 
--- all gates below n were tried: where none was taken out all are held
-abbrev pub AnyOut : Parts → List Trit → ℕ → List Bool → List Bool → Bool → Type 0
-AnyOut net known n old new true = mark_count new < mark_count old
-AnyOut net known n old new false = (new ≡ old) × ((g : ℕ) → g < n → is_marked old (gate_sig net g).0 ≡ true → IsHeld net known old g)
+-- gates, among them all that read a signal below n whose value is another one now
+pub record AreChangedReaders (net : Parts) (before known : List Trit) (n : ℕ) (listed : List ℕ) : Type 0 where
+  pub gates : All (λ g. g < length net.gates) listed
+  pub all : (g : ℕ) (s : Sig) → g < length net.gates → Contains (gate_at net g).pins s → s.0 < n → wire before s ≢ wire known s → Contains listed g
 
-pub record IsTrying (net : Parts) (known : List Trit) (n : ℕ) (old new : List Bool) (out : Bool) : Type 0 where
-  pub size : length new ≡ length old
-  pub fewer : Within new old
-  pub kept : (others : List Bool) → IsHeldOpen net known others → Within others old → Within others new
-  pub count : mark_count new ≤ mark_count old
-  pub any : AnyOut net known n old new out
+-- a gate that is not held is taken out, and those that read it are put behind the ones that wait
+abbrev pub HasLookedAt : Parts → List Trit → List Read → ℕ → List Bool → List Bool → List ℕ → List ℕ → Type 0
+HasLookedAt net known reads g old new waiting later =
+    (HasTried net known g old new true × (later ≡ waiting ++ readers_of reads (gate_sig net g)))
+    ⊎ (HasTried net known g old new false × (later ≡ waiting))
 
--- what is left after some passes over all gates
-pub record IsShrinking (net : Parts) (known : List Trit) (all marks : List Bool) : Type 0 where
+-- what is left of a set while gates wait: each other gate of it is held
+pub record IsShrinking (net : Parts) (known : List Trit) (all marks : List Bool) (waiting : List ℕ) : Type 0 where
   pub size : length marks ≡ length all
   pub fewer : Within marks all
   pub kept : (others : List Bool) → IsHeldOpen net known others → Within others all → Within others marks
+  pub gates : All (λ g. g < length net.gates) waiting
+  pub rest : (g : ℕ) → g < length net.gates → is_marked marks (gate_sig net g).0 ≡ true → Contains waiting g ⊎ IsHeld net known marks g
+
+-- the gates of the set and those that wait, so weighed that it falls with each look
+abbrev pub looks_left : List Read → List Bool → List ℕ → ℕ
+looks_left reads marks waiting = mark_count marks * suc (length reads) + length waiting

@@ -1,5 +1,5 @@
 -- What a gate may see on its pins, and where it stays unknown whatever that is.
-use Rattle.std.specs.Prelude.{◌≡◌, ℕ, suc, Bool, true, false, not, List, [], ◌∷◌}
+use Rattle.std.specs.Prelude.{◌≡◌, ◌↔◌, ℕ, suc, Bool, true, false, not, List, [], ◌∷◌, length}
 use Rattle.std.specs.List.{list_any, AllZip}
 use Rattle.cyc_base.specs.declared.trit.Trit.{Trit}
 use Rattle.cyc_base.specs.declared.trit.Trit.TheVariants.{X}
@@ -47,6 +47,11 @@ spoiling false true b = b
 
 abbrev pub IsBetter : Cover → ℕ → Bool → Bool → Type 0
 IsBetter cover pin wanted b = list_any (λ row. asks row.lits pin (spoiling cover.plane wanted b)) cover.rows ≡ false
+
+-- other values of the pins, by which the gate can have the wanted value just where it can by these
+pub record AreAsGood (cover : Cover) (wanted : Bool) (pins chosen : List Pin) : Type 0 where
+  pub size : length chosen ≡ length pins
+  pub can : CanBe cover chosen wanted ↔ CanBe cover pins wanted
 
 abbrev pub free_count : List Pin → ℕ
 free_count [] = 0

@@ -2,12 +2,15 @@
 
 ghost use Rattle.std.specs.Prelude.{◌≡◌, ◌<◌, ◌↔◌, true, length, map, All, IfOk, OnOk};
 ghost use Rattle.netlist.specs.Netlists.{count as signal_count, gate_sig as sig_of_gate};
-ghost use Rattle.explanations.specs.Held.{is_marked as is_marked_in, pin_at as pin_at_signal, seen as seen_as, IsHeld, HasTried, IsTrying, AreUnknownGates, IsGreatestWithin, AreMarked};
+ghost use Rattle.explanations.specs.Held.{is_marked as is_marked_in, pin_at as pin_at_signal, seen as seen_as, IsHeld, HasTried, HasLookedAt, AreChangedReaders, AreUnknownGates, IsHeldOpen, IsGreatestWithin, AreMarked};
+ghost use Rattle.ternary_run.specs.Reading.{IsFanoutOf};
 
 use crate::pins::{Pin, stays_open};
 use cyc_base::{Sig, Trit};
 use netlist::Netlist;
 use std::alloc::{AllocError, Global};
+use std::collections::VecDeque;
+use ternary_run::Fanout;
 
 fn seen(marked: bool, value: Trit) -> Pin
     ensures { result ≡ seen_as marked value }
@@ -93,43 +96,75 @@ fn take_out(
     Ok(true)
 }
 
-/// Tries each gate once, and answers whether one was taken out.
-fn take_all_out(
+/// The gates that read a signal whose value is another one now.
+fn changed_readers(
     alloc: Global,
     net: &Netlist,
+    fanout: &Fanout,
+    before: &[Trit],
     known: &[Trit],
-    marks: &mut [bool],
-) -> Result<bool, AllocError>
+) -> Result<VecDeque<u32>, AllocError>
+    requires readers { IsFanoutOf net.now fanout.now }
+    requires before { length before.now ≡ signal_count net.now }
     requires known { length known.now ≡ signal_count net.now }
-    requires marks { length marks.old ≡ signal_count net.now }
-    requires unknown { AreUnknownGates net.now known.now marks.old }
-    ensures { IfOk result (IsTrying net.now known.now (length net.now.gates) marks.old marks.new) }
+    ensures { IfOk result (λ queue. AreChangedReaders net.now before.now known.now (signal_count net.now) queue.items) }
 {
-    let mut any = false;
-    for gate in 0..net.gates() {
-        let out = take_out(alloc, net, known, marks, gate)?;
-        any = any || out;
+    let mut queue = VecDeque::new(alloc);
+    for signal in 0..net.count() {
+        if before[signal as usize] != known[signal as usize] {
+            fanout.queue_readers(Sig(signal), &mut queue)?;
+        }
     }
-    Ok(any)
+    Ok(queue)
 }
 
-/// Leaves the greatest part of the set that is held open.
+/// Takes a gate out of the set where it isn't held. The gates that read it then wait for a look.
+fn look_at(
+    alloc: Global,
+    net: &Netlist,
+    fanout: &Fanout,
+    known: &[Trit],
+    marks: &mut [bool],
+    queue: &mut VecDeque<u32>,
+    gate: u32,
+) -> Result<(), AllocError>
+    requires gate { gate < length net.now.gates }
+    requires readers { IsFanoutOf net.now fanout.now }
+    requires known { length known.now ≡ signal_count net.now }
+    requires marks { length marks.old ≡ signal_count net.now }
+    ensures { OnOk result (HasLookedAt net.now known.now fanout.now gate marks.old marks.new queue.old.items queue.new.items) }
+{
+    if take_out(alloc, net, known, marks, gate)? {
+        fanout.queue_readers(net.gate_sig(gate), queue)?;
+    }
+    Ok(())
+}
+
+/// Leaves the greatest part that is held open of a set that was, before some signals became unknown.
+///
+/// The gates that read one of these signals wait in a queue. One that isn't held is taken out, and the gates that read it
+/// wait too. So the work is in proportion to what changes.
 pub(crate) fn shrink(
     alloc: Global,
     net: &Netlist,
+    fanout: &Fanout,
+    before: &[Trit],
     known: &[Trit],
     marks: &mut [bool],
 ) -> Result<(), AllocError>
+    requires readers { IsFanoutOf net.now fanout.now }
+    requires before { length before.now ≡ signal_count net.now }
     requires known { length known.now ≡ signal_count net.now }
     requires marks { length marks.old ≡ signal_count net.now }
+    requires held { IsHeldOpen net.now before.now marks.old }
     requires unknown { AreUnknownGates net.now known.now marks.old }
     ensures { OnOk result (IsGreatestWithin net.now known.now marks.old marks.new) }
 {
-    loop {
-        if !take_all_out(alloc, net, known, marks)? {
-            return Ok(());
-        }
+    let mut queue = changed_readers(alloc, net, fanout, before, known)?;
+    while let Some(gate) = queue.pop_front() {
+        look_at(alloc, net, fanout, known, marks, &mut queue, gate)?;
     }
+    Ok(())
 }
 
 /// Whether all these gates are in the set.

@@ -6,7 +6,7 @@ ghost use Rattle.cover_logic.specs.Covers.{allows};
 ghost use Rattle.cover_logic.specs.Partial.{asks};
 ghost use Rattle.cover_logic.specs.Extensions.{ext};
 ghost use Rattle.cyc_base.specs.Values.{bit as bit_of};
-ghost use Rattle.explanations.specs.Pins.{trit_of as trit_of_pin, is_free as is_free_pin, CanBe, IsBetter, StaysOpen};
+ghost use Rattle.explanations.specs.Pins.{trit_of as trit_of_pin, is_free as is_free_pin, AreAsGood, CanBe, IsBetter, StaysOpen};
 
 use cover_logic::{Cover, Lit, Row};
 use cyc_base::Trit;
@@ -134,10 +134,38 @@ fn with_value(alloc: Global, pins: &[Pin], pin: usize, bit: bool) -> Result<Vec<
     Ok(chosen)
 }
 
+/// Gives a free pin its better value, where it has one.
+fn choose_better(cover: &Cover, pins: &mut [Pin], pin: usize, wanted: bool)
+    requires pin { pin < length pins.old }
+    ensures { AreAsGood cover.now wanted pins.old pins.new }
+{
+    if !is_free(pins[pin]) {
+        return;
+    }
+    if let Some(bit) = better_value(cover, pin, wanted) {
+        pins[pin] = Pin::Known(bit);
+    }
+}
+
+/// The pins, with its better value of each free one that has one.
+fn at_better_values(
+    alloc: Global,
+    cover: &Cover,
+    pins: &[Pin],
+    wanted: bool,
+) -> Result<Vec<Pin>, AllocError>
+    ensures { IfOk result (λ chosen. AreAsGood cover.now wanted pins.now chosen.items) }
+{
+    let mut chosen = pins.to_vec(alloc)?;
+    for pin in 0..chosen.len() {
+        choose_better(cover, &mut chosen, pin, wanted);
+    }
+    Ok(chosen)
+}
+
 /// Whether some values of the free pins determine the gate with the wanted value.
 ///
-/// Each step gives one free pin its better value, or both where neither is better. So the worst case doubles
-/// with each free pin of which the rows ask both values.
+/// Each step gives one free pin both values, so the worst case doubles with each free pin.
 #[cycle(choice)]
 fn can_be(alloc: Global, cover: &Cover, pins: &[Pin], wanted: bool) -> Result<bool, AllocError>
     requires { length pins.now ≡ cover.now.pins }
@@ -149,16 +177,11 @@ fn can_be(alloc: Global, cover: &Cover, pins: &[Pin], wanted: bool) -> Result<bo
     let Some(pin) = first_free(pins) else {
         return Ok(false);
     };
-    match better_value(cover, pin, wanted) {
-        Some(bit) => can_be_with(alloc, cover, pins, pin, bit, wanted),
-        None => {
-            let low = can_be_with(alloc, cover, pins, pin, false, wanted)?;
-            if low {
-                Ok(true)
-            } else {
-                can_be_with(alloc, cover, pins, pin, true, wanted)
-            }
-        }
+    let low = can_be_with(alloc, cover, pins, pin, false, wanted)?;
+    if low {
+        Ok(true)
+    } else {
+        can_be_with(alloc, cover, pins, pin, true, wanted)
     }
 }
 
@@ -180,12 +203,23 @@ fn can_be_with(
     can_be(alloc, cover, &chosen, wanted)
 }
 
+/// Whether some values of the free pins determine the gate with the wanted value.
+///
+/// Each pin that has a better value gets it at once. So only those of which the rows ask both values are tried by both.
+fn can_become(alloc: Global, cover: &Cover, pins: &[Pin], wanted: bool) -> Result<bool, AllocError>
+    requires { length pins.now ≡ cover.now.pins }
+    ensures { IfOk result (λ can. (can ≡ true) ↔ CanBe cover.now pins.now wanted) }
+{
+    let chosen = at_better_values(alloc, cover, pins, wanted)?;
+    can_be(alloc, cover, &chosen, wanted)
+}
+
 /// Whether the gate is unknown whatever its free pins are.
 pub(crate) fn stays_open(alloc: Global, cover: &Cover, pins: &[Pin]) -> Result<bool, AllocError>
     requires { length pins.now ≡ cover.now.pins }
     ensures { IfOk result (λ stays. (stays ≡ true) ↔ StaysOpen cover.now pins.now) }
 {
-    let one = can_be(alloc, cover, pins, true)?;
-    let zero = can_be(alloc, cover, pins, false)?;
+    let one = can_become(alloc, cover, pins, true)?;
+    let zero = can_become(alloc, cover, pins, false)?;
     Ok(!one && !zero)
 }
