@@ -263,7 +263,8 @@ pub(crate) fn start_of(trail: &Trail, level: u32) -> usize {
 /// Ends the levels past one whose literals have been taken back.
 pub(crate) fn close_levels(trail: &mut Trail, level: u32) {
     trail.starts.truncate(level as usize);
-    if level < trail.assumed {
+    // At level 0 a call may begin that has other assumptions.
+    if level == 0 || level < trail.assumed {
         trail.assumed = NONE;
     }
     trail.head = trail.head.min(trail.lits.as_slice().len());
