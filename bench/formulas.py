@@ -13,6 +13,7 @@
   clique N SEED       the edges of a graph of N nodes in two colours without a triangle of one colour
   queens N            N queens on N by N squares
   grid N SEED         sums of two over the nodes of a grid of N by N, one of which is odd: no
+  tseitin N SEED      the same over a random graph of N nodes with four edges each
   loops FAMILY:N      some gate of the netlist of this family and size (`bench/families.py`) is unknown at some care
                       vector; wires that no loop drives have one variable, the others three: they are 1, 0, known
   loops FILE.blif     the same of a netlist in BLIF: one model of .names and latches, a line for each, and no care set
@@ -151,17 +152,32 @@ def queens(f, n, seed):
             f.add(-at[a][b], -at[c][d])
 
 
-def grid(f, n, seed):
-    edges = {}
-    for x, y in itertools.product(range(n), range(n)):
-        for to in ((x + 1) % n, y), (x, (y + 1) % n):
-            edges[frozenset([(x, y), to])] = f.new()
-    for node in itertools.product(range(n), range(n)):
+def add_sums(f, nodes, edges):
+    """The edges at the first node have an odd sum, and those at each other node an even one (Tseitin 1968)."""
+    for node in nodes:
         around = [e for ends, e in edges.items() if node in ends]
-        odd = node == (0, 0)
+        odd = node == nodes[0]
         for signs in itertools.product((0, 1), repeat=len(around)):
             if sum(signs) % 2 != odd:
                 f.add(*(-e if s else e for s, e in zip(signs, around)))
+
+
+def grid(f, n, seed):
+    edges = {}
+    nodes = list(itertools.product(range(n), range(n)))
+    for x, y in nodes:
+        for to in ((x + 1) % n, y), (x, (y + 1) % n):
+            edges[frozenset([(x, y), to])] = f.new()
+    add_sums(f, nodes, edges)
+
+
+def tseitin(f, n, seed):
+    choose = random.Random(seed)
+    edges = set()
+    while len(edges) < 2 * n:
+        ends = choose.sample([node for node in range(n) for _ in range(4)], 4 * n)
+        edges = {frozenset(pair) for pair in zip(ends[::2], ends[1::2]) if pair[0] != pair[1]}
+    add_sums(f, range(n), {edge: f.new() for edge in sorted(edges, key=sorted)})
 
 
 def netlist_of(model):
@@ -318,6 +334,7 @@ FAMILIES = {
     "clique": clique,
     "queens": queens,
     "grid": grid,
+    "tseitin": tseitin,
     "loops": loops,
 }
 

@@ -1,8 +1,9 @@
 #!/usr/bin/env bash
-# Solves formulas by `benchmarks sat` and, where they are installed, by `minisat` and `cadical`, and prints the user seconds
-# of each, the best of three runs (or of as many as the first word says), and the ratio to minisat's. Each has 60 seconds.
-# Twenty are those that the solver was tuned on, 28 were chosen before any of them was timed, and in two more a random
-# formula is a loop's select. `loops` are the questions of netlists.
+# Solves formulas by `benchmarks sat` and, where they are installed, by `minisat`, by that without preprocessing, and by
+# `cadical`, and prints the user seconds of each, the best of three runs (or of as many as the first word says), and the
+# ratio to minisat's. Each has 60 seconds. Twenty are those that the solver was tuned on, 28 were chosen before any of them
+# was timed, in three more a random formula is a loop's select, and the last ones are hard for resolution. `loops` are the
+# questions of netlists.
 set -u
 top=$(cd "$(dirname "$0")/.." && pwd) || exit 1
 runs=${1:-3}
@@ -27,19 +28,19 @@ time_of() {
 
 # The formula goes to minisat as a file, since it reads none from standard input.
 by_minisat() {
-    if command -v minisat >/dev/null; then time_of minisat -verb=0 "$dir/formula"; else echo -; fi
+    if command -v minisat >/dev/null; then time_of minisat -verb=0 "$@" "$dir/formula"; else echo -; fi
 }
 
 by_cadical() {
     if command -v cadical >/dev/null; then time_of cadical -q; else echo -; fi
 }
 
-printf '%-28s %9s %9s %9s %7s\n' formula benchmarks minisat cadical ratio
+printf '%-28s %10s %9s %9s %9s %7s\n' formula benchmarks minisat -no-pre cadical ratio
 while read -r -a words; do
     python3 "$top/bench/formulas.py" "${words[@]}" >"$dir/formula"
     ours=$(time_of "$program" sat)
     theirs=$(by_minisat)
-    printf '%-28s %9s %9s %9s %7s\n' "${words[*]}" "$ours" "$theirs" "$(by_cadical)" \
+    printf '%-28s %10s %9s %9s %9s %7s\n' "${words[*]}" "$ours" "$theirs" "$(by_minisat -no-pre)" "$(by_cadical)" \
         "$(awk -v a="$ours" -v b="$theirs" 'BEGIN { if (a != "-" && b > 0) printf "%.1f", a / b; else print "-" }')"
 done <<'FORMULAS'
 pigeons 9
@@ -91,5 +92,11 @@ loops three_units:16
 loops equal_words:64
 loops reader_before:16
 loops formula_select:150
+loops formula_select:175
 loops formula_select:200
+products 8
+tseitin 24 1
+tseitin 26 2
+tseitin 30 1
+tseitin 30 2
 FORMULAS

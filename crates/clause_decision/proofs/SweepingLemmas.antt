@@ -234,6 +234,16 @@ module _ (l : LoopAt) (is_loop : IsLoopAt l) where
   open-tells care known rails k replies.NoModel h = λ a inside v counts. fixed-where-known care k h a inside v counts
   open-tells care known rails k replies.Unknown h = tt
 
+  -- where k sweeps are too few at a vector, one more is needed on care
+  pub one-more-needed : (care : CareSet) (k : ℕ) (v : List Bool) → AreTooFewAt l.net (loops_in l) care (gates_in l) k v → NeedAtLeast l.net (loops_in l) care (gates_in l) k →
+      NeedAtLeast l.net (loops_in l) care (gates_in l) (k + 1)
+  one-more-needed care k v few need a j inside low = elim (cases_lt j k) [
+    | inl less ↦ need a j inside less
+    | inr high ↦
+        let same : k ≡ j = omega (arith, low, high) in
+        record { vector = v; counts = few.counts; open_cuts = subst (λ (i : ℕ). ¬ CutsAreFixed l.net (loops_in l) (bits v) a i) same (few.open_cuts a inside) }
+  ]
+
   -- a vector at which k sweeps are too few needs more, and care at least as many as it
   pub more-needed : (care : CareSet) (k : ℕ) (v : List Bool) → AreTooFewAt l.net (loops_in l) care (gates_in l) k v → (m : ℕ) →
       IsCountAt l.net (loops_in l) v (gates_in l) m → (k < m) × NeedAtLeast l.net (loops_in l) care (gates_in l) m

@@ -7,7 +7,6 @@ use Rattle.std.proofs.lemmas.List.{length-take}
 use Rattle.std.proofs.lemmas.List.Folds.{Any-from_list_any, list_any_at}
 use Rattle.std.proofs.lemmas.Simd.{map-map}
 use Rattle.std.proofs.lemmas.Bool.{and_parts}
-use Rattle.cyc_base.specs.Vectors.{vectors}
 use Rattle.cyc_base.proofs.OrderLemmas.{Below-unknown}
 use Rattle.cyc_base.proofs.VectorLemmas.{find-none}
 use Rattle.refusals.specs.Refusals.{is_undetermined}
@@ -21,6 +20,7 @@ use Rattle.clause_queries.specs.declared.first.First.{First}
 use Rattle.clause_queries.specs.declared.first.First.TheVariants as firsts
 use Rattle.clause_decision.specs.Tests.{is_unknown_at, is_unknown, IsFirstUnknown, TellsFirstUnknown, TellEachUnknown}
 use Rattle.clause_decision.specs.Unknowns.{TellUnknowns}
+use Rattle.clause_decision.specs.Witnesses.{IsWitness}
 use Rattle.clause_decision.proofs.ConeLemmas.{care-under, cone-kept, vector-read}
 use Rattle.clause_decision.proofs.FormulaLemmas.{question-of, two-within}
 
@@ -232,3 +232,50 @@ module _ (net : Parts) (care : CareSet) (marks : List Bool) (f : Formula) (rails
     first-unknown (firsts.At place) is = first-at place is
     first-unknown firsts.Nowhere is = λ j less. known-of_sum j less (is j (let size = told.size in omega (arith, less, size)))
     first-unknown firsts.Unknown is = tt
+
+    -- ---- a vector of one model
+
+    -- the gate of the first sum that is true in a model is unknown at its vector
+    pub witness-read : (m vector : List Bool) (last place : ℕ) → IsModelUnder (problem f) (inside ∷ allowed ∷ get_or sums last 0 ∷ []) m → vector ≡ vector_in net rails m → place < length sums →
+        says m (get_or sums place 0) ≡ true → ((k : ℕ) → k < place → says m (get_or sums k 0) ≡ false) → IsWitness net care gates vector place
+    witness-read m vector last place under vector_is inside_sums here before = subst (λ v. IsWitness net care gates v place) (sym vector_is) (record {
+      within = less;
+      width = wide-vector net care marks f rails inside allowed told.cone m;
+      unknown = unknown-there net care marks f rails inside allowed told.cone (get_or gates place 0) (within place 0 less) (marked place 0 less) m model
+          (under.assumed 0 0 (omega arith)) (under.assumed 1 0 (omega arith)) (ap (says m) (sym (literal-at place less)) ∙ first-literal);
+    })
+      where
+        less : place < length gates
+        less = let size = told.size in omega (arith, inside_sums, size)
+
+        model : IsModel m f
+        model = sym (models-same f m) ∙ under.model
+
+        some : Passes (says m) (unknown_literals net rails gates) (place + 1)
+        some = passes-of_any (says m) (unknown_literals net rails gates) (place + 1) (sym (told.says_each m model place less) ∙ here)
+
+        there : some.place < length gates
+        there = let x = some.inside in omega (arith, x, literals-size)
+
+        -- no earlier literal is true, since its sum would be
+        first-literal : says m (get_or (unknown_literals net rails gates) place 0) ≡ true
+        first-literal = elim (cases_lt some.place place) [
+          | inl early ↦
+              let sum : says m (get_or sums some.place 0) ≡ true =
+              told.says_each m model some.place there ∙ any-of_passes (says m) (unknown_literals net rails gates) (some.place + 1) some.place (omega arith) some.inside some.passes in
+              absurd (true≢false (sym sum ∙ before some.place early))
+          | inr high ↦
+              let early : some.place < place + 1 = some.early in
+              subst (λ k. says m (get_or (unknown_literals net rails gates) k 0) ≡ true) (omega (arith, early, high)) some.passes
+        ]
+
+    -- where the last sum is true in no model on care, none of the gates is unknown there
+    pub none-witnessed : (last : ℕ) → last + 1 ≡ length sums → HasNoModelUnder (problem f) (inside ∷ allowed ∷ get_or sums last 0 ∷ []) → (j : ℕ) → j < length gates → is_unknown net care (get_or gates j 0) ≡ false
+    none-witnessed last whole none j less = never-unknown net care (get_or gates j 0) (λ v wide h.
+        let has : HasUnknown net f rails inside allowed (negation (gate_rails net rails (get_or gates j 0)).known) v = unknown-read net care marks f rails inside allowed told.cone (get_or gates j 0) (within j 0 less) (marked j 0 less) v wide h in
+        let m = has.model in
+        let size : length sums ≡ length gates = told.size in
+        let sum : says has.model (get_or sums last 0) ≡ true =
+        told.says_each m (sym (models-same f m) ∙ has.under.model) last (omega (arith, whole, size))
+        ∙ any-of_passes (says m) (unknown_literals net rails gates) (last + 1) j (omega (arith, whole, size, less)) (omega (arith, less, literals-size)) (ap (says m) (literal-at j less) ∙ has.under.assumed 2 0 (omega arith)) in
+        none m (record { model = has.under.model; assumed = three (λ l. says m l ≡ true) inside allowed (get_or sums last 0) (has.under.assumed 0 0 (omega arith)) (has.under.assumed 1 0 (omega arith)) sum }))

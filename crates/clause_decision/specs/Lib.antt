@@ -8,6 +8,7 @@ pub mod Loads
 pub mod Simulations
 pub mod Sweeping
 pub mod Tests
+pub mod Witnesses
 -- The code's own: what its parts say to each other.
 pub mod Events
 pub mod Formulas

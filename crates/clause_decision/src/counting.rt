@@ -1,5 +1,6 @@
 //! How many sweeps a loop needs on care. A care vector is a witness: it needs as many as ternary simulation tells, first
-//! that of zeros. After so many sweeps, clauses tell whether another vector needs more, which is the next witness.
+//! that of zeros. After so many sweeps, clauses tell whether another vector needs more, which is the next witness: of one
+//! sweep more at least, and for a loop that is much of its netlist of as many as simulation tells.
 
 ghost use Rattle.std.specs.Prelude.{◌≡◌, ◌<◌, ◌≤◌, ◌+◌, ℕ, true, length, Contains, IfOk, IfSome};
 ghost use Rattle.netlist.specs.Netlists.{count};
@@ -10,7 +11,8 @@ ghost use Rattle.care_sets.specs.Care.{CareSet};
 ghost use Rattle.refusals.specs.Acceptance.{SomeCareVector};
 ghost use Rattle.clause_decision.specs.declared.scope.Scope.{Scope as TheScope};
 ghost use Rattle.clause_decision.specs.Changes.{AreFedKnown};
-ghost use Rattle.clause_decision.specs.Countings.{first_number, IsAskedAfter, IsCountedTo, NeedAtLeast, Serves, TellsNeeded, TellsTooFew};
+ghost use Rattle.clause_decision.specs.Cones.{vector_in};
+ghost use Rattle.clause_decision.specs.Countings.{first_number, AreTooFewAt, IsAskedAfter, IsCountedTo, NeedAtLeast, Serves, TellsNeeded, TellsTooFew};
 ghost use Rattle.clause_decision.specs.LoopsAt.{gates_in, loops_in};
 ghost use Rattle.clause_decision.specs.Scopes.{AreInScope, AreKnownOnCare, IsScopeOf};
 ghost use Rattle.clause_decision.specs.Sweeping.{IsLeastCount};
@@ -28,6 +30,9 @@ use loops::LoopedNetlist;
 use refusals::is_care_vector;
 use std::alloc::{AllocError, Global};
 use ternary_clauses::{ClausesFault, Rails};
+
+/// How many times as large as a loop its netlist may be for the whole to be simulated for that loop's sake.
+const MOST_TIMES: usize = 256;
 
 /// What shows, at a care vector, that sweeps are too few.
 #[derive(Clone, Copy)]
@@ -90,6 +95,40 @@ fn ask_after(
     }
 }
 
+/// Whether a loop is a small part of its netlist. The solver, which has the clauses of the loop's cone alone, is then asked
+/// sooner than the whole is simulated.
+fn is_small_part(block: &LoopedBlock<'_>) -> bool {
+    block.gates().len() < block.net().gates() as usize / MOST_TIMES
+}
+
+/// How many sweeps are needed at least, where so many are too few at the vector of a model: one more, and where that isn't
+/// the most that can be, and the loop isn't a small part of its netlist, as many as at a vector near this one.
+fn needed_at(
+    alloc: Global,
+    swept: &Swept,
+    block: &LoopedBlock<'_>,
+    care: &Care,
+    model: &[bool],
+    sweeps: u32,
+) -> Result<u32, AllocError>
+    requires care { IsCareOf block.now.net care.now }
+    requires rails { length swept.now.cone.rails.items ≡ count block.now.net }
+    requires sweeps { sweeps < length block.now.cuts }
+    ensures { AreTooFewAt block.now.net (loops_in block.now) care.now (gates_in block.now) sweeps (vector_in block.now.net swept.now.cone.rails.items model.now) →
+        NeedAtLeast block.now.net (loops_in block.now) care.now (gates_in block.now) sweeps →
+        IfOk result (λ number. (sweeps < number) × NeedAtLeast block.now.net (loops_in block.now) care.now (gates_in block.now) number) }
+{
+    let most = block.cut_count();
+    let one_more = sweeps + 1;
+    let is_enough = one_more == most || is_small_part(block);
+    if is_enough {
+        return Ok(one_more);
+    }
+    let vector = swept.cone.vector_in(alloc, block.net(), model)?;
+    let there = sweeps_in(alloc, block, &vector)?;
+    climb(alloc, block, care, vector, there)
+}
+
 /// What a reply tells of the sweeps that it was asked after, of which each smaller number is too few: where they are at a
 /// vector, at least as many are needed as there.
 fn needed_by(
@@ -98,19 +137,19 @@ fn needed_by(
     block: &LoopedBlock<'_>,
     care: &Care,
     reply: Reply,
+    sweeps: u32,
 ) -> Result<Needed, AllocError>
     requires care { IsCareOf block.now.net care.now }
     requires rails { length swept.now.cone.rails.items ≡ count block.now.net }
-    ensures { (k : ℕ) → TellsTooFew block.now.net (loops_in block.now) care.now (gates_in block.now) swept.now.cone.rails.items k reply →
-        NeedAtLeast block.now.net (loops_in block.now) care.now (gates_in block.now) k →
-        IfOk result (TellsNeeded block.now.net (loops_in block.now) care.now (gates_in block.now) k) }
+    requires sweeps { sweeps < length block.now.cuts }
+    ensures { TellsTooFew block.now.net (loops_in block.now) care.now (gates_in block.now) swept.now.cone.rails.items sweeps reply →
+        NeedAtLeast block.now.net (loops_in block.now) care.now (gates_in block.now) sweeps →
+        IfOk result (TellsNeeded block.now.net (loops_in block.now) care.now (gates_in block.now) sweeps) }
 {
     match reply {
-        Reply::Model(model) => {
-            let vector = swept.cone.vector_in(alloc, block.net(), &model)?;
-            let sweeps = sweeps_in(alloc, block, &vector)?;
-            Ok(Needed::AtLeast(climb(alloc, block, care, vector, sweeps)?))
-        }
+        Reply::Model(model) => Ok(Needed::AtLeast(needed_at(
+            alloc, swept, block, care, &model, sweeps,
+        )?)),
         Reply::NoModel => Ok(Needed::These),
         Reply::Unknown => Ok(Needed::Unknown),
     }
@@ -130,6 +169,7 @@ fn next_needed(
     requires care { IsCareOf block.now.net care.now }
     requires swept { IsSweepable block.now.net (gates_in block.now) swept.old }
     requires some { 0 < length block.now.cuts }
+    requires most { sweeps < length block.now.cuts }
     requires needed { sweeps ≤ needed }
     ensures { (scope : TheScope) (k : ℕ) → IsScopeOf block.now.net scope → AreInScope block.now.net scope (gates_in block.now) →
         Serves search.sign block.now.net care.now (gates_in block.now) →
@@ -142,11 +182,11 @@ fn next_needed(
         return Ok(Needed::AtLeast(needed));
     }
     let reply = ask_after(alloc, swept, block, &before, search)?;
-    Ok(needed_by(alloc, swept, block, care, reply)?)
+    Ok(needed_by(alloc, swept, block, care, reply, sweeps)?)
 }
 
-/// How many sweeps are needed at least: those at the vector of zeros, if it is one of care, or near it. A loop with one cut
-/// wire mostly needs no look at a vector.
+/// How many sweeps are needed at least: those at the vector of zeros, if it is one of care, or near it. No vector is looked at
+/// for a loop that is a small part of its netlist, and mostly none for one with one cut wire.
 fn first_needed(
     alloc: Global,
     block: &LoopedBlock<'_>,
@@ -159,6 +199,9 @@ fn first_needed(
 {
     let first = first_of(sign);
     if block.cut_count() <= first {
+        return Ok(first);
+    }
+    if is_small_part(block) {
         return Ok(first);
     }
     let net = block.net();

@@ -24,6 +24,7 @@ mod scope;
 mod simulating;
 mod sweeping;
 mod unknown;
+mod witness;
 
 pub use apart::are_never_apart;
 pub use care::is_possible;
@@ -35,3 +36,4 @@ pub use pairs::{Budget, Hint, Pair, PairSearch};
 pub use scope::Scope;
 pub use simulating::sweeps_at;
 pub use unknown::{each_unknown, first_unknown, least_unknown};
+pub use witness::{Witness, some_unknown};

@@ -86,7 +86,7 @@ fn add_unknowns(
 }
 
 /// The clauses of a cone, with literals that say whether one of the first so many gates is unknown.
-fn unknowns_of(
+pub(crate) fn unknowns_of(
     alloc: Global,
     net: &Netlist,
     care: &Care,

@@ -35,11 +35,13 @@ All-first P (x ∷ xs) ys all = grind (arith, All-first P xs ys (All-tail P x (x
 negation-within : (variables l : ℕ) → l < 2 * variables → negation l < 2 * variables
 negation-within variables l within = grind arith
 
+pub only-negations-within : (variables : ℕ) (others : List ℕ) → IsWithin variables others → IsWithin variables (map negation others)
+only-negations-within variables others within = All-map (λ l. l < 2 * variables) negation others (λ k d less. negation-within variables (get_or others k d) (within k d less))
+
 -- literals, and the negations of others
 pub negations-within : (variables : ℕ) (ls others : List ℕ) → IsWithin variables ls → IsWithin variables others → IsWithin variables (ls ++ map negation others)
 negations-within variables ls others first second =
-    All-append (λ l. l < 2 * variables) ls (map negation others) first
-    (All-map (λ l. l < 2 * variables) negation others (λ k d less. negation-within variables (get_or others k d) (second k d less)))
+    All-append (λ l. l < 2 * variables) ls (map negation others) first (only-negations-within variables others second)
 
 -- fewer assumptions
 pub under-first : (p : Problem) (assumptions more : List ℕ) (m : List Bool) → IsModelUnder p (assumptions ++ more) m → IsModelUnder p assumptions m

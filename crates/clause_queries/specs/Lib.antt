@@ -5,6 +5,7 @@ pub mod Vectors
 pub mod Laws
 pub mod Each
 pub mod Loaded
+pub mod Names
 -- The code's own: what its parts say to each other.
 pub mod Bisection
 pub mod Descent

@@ -121,6 +121,7 @@ impl Query {
         conflicts: u64,
     ) -> Result<bool, AllocError>
         requires fixed { IsWithin self.old.variables fixed.now }
+        requires columns { IsWithin self.old.variables columns.now }
         ensures unchanged { self.new ≡ self.old }
         ensures model { IfOk result (λ _. IsModelUnder self.old fixed.now model.old.items → IsModelUnder self.old fixed.now model.new.items) }
     {

@@ -10,6 +10,7 @@ mod each;
 mod first;
 pub mod laws;
 mod least;
+mod names;
 mod never;
 mod possible;
 mod query;

@@ -2,13 +2,14 @@
 
 ghost use Rattle.std.specs.Prelude.{◌≡◌, ◌≤◌, ◌<◌, ◌*◌, ◌++◌, ◌∷◌, [], ◌↔◌, IsTrue, List, length, map, take, drop, All, IfOk, IfErr, OnOk};
 ghost use Rattle.std.specs.List.{range_with_len};
-ghost use Rattle.sat.specs.Cnf.{assignment};
 ghost use Rattle.ternary_clauses.specs.declared.formula.Formula.{Formula};
 ghost use Rattle.clause_queries.specs.Clauses.{AreTaken, Fits, IsWithin};
-ghost use Rattle.clause_queries.specs.Loaded.{lit, AreLoaded};
+ghost use Rattle.clause_queries.specs.Loaded.{AreLoaded};
+ghost use Rattle.clause_queries.specs.Names.{own, value_by, AreNames, AreNumbered, HasNumber};
 ghost use Rattle.clause_queries.specs.Queries.{problem, IsReply};
 ghost use Rattle.clause_queries.specs.declared.query.QueryFault.TheVariants.{TooMany, Memory};
 
+use crate::names::Names;
 use sat::{Answer, Lit, Solver};
 use std::alloc::{AllocError, Global};
 use std::marker::Model;
@@ -50,6 +51,8 @@ pub enum Reply {
 /// A formula, and a solver that holds its clauses.
 pub struct Query {
     variables: u32,
+    // The variables that the solver has.
+    names: Names,
     solver: Solver,
 }
 
@@ -57,32 +60,30 @@ impl Drop for Query {
     fn drop(self) {
         let Query {
             variables: _,
+            names: _,
             solver: _,
         } = self;
     }
 }
 
 impl Model for Query {
-    ghost use Rattle.clause_queries.specs.Loaded.{AreOf, loaded};
+    ghost use Rattle.clause_queries.specs.Loaded.{IsLoaded, loaded};
     ghost use Rattle.clause_queries.specs.Queries.{Problem};
 
     ghost Value = { Problem };
 
-    ghost view = { λ q. loaded q.variables q.solver.formula };
+    ghost view = { λ q. loaded q.variables q.names q.solver.formula };
 
-    ghost invariant = { λ q. AreOf q.variables q.solver.formula };
+    ghost invariant = { λ q. IsLoaded q.variables q.names q.solver.formula };
 }
 
-fn lit_of(literal: u32) -> Lit
-    ensures { result ≡ lit literal }
+// The solver's literals for these of the formula's.
+fn lits_of(alloc: Global, names: &Names, literals: &[u32]) -> Result<Vec<Lit>, AllocError>
+    requires names { AreNames names.now }
+    requires numbered { All (HasNumber names.now) literals.now }
+    ensures { IfOk result (λ lits. lits.items ≡ map (own names.now) literals.now) }
 {
-    Lit::of(literal / 2, literal % 2 == 1)
-}
-
-fn lits_of(alloc: Global, literals: &[u32]) -> Result<Vec<Lit>, AllocError>
-    ensures { IfOk result (λ lits. lits.items ≡ map lit literals.now) }
-{
-    literals.iter().map(|l| lit_of(*l)).collect(alloc)
+    literals.iter().map(|l| names.lit(*l)).collect(alloc)
 }
 
 // Whether each literal is of one of so many variables.
@@ -106,13 +107,20 @@ fn split_clause(size: u32, after: &[u32]) -> (&[u32], &[u32])
 }
 
 // Adds one clause.
-fn add_clause(alloc: Global, solver: &mut Solver, clause: &[u32]) -> Result<(), AllocError>
+fn add_clause(
+    alloc: Global,
+    solver: &mut Solver,
+    names: &Names,
+    clause: &[u32],
+) -> Result<(), AllocError>
     requires room { length solver.old.formula < 4294967295 }
-    requires within { IsWithin solver.old.variables clause.now }
-    ensures formula { OnOk result (solver.new.formula ≡ solver.old.formula ++ map lit clause.now ∷ []) }
+    requires names { AreNames names.now }
+    requires variables { solver.old.variables ≡ length names.now.names.items }
+    requires numbered { All (HasNumber names.now) clause.now }
+    ensures formula { OnOk result (solver.new.formula ≡ solver.old.formula ++ map (own names.now) clause.now ∷ []) }
     ensures variables { solver.new.variables ≡ solver.old.variables }
 {
-    let lits = lits_of(alloc, clause)?;
+    let lits = lits_of(alloc, names, clause)?;
     solver.add_clause(&lits)
 }
 
@@ -120,12 +128,16 @@ fn add_clause(alloc: Global, solver: &mut Solver, clause: &[u32]) -> Result<(), 
 fn add_clauses(
     alloc: Global,
     solver: &mut Solver,
+    names: &Names,
     literals: &[u32],
     variables: u32,
 ) -> Result<(), QueryFault>
     requires formula { solver.old.formula ≡ [] }
-    requires variables { solver.old.variables ≡ variables }
-    ensures formula { OnOk result (AreLoaded variables literals.now solver.new.formula) }
+    requires variables { solver.old.variables ≡ length names.now.names.items }
+    requires names { AreNames names.now }
+    requires width { length names.now.numbers.items ≡ variables }
+    requires numbered { AreNumbered names.now literals.now }
+    ensures formula { OnOk result (AreLoaded variables names.now literals.now solver.new.formula) }
     ensures many { IfErr result (λ fault. fault ≡ TooMany → ¬ AreTaken variables literals.now) }
 {
     let mut rest = literals;
@@ -135,7 +147,7 @@ fn add_clauses(
         if added == MAX_CLAUSES || !is_within(clause, variables) {
             return Err(QueryFault::TooMany);
         }
-        add_clause(alloc, solver, clause)?;
+        add_clause(alloc, solver, names, clause)?;
         added += 1;
         rest = others;
     }
@@ -143,10 +155,18 @@ fn add_clauses(
 }
 
 // The values of the first so many variables in the solver's model.
-fn values_of(alloc: Global, solver: &Solver, variables: u32) -> Result<Vec<bool>, AllocError>
-    ensures { IfOk result (λ values. values.items ≡ map (assignment solver.now.model) (range_with_len 0 variables)) }
+fn values_of(
+    alloc: Global,
+    solver: &Solver,
+    names: &Names,
+    variables: u32,
+) -> Result<Vec<bool>, AllocError>
+    requires { length names.now.numbers.items ≡ variables }
+    ensures { IfOk result (λ values. values.items ≡ map (value_by names.now solver.now.model) (range_with_len 0 variables)) }
 {
-    (0..variables).map(|v| solver.value(v)).collect(alloc)
+    (0..variables)
+        .map(|v| names.value(solver, v))
+        .collect(alloc)
 }
 
 impl Query {
@@ -159,10 +179,14 @@ impl Query {
         if formula.variables > MAX_VARIABLES {
             return Err(QueryFault::TooMany);
         }
-        let mut solver = Solver::new(alloc, formula.variables)?;
-        add_clauses(alloc, &mut solver, &formula.literals, formula.variables)?;
+        let variables = formula.variables;
+        // The sizes of clauses count as literals here: that gives a variable or two more a number.
+        let names = Names::of(alloc, &formula.literals, variables)?;
+        let mut solver = Solver::new(alloc, names.count())?;
+        add_clauses(alloc, &mut solver, &names, &formula.literals, variables)?;
         Ok(Query {
-            variables: formula.variables,
+            variables,
+            names,
             solver,
         })
     }
@@ -179,9 +203,15 @@ impl Query {
         ensures unchanged { self.new ≡ self.old }
         ensures reply { IfOk result (IsReply self.old assumptions.now) }
     {
-        let assumed = lits_of(alloc, assumptions)?;
+        self.names.add_all(assumptions)?;
+        let assumed = lits_of(alloc, &self.names, assumptions)?;
         match self.solver.solve(alloc, &assumed, conflicts)? {
-            Answer::Sat => Ok(Reply::Model(values_of(alloc, &self.solver, self.variables)?)),
+            Answer::Sat => Ok(Reply::Model(values_of(
+                alloc,
+                &self.solver,
+                &self.names,
+                self.variables,
+            )?)),
             Answer::Unsat => Ok(Reply::NoModel),
             Answer::Unknown => Ok(Reply::Unknown),
         }
@@ -189,9 +219,11 @@ impl Query {
 
     // Literals that are tried first from now on: the solver decides them in their order, and true.
     pub(crate) fn prefer(&mut self, alloc: Global, literals: &[u32]) -> Result<(), AllocError>
+        requires { IsWithin self.old.variables literals.now }
         ensures { self.new ≡ self.old }
     {
-        let lits = lits_of(alloc, literals)?;
+        self.names.add_all(literals)?;
+        let lits = lits_of(alloc, &self.names, literals)?;
         self.solver.prefer(&lits)
     }
 }

@@ -15,7 +15,7 @@ use crate::working::Working;
 use std::alloc::AllocError;
 
 /// Adds a clause that follows from the others, and answers its number.
-fn keep(database: &mut Clauses, clause: &[Lit]) -> Result<u32, AllocError>
+pub(crate) fn keep(database: &mut Clauses, clause: &[Lit]) -> Result<u32, AllocError>
     requires { Entails database.old clause.now }
     ensures extends { Extends database.old database.new }
     ensures last { OnOk result (IsLast database.new clause.now) }

@@ -1,4 +1,5 @@
 use crate::tables::{at, put};
+use crate::trail::NONE;
 use std::alloc::{AllocError, Global};
 
 /// What speaks for keeping a clause.
@@ -65,6 +66,18 @@ pub(crate) fn add(merits: &mut Merits, merit: Merit) -> Result<(), AllocError> {
 pub(crate) fn clear(merits: &mut Merits) {
     merits.merits.clear();
     merits.passing = 0;
+}
+
+/// The clauses of the formula may be forgotten before all others.
+pub(crate) fn give_up_given(merits: &mut Merits) {
+    for merit in merits.merits.iter_mut() {
+        if merit.glue == 0 {
+            *merit = Merit {
+                glue: NONE,
+                score: -1.0,
+            };
+        }
+    }
 }
 
 /// The merit of a clause that has just been learned.

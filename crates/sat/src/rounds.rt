@@ -4,11 +4,13 @@ ghost use Rattle.sat.specs.Cnf.{Entails, Extends};
 ghost use Rattle.sat.specs.Answers.{IsVerdict};
 
 use crate::clauses::Clauses;
+use crate::eliminating::eliminate;
+use crate::elimination::{forget, has_gone, is_empty};
 use crate::engine::Engine;
 use crate::learning::fix_assumed;
 use crate::lit::Lit;
-use crate::merits::GIVEN;
-use crate::reduction::reduce;
+use crate::merits::{GIVEN, give_up_given};
+use crate::reduction::{forget_below, reduce};
 use crate::search::{back_to, load_clause, reload};
 use crate::steps::Verdict;
 use crate::trail::{NONE, first_level};
@@ -26,6 +28,8 @@ struct Pace {
     /// After how many conflicts more that rises, and after how many it did so last.
     rise: u64,
     period: u64,
+    /// After how many conflicts more variables are eliminated.
+    elimination: u64,
 }
 
 const UNIT: u64 = 100;
@@ -59,6 +63,7 @@ impl Pace {
             limit: FEWEST.saturating_add(clauses / 3),
             rise: UNIT,
             period: UNIT,
+            elimination: UNIT.saturating_add(clauses as u64 / 100),
         }
     }
 }
@@ -88,12 +93,38 @@ fn variables_of(lits: &[Lit]) -> usize {
 }
 
 impl Engine {
+    /// Goes on without variables that can be eliminated.
+    #[tactic(auto, using(crate::proofs::CnfLemmas::extends_trans, crate::proofs::CnfLemmas::extends_same))]
+    fn eliminate(&mut self, alloc: Global, assumptions: &[Lit]) -> Result<(), AllocError>
+        ensures { Extends self.old.database self.new.database }
+    {
+        back_to(&mut self.search, 0);
+        self.search.may_eliminate = false;
+        eliminate(
+            alloc,
+            &mut self.database,
+            &mut self.search,
+            &mut self.working,
+            assumptions,
+        )?;
+        forget_below(alloc, &mut self.database, &mut self.search, 0.0)
+    }
+
     /// Begins again where that is due: with fewer learned clauses at level 0, and else where the assumptions are true.
-    fn restart(&mut self, alloc: Global, pace: &mut Pace) -> Result<(), AllocError>
+    fn restart(
+        &mut self,
+        alloc: Global,
+        pace: &mut Pace,
+        assumptions: &[Lit],
+    ) -> Result<(), AllocError>
         ensures { Extends self.old.database self.new.database }
     {
         raise(pace);
         let is_due = is_due(pace);
+        if pace.elimination == 0 && self.search.may_eliminate {
+            return self.eliminate(alloc, assumptions);
+        }
+        pace.elimination = pace.elimination.saturating_sub(1);
         if self.search.merits.passing > pace.limit {
             back_to(&mut self.search, 0);
             return reduce(alloc, &mut self.database, &mut self.search);
@@ -129,12 +160,47 @@ impl Engine {
                 });
             }
             met += 1;
-            self.restart(alloc, &mut pace)?;
+            self.restart(alloc, &mut pace, assumptions)?;
         }
         Ok(Outcome {
             verdict: None,
             conflicts: met,
         })
+    }
+
+    /// Brings eliminated variables back, where a call asks about some: all clauses of the formula are loaded again, in place
+    /// of those that followed from them.
+    fn bring_back(
+        &mut self,
+        alloc: Global,
+        formula: &Clauses,
+        assumptions: &[Lit],
+    ) -> Result<(), AllocError>
+        requires { All (Entails formula.now) self.old.database }
+        ensures { All (Entails formula.now) self.new.database }
+    {
+        if is_empty(&self.search.elimination) || !self.needs_gone(formula, assumptions) {
+            return Ok(());
+        }
+        forget(alloc, &mut self.search.elimination);
+        self.search.loaded = 0;
+        give_up_given(&mut self.search.merits);
+        forget_below(alloc, &mut self.database, &mut self.search, 0.0)
+    }
+
+    /// Whether the assumptions, the literals that are decided first, or clauses that are new have eliminated variables.
+    fn needs_gone(&self, formula: &Clauses, assumptions: &[Lit]) -> bool {
+        if has_gone(&self.search.elimination, assumptions)
+            || has_gone(&self.search.elimination, &self.search.queue.preferred)
+        {
+            return true;
+        }
+        for number in self.search.loaded..formula.len() {
+            if has_gone(&self.search.elimination, formula.clause(number)) {
+                return true;
+            }
+        }
+        false
     }
 
     /// Puts the clauses of the formula that the search doesn't know yet into the database.
@@ -192,6 +258,7 @@ impl Engine {
     {
         self.begin(alloc)?;
         self.add_variables(alloc, assumptions)?;
+        self.bring_back(alloc, formula, assumptions)?;
         self.load(formula)?;
         let found = self.run(alloc, formula, assumptions, conflicts)?;
         self.search.is_underway = false;

@@ -10,18 +10,16 @@ use std::alloc::{AllocError, Global};
 /// No clause.
 pub(crate) const NONE: u32 = 4294967295;
 
-/// How a variable came to its value: the level, the clause that forced it, and its place among the literals.
+/// How a variable came to its value: the level, and the clause that forced it.
 #[derive(Clone, Copy)]
 struct Cause {
     level: u32,
     reason: u32,
-    place: u32,
 }
 
 const NO_CAUSE: Cause = Cause {
     level: 0,
     reason: NONE,
-    place: 0,
 };
 
 /// What a literal is.
@@ -151,11 +149,6 @@ fn cause_of(trail: &Trail, lit: Lit) -> Cause {
     at(&trail.causes, lit.variable() as usize, NO_CAUSE)
 }
 
-/// Where the literal's variable stands among those assigned.
-pub(crate) fn place_of(trail: &Trail, lit: Lit) -> u32 {
-    cause_of(trail, lit).place
-}
-
 /// The level at which the literal's variable was assigned.
 #[inline(always)]
 pub(crate) fn level_of(trail: &Trail, lit: Lit) -> u32 {
@@ -193,7 +186,6 @@ pub(crate) fn assign(trail: &mut Trail, lit: Lit, reason: u32) -> Result<(), All
     let cause = Cause {
         level: level(trail),
         reason,
-        place: short(trail.lits.as_slice().len()),
     };
     trail.lits.push(lit)?;
     make_true(&mut trail.values, lit);

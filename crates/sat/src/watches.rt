@@ -17,11 +17,6 @@ struct Watch {
     blocker: Lit,
 }
 
-const NO_WATCH: Watch = Watch {
-    place: NONE,
-    blocker: Lit { code: NONE },
-};
-
 /// A clause of two literals, and the one that becomes true where the other is false.
 #[derive(Clone, Copy)]
 struct Implied {
@@ -29,12 +24,27 @@ struct Implied {
     lit: Lit,
 }
 
+/// What is looked at when a literal becomes false.
+struct Near {
+    /// The clauses of two literals that it is in.
+    twos: Vec<Implied>,
+    /// Its watches in clauses of three literals or more.
+    watches: Vec<Watch>,
+}
+
+impl Drop for Near {
+    fn drop(self) {
+        let Near {
+            twos: _,
+            watches: _,
+        } = self;
+    }
+}
+
 /// Two literals of each clause, by which it is seen when it forces one (Moskewicz et al. 2001). All of it is hints.
 pub(crate) struct Watches {
-    /// The watches of each literal in clauses of three literals or more.
-    lists: Vec<Vec<Watch>>,
-    /// Of each literal the clauses of two that it is in.
-    implied: Vec<Vec<Implied>>,
+    /// By literals.
+    lists: Vec<Near>,
     /// The clauses that are watched once more, so that what is read of one lies together: its number, where its copy ends,
     /// and the codes of its literals, of which the first two are watched.
     copies: Vec<u32>,
@@ -46,7 +56,6 @@ impl Drop for Watches {
     fn drop(self) {
         let Watches {
             lists: _,
-            implied: _,
             copies: _,
             current: _,
         } = self;
@@ -58,7 +67,6 @@ impl Watches {
     pub(crate) fn new(alloc: Global) -> Watches {
         Watches {
             lists: Vec::new(alloc),
-            implied: Vec::new(alloc),
             copies: Vec::new(alloc),
             current: Vec::new(alloc),
         }
@@ -72,10 +80,11 @@ pub(crate) fn widen(
     variables: usize,
 ) -> Result<(), AllocError> {
     for _ in watches.lists.as_slice().len()..variables.saturating_mul(2) {
-        watches.lists.push(Vec::new(alloc))?;
-    }
-    for _ in watches.implied.as_slice().len()..variables.saturating_mul(2) {
-        watches.implied.push(Vec::new(alloc))?;
+        let near = Near {
+            twos: Vec::new(alloc),
+            watches: Vec::new(alloc),
+        };
+        watches.lists.push(near)?;
     }
     Ok(())
 }
@@ -84,20 +93,27 @@ pub(crate) fn widen(
 pub(crate) fn clear(watches: &mut Watches) {
     watches.copies.clear();
     watches.current.clear();
-    for list in watches.lists.iter_mut() {
-        list.clear();
-    }
-    for list in watches.implied.iter_mut() {
-        list.clear();
+    for near in watches.lists.iter_mut() {
+        near.twos.clear();
+        near.watches.clear();
     }
 }
 
-/// Adds an entry to those of a literal.
-#[inline(always)]
-fn push<T: Drop>(lists: &mut [Vec<T>], lit: Lit, entry: T) -> Result<(), AllocError> {
+/// A literal is in a clause of two.
+fn add_two(lists: &mut [Near], lit: Lit, implied: Implied) -> Result<(), AllocError> {
     let place = lit.code as usize;
     if place < lists.len() {
-        lists[place].push(entry)?;
+        lists[place].twos.push(implied)?;
+    }
+    Ok(())
+}
+
+/// A clause watches a literal.
+#[inline(always)]
+fn add_watch(lists: &mut [Near], lit: Lit, watch: Watch) -> Result<(), AllocError> {
+    let place = lit.code as usize;
+    if place < lists.len() {
+        lists[place].watches.push(watch)?;
     }
     Ok(())
 }
@@ -180,42 +196,42 @@ pub(crate) fn attach(
                 clause: number,
                 lit: other,
             };
-            push(&mut watches.implied, lit, implied)?;
+            add_two(&mut watches.lists, lit, implied)?;
         }
         return Ok(());
     }
     let place = copy(&mut watches.copies, number, clause, pair)?;
     for (lit, blocker) in ways {
-        push(&mut watches.lists, lit, Watch { place, blocker })?;
+        add_watch(&mut watches.lists, lit, Watch { place, blocker })?;
     }
     Ok(())
 }
 
 /// The place past the watched literals of a copy at which a literal may be watched in place of a false one.
 #[inline(always)]
-fn replacement(trail: &Trail, copies: &[u32], place: u32) -> Option<usize> {
-    let first = place as usize + 4;
-    let end = at(copies, place as usize + 1, 0) as usize;
-    for other in first..end {
-        let lit = Lit {
-            code: at(copies, other, NONE),
-        };
-        if !is_false(trail, lit) {
-            return Some(other);
-        }
-    }
-    None
+fn replacement(trail: &Trail, copies: &[u32], place: usize) -> Option<usize> {
+    let first = place.wrapping_add(4);
+    let end = at(copies, place.wrapping_add(1), 0) as usize;
+    let others = copies.get(first..end)?;
+    let other = others
+        .iter()
+        .position(|code| !is_false(trail, Lit { code: *code }))?;
+    Some(first.wrapping_add(other))
 }
 
 /// Writes a literal to a copy in place of a watched one that is false. It answers the literal.
 #[inline(always)]
-fn replace(copies: &mut [u32], place: u32, gone: Lit, other: usize) -> Lit {
+fn replace(copies: &mut [u32], place: usize, gone: Lit, other: usize) -> Lit {
     let lit = Lit {
         code: at(copies, other, NONE),
     };
-    let first = place as usize + 2;
+    let first = place.wrapping_add(2);
     let is_first = at(copies, first, NONE) == gone.code;
-    let watched = if is_first { first } else { first + 1 };
+    let watched = if is_first {
+        first
+    } else {
+        place.wrapping_add(3)
+    };
     put(copies, watched, lit.code);
     put(copies, other, gone.code);
     lit
@@ -236,7 +252,7 @@ enum Outlook {
 #[inline(always)]
 fn look(
     trail: &mut Trail,
-    lists: &mut [Vec<Watch>],
+    lists: &mut [Near],
     copies: &mut [u32],
     watch: Watch,
     gone: Lit,
@@ -251,13 +267,13 @@ fn look(
     if seems_true(trail, other) {
         return Ok(Outlook::Stays(other));
     }
-    if let Some(next) = replacement(trail, copies, watch.place) {
-        let lit = replace(copies, watch.place, gone, next);
+    if let Some(next) = replacement(trail, copies, place) {
+        let lit = replace(copies, place, gone, next);
         let moved = Watch {
             place: watch.place,
             blocker: other,
         };
-        push(lists, lit, moved)?;
+        add_watch(lists, lit, moved)?;
         return Ok(Outlook::Moves);
     }
     let number = at(copies, place, NONE);
@@ -268,12 +284,25 @@ fn look(
     Ok(Outlook::Stays(other))
 }
 
+/// The first place from one on at which the blocker isn't true.
+#[inline(always)]
+fn next_visit(trail: &Trail, list: &[Watch], from: usize) -> Option<usize>
+    ensures { IfSome result (λ place. (from ≤ place) × (place < length list.now)) }
+{
+    for place in from..list.len() {
+        if !seems_true(trail, list[place].blocker) {
+            return Some(place);
+        }
+    }
+    None
+}
+
 /// Goes through the watches of a literal that has become false, and leaves those that stay. It answers a clause that
 /// has no other literals.
 fn sift(
     database: &Clauses,
     trail: &mut Trail,
-    lists: &mut [Vec<Watch>],
+    lists: &mut [Near],
     copies: &mut [u32],
     list: &mut Vec<Watch>,
     gone: Lit,
@@ -281,23 +310,25 @@ fn sift(
     ensures open { open_count trail.new.values.items ≤ open_count trail.old.values.items }
     ensures conflict { IfOk result (λ found. IfSome found (λ number. number < length database.now)) }
 {
-    let mut kept: usize = 0;
-    let mut found = None;
-    for place in 0..list.as_slice().len() {
-        let mut watch = at(list, place, NO_WATCH);
-        if !seems_true(trail, watch.blocker) && found.is_none() {
-            match look(trail, lists, copies, watch, gone)? {
-                Outlook::Stays(blocker) => watch.blocker = blocker,
-                Outlook::Moves => continue,
-                Outlook::Fails(number) if number < database.len() => found = Some(number),
-                Outlook::Fails(_) => (),
+    let mut from = 0;
+    for _ in 0..list.as_slice().len() {
+        let Some(place) = next_visit(trail, list, from) else {
+            break;
+        };
+        from = place;
+        match look(trail, lists, copies, list[place], gone)? {
+            Outlook::Stays(blocker) => {
+                list[place].blocker = blocker;
+                from += 1;
             }
+            Outlook::Moves => {
+                list.swap_remove(place);
+            }
+            Outlook::Fails(number) if number < database.len() => return Ok(Some(number)),
+            Outlook::Fails(_) => from += 1,
         }
-        put(list, kept, watch);
-        kept = kept.wrapping_add(1);
     }
-    list.truncate(kept);
-    Ok(found)
+    Ok(None)
 }
 
 /// Follows the clauses of two literals one of which has become false. It answers one whose other literal is false.
@@ -310,13 +341,14 @@ fn follow_all(
     ensures conflict { IfOk result (λ found. IfSome found (λ number. number < length database.now)) }
 {
     for implied in all {
-        if seems_true(trail, implied.lit) || implied.clause >= database.len() {
+        if seems_true(trail, implied.lit) {
             continue;
         }
-        if is_false(trail, implied.lit) {
+        if !is_false(trail, implied.lit) {
+            assign(trail, implied.lit, implied.clause)?;
+        } else if implied.clause < database.len() {
             return Ok(Some(implied.clause));
         }
-        assign(trail, implied.lit, implied.clause)?;
     }
     Ok(None)
 }
@@ -331,9 +363,9 @@ fn follow_twos(
     ensures open { open_count trail.new.values.items ≤ open_count trail.old.values.items }
     ensures conflict { IfOk result (λ found. IfSome found (λ number. number < length database.now)) }
 {
-    match watches.implied.as_slice().get(gone.code as usize) {
+    match watches.lists.as_slice().get(gone.code as usize) {
         None => Ok(None),
-        Some(all) => follow_all(database, trail, all),
+        Some(near) => follow_all(database, trail, &near.twos),
     }
 }
 
@@ -341,7 +373,7 @@ fn follow_twos(
 fn change(watches: &mut Watches, lit: Lit) {
     let place = lit.code as usize;
     if place < watches.lists.as_slice().len() {
-        mem::swap(&mut watches.lists[place], &mut watches.current);
+        mem::swap(&mut watches.lists[place].watches, &mut watches.current);
     }
 }
 

@@ -84,11 +84,7 @@ impl Fanout {
     }
 
     /// Puts the gates that read this signal at the end of the queue.
-    pub fn queue_readers(
-        &self,
-        signal: Sig,
-        queue: &mut VecDeque<u32>,
-    ) -> Result<(), AllocError>
+    pub fn queue_readers(&self, signal: Sig, queue: &mut VecDeque<u32>) -> Result<(), AllocError>
         requires { IsNonDecreasingBy (λ read. read.signal.0) self.now }
         ensures { OnOk result (queue.new.items ≡ queue.old.items ++ readers_of self.now signal) }
     {

@@ -6,6 +6,7 @@ pub mod Enough
 pub mod Solving
 pub mod Verdicts
 pub mod Determination
+pub mod Witnessed
 pub mod Laws
 -- The code's own: what its parts say to each other.
 pub mod Fanout

@@ -69,8 +69,9 @@ fn is_settled(
     }
 }
 
-/// Marks the blocks that are settled by themselves in one sweep, and those that are no loops.
-pub(crate) fn settled_loops(
+/// Marks the blocks that are settled by themselves in one sweep, and those that are no loops. At most so many nodes are spent on
+/// each loop, of which nothing is said where they are too few: it has no mark then.
+pub fn settled_loops(
     alloc: Global,
     looped: &LoopedNetlist<'_>,
     budget: u32,

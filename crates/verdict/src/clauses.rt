@@ -4,7 +4,7 @@
 ghost use Rattle.std.specs.Prelude.{◌≡◌, ◌<◌, Some, None, length, IfOk, IfSome};
 ghost use Rattle.care_sets.specs.Binding.{IsCareOf};
 ghost use Rattle.refusals.specs.Refusals.{initial_refusal};
-ghost use Rattle.clause_decision.specs.Tests.{TellsFirstUnknown};
+ghost use Rattle.clause_decision.specs.Witnesses.{TellsWitness};
 ghost use Rattle.verdict.specs.Loose.{AreUnknownMarks, IsLooseNumber};
 ghost use Rattle.verdict.specs.Scopes.{AreOpenGates, IsBeginning, MayGoOn};
 ghost use Rattle.verdict.specs.Determinacy.{IsDeterminacy};
@@ -18,17 +18,17 @@ use crate::judgement::Judgement;
 use crate::question::Question;
 use crate::scopes::marked_places;
 use crate::search::Search;
-use crate::undetermined::{first_of, unknown_refusal};
+use crate::undetermined::{some_of, unknown_refusal};
 use crate::unknown::{loose_number, unknown_gates};
 use care_sets::Care;
-use clause_decision::{First, Found, is_possible, least_outside};
+use clause_decision::{Found, Witness, is_possible, least_outside};
 use cyc_base::Bits;
 use netlist::Netlist;
 use refusals::{Observe, Refusal};
 use std::alloc::{AllocError, Global};
 
 /// The most nodes that are spent on one loop by itself, so that a loop which isn't settled soon costs little.
-pub(crate) const LOOP_NODES: u32 = 100_000;
+pub const LOOP_NODES: u32 = 100_000;
 
 /// How far the decision comes without the gates.
 #[derive(Drop)]
@@ -60,7 +60,12 @@ fn begin_with_care(
 }
 
 /// The initial states and the care set.
-fn begin(alloc: Global, net: &Netlist, care: &Care, conflicts: u64) -> Result<Beginning, AllocError>
+pub(crate) fn begin(
+    alloc: Global,
+    net: &Netlist,
+    care: &Care,
+    conflicts: u64,
+) -> Result<Beginning, AllocError>
     requires { IsCareOf net.now care.now }
     ensures { IfOk result (IsBeginning net.now care.now) }
 {
@@ -101,7 +106,7 @@ fn determinacy_with_loose(
 }
 
 /// Whether the gates are determined where one is unknown on care, and no observed one was found to be.
-fn determinacy_of_loose(
+pub(crate) fn determinacy_of_loose(
     alloc: Global,
     search: &Search<'_>,
     observe: Observe,
@@ -133,29 +138,31 @@ fn determinacy_of_observed(
     }
 }
 
-/// Whether the gates are determined where the first gate that is unknown in these loops was looked for: all gates are where
-/// none of these is unknown.
+/// Whether the gates are determined where one that is unknown in these loops was looked for: all gates are where none of these
+/// is unknown.
 fn determinacy_at(
     alloc: Global,
     search: &Search<'_>,
     observe: Observe,
     gates: &[u32],
-    first: First,
+    found: &Witness,
 ) -> Result<Determinacy, AllocError>
     requires gates { AreOpenGates search.now.net search.now.blocks search.now.settled gates.now }
-    requires first { TellsFirstUnknown search.now.net search.now.care gates.now first }
+    requires found { TellsWitness search.now.net search.now.care gates.now found.now }
     ensures { IfOk result (IsDeterminacy search.now observe) }
 {
     search.laws();
-    match first {
-        First::At(place) => determinacy_of_observed(alloc, search, observe, gates[place]),
-        First::Nowhere => Ok(Determinacy::Determined { loose: 0 }),
-        First::Unknown => Ok(Determinacy::Undecided),
+    match found {
+        Witness::Found { place, .. } => {
+            determinacy_of_observed(alloc, search, observe, gates[*place])
+        }
+        Witness::Nowhere => Ok(Determinacy::Determined { loose: 0 }),
+        Witness::Unknown => Ok(Determinacy::Undecided),
     }
 }
 
 /// The gates of loops that aren't settled.
-fn gates_open(alloc: Global, search: &Search<'_>) -> Result<Vec<u32>, AllocError>
+pub(crate) fn gates_open(alloc: Global, search: &Search<'_>) -> Result<Vec<u32>, AllocError>
     ensures { IfOk result (λ gates. AreOpenGates search.now.net search.now.blocks search.now.settled gates.items) }
 {
     let marks = open_gates(alloc, search.blocks(), search.settled())?;
@@ -171,12 +178,12 @@ fn determinacy_on_care(
     ensures { IfOk result (IsDeterminacy search.now observe) }
 {
     let gates = gates_open(alloc, search)?;
-    let first = first_of(alloc, search, &gates)?;
-    determinacy_at(alloc, search, observe, &gates, first)
+    let found = some_of(alloc, search, &gates)?;
+    determinacy_at(alloc, search, observe, &gates, &found)
 }
 
 /// The judgement where no observed gate is unknown on care, so that next states decide.
-fn judge_by_invariance(
+pub(crate) fn judge_by_invariance(
     alloc: Global,
     search: &Search<'_>,
     observe: Observe,

@@ -39,9 +39,12 @@ mod solving;
 mod undetermined;
 mod unknown;
 mod verdict;
+mod witnessed;
 
+pub use alone::settled_loops;
 pub use apart::are_never_apart;
 pub use care::{assume_on, invariant_on};
+pub use clauses::LOOP_NODES;
 pub use deciding::decide;
 pub use fault::DecideFault;
 pub use judgement::Judgement;
@@ -50,3 +53,4 @@ pub use refusals::Observe;
 pub use sets::least_of;
 pub use solving::{Fixpoint, solve_beside};
 pub use verdict::Verdict;
+pub use witnessed::judge_with_witness;

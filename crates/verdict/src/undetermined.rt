@@ -5,6 +5,7 @@ ghost use Rattle.loops.specs.Cones.{is_marked};
 ghost use Rattle.refusals.specs.Acceptance.{observed as observed_signals};
 ghost use Rattle.refusals.specs.Refusals.{undetermined_refusal};
 ghost use Rattle.clause_decision.specs.Tests.{TellsFirstUnknown};
+ghost use Rattle.clause_decision.specs.Witnesses.{TellsWitness};
 ghost use Rattle.verdict.specs.Observed.{AreMarksOf};
 ghost use Rattle.verdict.specs.Unknown.{AreAskedCandidates, IsAskedFor, IsFirstToRefuse};
 
@@ -13,7 +14,7 @@ use crate::observing::observed_gates;
 use crate::pieces::{piece_at, piece_size};
 use crate::scopes::{marked_places, scope_of};
 use crate::search::Search;
-use clause_decision::{First, Found, first_unknown, least_unknown};
+use clause_decision::{First, Found, Witness, first_unknown, least_unknown, some_unknown};
 use cyc_base::Bits;
 use refusals::{Observe, Refusal};
 use std::alloc::{AllocError, Global};
@@ -33,7 +34,7 @@ fn keep_asked(observed: &[bool], last: u32, marks: &mut [bool])
 }
 
 /// Marks of the gates asked for that may be unknown: those in loops at places that aren't settled, and in their fanout.
-fn asked_candidates(
+pub(crate) fn asked_candidates(
     alloc: Global,
     search: &Search<'_>,
     observed: &[bool],
@@ -59,11 +60,7 @@ fn first_in_cone(alloc: Global, search: &Search<'_>, gates: &[u32]) -> Result<Fi
 }
 
 /// The place of the first of these gates that is unknown at some care vector.
-pub(crate) fn first_of(
-    alloc: Global,
-    search: &Search<'_>,
-    gates: &[u32],
-) -> Result<First, AllocError>
+fn first_of(alloc: Global, search: &Search<'_>, gates: &[u32]) -> Result<First, AllocError>
     requires { All (λ n. n < length search.now.net.gates) gates.now }
     ensures { IfOk result (TellsFirstUnknown search.now.net search.now.care gates.now) }
 {
@@ -78,6 +75,44 @@ pub(crate) fn first_of(
         }
     }
     Ok(First::Nowhere)
+}
+
+/// A care vector at which one of these gates is unknown, asked of the clauses of their cone.
+fn some_in_cone(alloc: Global, search: &Search<'_>, gates: &[u32]) -> Result<Witness, AllocError>
+    requires { All (λ n. n < length search.now.net.gates) gates.now }
+    ensures { IfOk result (TellsWitness search.now.net search.now.care gates.now) }
+{
+    let net = search.net();
+    let care = search.care();
+    let scope = scope_of(alloc, search, gates)?;
+    some_unknown(alloc, net, care, &scope, gates, search.conflicts())
+}
+
+/// A care vector at which one of these gates is unknown, with one that is. Any does.
+pub(crate) fn some_of(
+    alloc: Global,
+    search: &Search<'_>,
+    gates: &[u32],
+) -> Result<Witness, AllocError>
+    requires { All (λ n. n < length search.now.net.gates) gates.now }
+    ensures { IfOk result (TellsWitness search.now.net search.now.care gates.now) }
+{
+    let size = piece_size(alloc, search, gates)?;
+    let mut start = 0;
+    while start < gates.len() {
+        let piece = piece_at(gates, start, size);
+        match some_in_cone(alloc, search, piece)? {
+            Witness::Nowhere => start += piece.len(),
+            Witness::Found { vector, place } => {
+                return Ok(Witness::Found {
+                    vector,
+                    place: start + place,
+                });
+            }
+            Witness::Unknown => return Ok(Witness::Unknown),
+        }
+    }
+    Ok(Witness::Nowhere)
 }
 
 /// The refusal of a gate, where it is the first that refuses the netlist.

@@ -9,6 +9,11 @@ returns-then-cut_count-first c =
     let l : LoopAt = c.args.block.now in
     grind (arith, first-needed l c.cut_count.ensures.is c.args.care.now c.args.sign c.requires.serves)
 
+pub returns-then-is_small_part : goal.returns-then-is_small_part
+returns-then-is_small_part c =
+    let l : LoopAt = c.args.block.now in
+    grind (arith, first-needed l c.cut_count.ensures.is c.args.care.now c.args.sign c.requires.serves)
+
 pub returns-then-not-branch : goal.returns-then-not-branch
 returns-then-not-branch c =
     let l : LoopAt = c.args.block.now in

@@ -21,7 +21,7 @@ returns c scope k scope_is marked serves swept is need =
     let same : c.args.needed ≡ c.args.sweeps = omega (arith, low, high) in
     record {
       swept = asked.swept;
-      tells = c.in_ok-needed_by.ensures c.args.sweeps
+      tells = c.in_ok-needed_by.ensures
           (subst (λ (n : ℕ). TellsTooFew l.net (loops_in l) c.args.care.now (gates_in l) c.ask_after.new.swept.cone.rails.items n c.in_ok-reply.reply) is asked.tells)
           (subst (λ (n : ℕ). NeedAtLeast l.net (loops_in l) c.args.care.now (gates_in l) n) same need);
     }

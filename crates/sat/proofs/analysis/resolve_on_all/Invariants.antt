@@ -1,5 +1,5 @@
 use Rattle.sat.specs.Cnf.{Entails}
 use Rattle.sat.proofs.analysis.resolve_on_all.Given as goal
 
-abbrev pub invariant-loop-entry : goal.invariant-loop-entry
-invariant-loop-entry l = Entails l.database l.working.lits.items
+abbrev pub invariant-loop-lit : goal.invariant-loop-lit
+invariant-loop-lit l = Entails l.database l.working.lits.items
