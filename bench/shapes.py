@@ -626,6 +626,16 @@ def sim_wide_loop(n):
     return Files("sim", "net.blif", "net.vectors", net_blif=net, net_vectors="1\n0\n" * 50)
 
 
+@shape(1000)
+def explain_few(n):
+    """A gate that reads itself beside 5 n gates over n inputs, of which it needs few."""
+    signals, lines = numbered("i", n), []
+    for k in range(5 * n):
+        lines.append(gate(random.choice([AND, XOR]), f"w{k}", *random.sample(signals[-3 * n :], 2)))
+        signals.append(f"w{k}")
+    return explained(model("few", numbered("i", n), ["y"], [*lines, gate(OR, "y", signals[-1], "y")]))
+
+
 def run(program, files, seconds, memory):
     """The user seconds, the peak memory in MB and the status of a call, or None past the limits."""
     with tempfile.TemporaryDirectory() as folder:
