@@ -1,7 +1,8 @@
 -- Pairs of wires in a cone's models, and at care vectors.
-use Rattle.std.proofs.Common.{◌≡◌, inl, inr, ℕ, suc, ◌<◌, ◌+◌, ◌*◌, Bool, true, false, not, List, [], ◌∷◌, ◌++◌, get_or, Some, refl, sym, subst, ◌∙◌, arith, true≢false}
+use Rattle.std.proofs.Common.{◌≡◌, inl, inr, ℕ, suc, ◌<◌, ◌+◌, ◌*◌, Bool, true, false, not, List, [], ◌∷◌, ◌++◌, length, map, get_or, Some, refl, sym, subst, ◌∙◌, arith, true≢false}
 use Rattle.std.specs.List.{All, AllZip}
-use Rattle.clause_decision.proofs.Common.{cases_lt, get_or_default, get_or-take, All-nil, All-cons, All-get_or, All-push, All-weaker, Sig, Trit, X, bits, Parts, wire, fix, count, first_gate, gate_of, value_in, CareSet, columns, IsCareVector, Formula, Rails, IsWanted, gate_rails, says, IsModel, HasModelFrom, Grows, is_known, no_rails, rails_at, Reads, AreWithin, ReadsAll-at, Problem, problem, HasNoModelUnder, column_rails, vector_in, ReadsAbove, ReadsFix, IsCone, AddLiterals, SayPairs}
+use Rattle.std.proofs.lemmas.List.Elements.{All-append}
+use Rattle.clause_decision.proofs.Common.{cases_lt, get_or_default, get_or-map, get_or-take, models-same, All-nil, All-cons, All-get_or, All-map, All-push, All-weaker, Sig, Trit, X, bit, bits, Parts, wire, fix, count, first_gate, gate_of, value_in, CareSet, columns, IsCareVector, Formula, Rails, IsWanted, gate_rails, says, IsModel, HasModelFrom, Grows, is_known, no_rails, rails_at, Reads, AreWithin, ReadsAll-at, IsWithin, Problem, problem, HasNoModelUnder, column_rails, vector_in, ReadsAbove, ReadsFix, IsCone, AddLiterals, SayPairs}
 use Rattle.std.proofs.lemmas.List.Folds.{list_any_none}
 use Rattle.std.proofs.lemmas.Slice.Zip.{all_zipped_more}
 use Rattle.ternary_clauses.specs.Apart.{SaysApart}
@@ -13,14 +14,16 @@ use Rattle.ternary_clauses.proofs.NodeLemmas.{value-is}
 use Rattle.ternary_clauses.proofs.PickLemmas.{opposite, Reads-opposite}
 use Rattle.clause_queries.specs.Each.{AreNever, IsAnyPossible}
 use Rattle.clause_decision.specs.declared.apart.Asked.{Asked}
+use Rattle.clause_decision.specs.declared.cones.Cone.{Cone}
+use Rattle.clause_decision.specs.declared.pairs.Fixed.{Fixed}
 use Rattle.clause_decision.specs.declared.pairs.Hint.{Hint}
 use Rattle.clause_decision.specs.declared.pairs.Pair.{Pair}
 use Rattle.clause_decision.specs.declared.scope.Scope.{Scope}
-use Rattle.clause_decision.specs.Apart.{are_apart, is_apart_at, AreNeverApart, IsPairOf, IsWireIn, IsPairIn, ArePairsIn}
-use Rattle.clause_decision.specs.Pairs.{HasRails, SaysPair, AddsLiteral, TellPairs, AreRefuted}
-use Rattle.clause_decision.proofs.ConeLemmas.{care-under, cone-kept}
-use Rattle.clause_decision.proofs.SignalLemmas.{column_rails-length, signal-at}
+use Rattle.clause_decision.specs.Apart.{are_apart, is_apart_at, AreNeverApart, AreNeverApartIn, HasFixed, IsCubeOf, IsInCube, IsPairOf, IsWireIn, IsPairIn, ArePairsIn}
+use Rattle.clause_decision.specs.Pairs.{assumed_literals, fixed_literal, HoldIn, HasRails, SaysPair, AddsLiteral, TellPairs, AreRefuted}
+use Rattle.clause_decision.proofs.ConeLemmas.{care-holds, cone-kept}
 use Rattle.clause_decision.proofs.FormulaLemmas.{two-within}
+use Rattle.clause_decision.proofs.SignalLemmas.{column_rails-length, signal-at}
 
 -- what is read past the end of a list of hints
 abbrev pub no_hint : Hint
@@ -104,19 +107,62 @@ exchanged_rails f r are = record {
       subst (Reads m (exchanged r)) (value-is m (exchanged r) (opposite (value_read m r)) opposite_read) opposite_read;
 }
 
+-- ---- what is assumed
+
+-- the literal of a column that a model reads is true where the column is as it is fixed
+literal-holds : (m : List Bool) (rails : List Rails) (fixed : Fixed) (b : Bool) → Reads m (rails_at rails fixed.column) (bit b) → b ≡ fixed.value → says m (fixed_literal rails fixed) ≡ true
+literal-holds m rails fixed false reads is = rw (sym is) (reads.zero)
+literal-holds m rails fixed true reads is = rw (sym is) (reads.one)
+
+module _ (net : Parts) (care : CareSet) (marks : List Bool) (cone : Cone) (is : IsCone net care marks cone.formula cone.rails.items cone.inside cone.allowed) (cube : List Fixed) (of_net : IsCubeOf net cube) where
+  fixed-holds : (v : List Bool) → length v ≡ columns net → (has : ReadsFix net marks cone.formula cone.rails.items v) → (fixed : Fixed) → fixed.column < columns net → HasFixed v fixed →
+      says has.model (fixed_literal cone.rails.items fixed) ≡ true
+  fixed-holds v wide has fixed low holds =
+      let at : Reads has.model (get_or (column_rails net cone.rails.items) fixed.column no_rails) (get_or (bits v) fixed.column X) =
+      ReadsAll-at has.model (column_rails net cone.rails.items) (bits v) fixed.column no_rails X (let l = column_rails-length net cone.rails.items is.size in omega (arith, low, l)) has.columns in
+      literal-holds has.model cone.rails.items fixed (get_or v fixed.column false)
+      (subst (λ (t : Trit). Reads has.model (rails_at cone.rails.items fixed.column) t) (get_or-map bit v fixed.column false X (omega (arith, low, wide)))
+      (subst (λ (r : Rails). Reads has.model r (get_or (bits v) fixed.column X)) (get_or-take (columns net) cone.rails.items fixed.column no_rails low) at))
+      holds
+
+  pub assumed-hold : HoldIn net care marks cone.formula cone.rails.items cube (assumed_literals cone cube)
+  assumed-hold v counts inside has =
+      let holds = λ (l : ℕ). says has.model l ≡ true in
+      All-append holds (map (fixed_literal cone.rails.items) cube) (cone.inside ∷ cone.allowed ∷ [])
+      (All-map holds (fixed_literal cone.rails.items) cube (λ k d less. fixed-holds v counts.width has (get_or cube k d) (of_net k d less) (inside k d less)))
+      (All-cons holds cone.inside (cone.allowed ∷ []) (care-holds is v has counts).0 (All-cons holds cone.allowed [] (care-holds is v has counts).1 (All-nil holds)))
+
+  fixed-within : (fixed : Fixed) → fixed.column < columns net → fixed_literal cone.rails.items fixed < 2 * cone.formula.variables
+  fixed-within fixed low = by fixed.value refl
+    where
+      within : AreWithin cone.formula.variables (rails_at cone.rails.items fixed.column)
+      within = All-get_or (AreWithin cone.formula.variables) cone.rails.items fixed.column no_rails (let size = is.size in omega (arith, low, size)) is.within
+
+      by : (b : Bool) → fixed.value ≡ b → fixed_literal cone.rails.items fixed < 2 * cone.formula.variables
+      by true e = rw e within.one
+      by false e = rw e within.zero
+
+  pub assumed-within : IsWithin cone.formula.variables (assumed_literals cone cube)
+  assumed-within =
+      let below = λ (l : ℕ). l < 2 * cone.formula.variables in
+      All-append below (map (fixed_literal cone.rails.items) cube) (cone.inside ∷ cone.allowed ∷ [])
+      (All-map below (fixed_literal cone.rails.items) cube (λ k d less. fixed-within (get_or cube k d) (of_net k d less)))
+      (two-within (2 * cone.formula.variables) cone.inside cone.allowed is.inside_within is.allowed_within)
+
 -- hints, and then pairs
-pub pairs-told : (net : Parts) (care : CareSet) (marks : List Bool) (old mid : Formula) (pairs : List Pair) (asked : Asked) →
+pub pairs-told : (net : Parts) (care : CareSet) (marks : List Bool) (old mid : Formula) (cube : List Fixed) (pairs : List Pair) (asked : Asked) → IsCubeOf net cube → asked.assumed.items ≡ assumed_literals asked.cone cube →
     IsCone net care marks old asked.cone.rails.items asked.cone.inside asked.cone.allowed → AddLiterals old mid asked.hints.items → SayPairs mid asked.cone.formula asked.cone.rails.items pairs asked.pairs.items →
-    TellPairs net care marks pairs asked
-pairs-told net care marks old mid pairs asked cone first last =
+    TellPairs net care marks cube pairs asked
+pairs-told net care marks old mid cube pairs asked of_net is_assumed cone first last =
     let f = asked.cone.formula in
     let kept : IsCone net care marks f asked.cone.rails.items asked.cone.inside asked.cone.allowed =
     cone-kept net care marks mid f asked.cone.rails.items asked.cone.inside asked.cone.allowed
     (cone-kept net care marks old mid asked.cone.rails.items asked.cone.inside asked.cone.allowed cone first.grows first.complete) last.adds.grows last.adds.complete in
     record {
       cone = kept;
+      assumed = subst (HoldIn net care marks f asked.cone.rails.items cube) (sym is_assumed) (assumed-hold net care marks asked.cone kept cube of_net);
       askable = record {
-        care = two-within (2 * f.variables) asked.cone.inside asked.cone.allowed kept.inside_within kept.allowed_within;
+        assumed = subst (IsWithin f.variables) (sym is_assumed) (assumed-within net care marks asked.cone kept cube of_net);
         hints = All-weaker (λ k. k < 2 * mid.variables) (λ k. k < 2 * f.variables) (λ k less. let x = last.adds.grows.more in omega (arith, less, x)) asked.hints.items first.within;
         pairs = last.adds.within;
       };
@@ -129,15 +175,19 @@ pairs-told net care marks old mid pairs asked cone first last =
 equal-apart : (s t : Trit) → not (is_known (agreed s t)) ≡ false → are_apart s t ≡ false
 equal-apart s t e = grind arith
 
-module _ (net : Parts) (care : CareSet) (scope : Scope) (pairs : List Pair) (asked : Asked) (told : TellPairs net care scope.gates pairs asked) (none : AreRefuted asked) where
+module _ (net : Parts) (care : CareSet) (scope : Scope) (cube : List Fixed) (pairs : List Pair) (asked : Asked) (told : TellPairs net care scope.gates cube pairs asked) (none : AreRefuted asked) where
   -- a literal that is refuted is false in the model of a care vector's fixpoint
-  refuted-at : (v : List Bool) → IsCareVector net care v → (has : ReadsFix net scope.gates asked.cone.formula asked.cone.rails.items v) → (l : ℕ) →
-      HasNoModelUnder (problem asked.cone.formula) (asked.cone.inside ∷ asked.cone.allowed ∷ l ∷ []) → says has.model l ≡ false
-  refuted-at v counts has l refuted = by (says has.model l) refl
+  refuted-at : (v : List Bool) → IsCareVector net care v → IsInCube cube v → (has : ReadsFix net scope.gates asked.cone.formula asked.cone.rails.items v) → (l : ℕ) →
+      HasNoModelUnder (problem asked.cone.formula) (asked.assumed.items ++ l ∷ []) → says has.model l ≡ false
+  refuted-at v counts inside has l refuted = by (says has.model l) refl
     where
       by : (b : Bool) → says has.model l ≡ b → says has.model l ≡ false
       by false e = e
-      by true e = absurd (refuted has.model (care-under told.cone v has counts l e))
+      by true e =
+          absurd (refuted has.model (record {
+            model = models-same asked.cone.formula has.model ∙ has.holds;
+            assumed = All-push (λ k. says has.model k ≡ true) asked.assumed.items l (told.assumed v counts inside has) e;
+          }))
 
   -- a wire is read as its value
   wire-read : (v : List Bool) → IsCareVector net care v → (has : ReadsFix net scope.gates asked.cone.formula asked.cone.rails.items v) → (s : Sig) → s.0 < count net →
@@ -146,26 +196,30 @@ module _ (net : Parts) (care : CareSet) (scope : Scope) (pairs : List Pair) (ask
       signal-at net asked.cone.rails.items has.model v told.cone.size counts.width has.columns s
       (λ high. has.fixpoint (gate_of net s) (record { within = omega (arith, inside, high); marked = marked high }))
 
-  none-apart : (v : List Bool) → IsCareVector net care v → (has : ReadsFix net scope.gates asked.cone.formula asked.cone.rails.items v) → (some : List Pair) (literals : List ℕ) →
+  none-apart : (v : List Bool) → IsCareVector net care v → IsInCube cube v → (has : ReadsFix net scope.gates asked.cone.formula asked.cone.rails.items v) → (some : List Pair) (literals : List ℕ) →
       All (IsPairOf net) some → ArePairsIn net scope some → AllZip (SaysPair has.model asked.cone.rails.items) some literals →
-      All (λ l. HasNoModelUnder (problem asked.cone.formula) (asked.cone.inside ∷ asked.cone.allowed ∷ l ∷ [])) literals → All (λ pair. is_apart_at net v pair ≡ false) some
-  none-apart v counts has [] [] are within each refuted = All-nil (λ pair. is_apart_at net v pair ≡ false)
-  none-apart v counts has [] (l ∷ literals) are within each refuted = absurd each
-  none-apart v counts has (pair ∷ some) [] are within each refuted = absurd each
-  none-apart v counts has (pair ∷ some) (l ∷ literals) are within each refuted =
+      All (λ l. HasNoModelUnder (problem asked.cone.formula) (asked.assumed.items ++ l ∷ [])) literals → All (λ pair. is_apart_at net v pair ≡ false) some
+  none-apart v counts in_cube has [] [] are within each refuted = All-nil (λ pair. is_apart_at net v pair ≡ false)
+  none-apart v counts in_cube has [] (l ∷ literals) are within each refuted = absurd each
+  none-apart v counts in_cube has (pair ∷ some) [] are within each refuted = absurd each
+  none-apart v counts in_cube has (pair ∷ some) (l ∷ literals) are within each refuted =
       let is : IsPairOf net pair = are 0 pair (omega arith) in
       let inside : IsPairIn net scope pair = within 0 pair (omega arith) in
       let here = wire-read v counts has pair.here is.here inside.here in
       let there = wire-read v counts has pair.there is.there inside.there in
       All-cons (λ p. is_apart_at net v p ≡ false) pair some
       (equal-apart (wire (fix net (bits v)) pair.here) (wire (fix net (bits v)) pair.there)
-      (sym (each.0 (wire (fix net (bits v)) pair.here) (wire (fix net (bits v)) pair.there) here there) ∙ refuted-at v counts has l (refuted 0 l (omega arith))))
-      (none-apart v counts has some literals (λ k d less. are (suc k) d (omega (arith, less))) (λ k d less. within (suc k) d (omega (arith, less))) each.1 (λ k d less. refuted (suc k) d (omega (arith, less))))
+      (sym (each.0 (wire (fix net (bits v)) pair.here) (wire (fix net (bits v)) pair.there) here there) ∙ refuted-at v counts in_cube has l (refuted 0 l (omega arith))))
+      (none-apart v counts in_cube has some literals (λ k d less. are (suc k) d (omega (arith, less))) (λ k d less. within (suc k) d (omega (arith, less))) each.1 (λ k d less. refuted (suc k) d (omega (arith, less))))
 
-  pub never-apart : All (IsPairOf net) pairs → ArePairsIn net scope pairs → AreNeverApart net care pairs
-  never-apart are within = λ v counts.
+  pub never-apart : All (IsPairOf net) pairs → ArePairsIn net scope pairs → AreNeverApartIn net care cube pairs
+  never-apart are within = λ v counts in_cube.
       let has : ReadsFix net scope.gates asked.cone.formula asked.cone.rails.items v = told.cone.complete v counts.width in
-      list_any_none (is_apart_at net v) pairs (none-apart v counts has pairs asked.pairs.items are within (told.says_each has.model has.holds) none)
+      list_any_none (is_apart_at net v) pairs (none-apart v counts in_cube has pairs asked.pairs.items are within (told.says_each has.model has.holds) none)
+
+-- where nothing is fixed these are all care vectors
+pub nothing_fixed : (net : Parts) (care : CareSet) (pairs : List Pair) → AreNeverApartIn net care [] pairs → AreNeverApart net care pairs
+nothing_fixed net care pairs never = λ v counts. never v counts (All-nil (HasFixed v))
 
 -- ---- what is asked
 

@@ -1,5 +1,5 @@
 -- Pairs of wires of one netlist, and the care vectors on which the two of a pair differ.
-use Rattle.std.specs.Prelude.{◌≡◌, ◌≤◌, Bool, true, false, List, All}
+use Rattle.std.specs.Prelude.{◌≡◌, ◌≤◌, ◌<◌, Bool, true, false, List, All, slice_index_or}
 use Rattle.std.specs.List.{list_any}
 use Rattle.cyc_base.specs.declared.sig.Sig.{Sig}
 use Rattle.cyc_base.specs.declared.trit.Trit.{Trit}
@@ -9,7 +9,8 @@ use Rattle.netlist.specs.declared.parts.Parts.{Parts}
 use Rattle.netlist.specs.Netlists.{IsSignal}
 use Rattle.netlist.specs.Fixpoint.{wire, fix}
 use Rattle.loops.specs.Sweeps.{first_gate, gate_of}
-use Rattle.care_sets.specs.Care.{CareSet, IsCareVector}
+use Rattle.care_sets.specs.Care.{columns, CareSet, IsCareVector}
+use Rattle.clause_decision.specs.declared.pairs.Fixed.{Fixed}
 use Rattle.clause_decision.specs.declared.pairs.Pair.{Pair}
 use Rattle.clause_decision.specs.declared.scope.Scope.{Scope}
 use Rattle.clause_decision.specs.Scopes.{is_marked}
@@ -35,6 +36,22 @@ some_is_apart net pairs v = list_any (is_apart_at net v) pairs
 -- those of no pair are, at any care vector
 abbrev pub AreNeverApart : Parts → CareSet → List Pair → Type 0
 AreNeverApart net care pairs = (v : List Bool) → IsCareVector net care v → some_is_apart net pairs v ≡ false
+
+-- a vector has the value that is fixed for a column
+abbrev pub HasFixed : List Bool → Fixed → Type 0
+HasFixed v fixed = slice_index_or v fixed.column false ≡ fixed.value
+
+-- and each of these
+abbrev pub IsInCube : List Fixed → List Bool → Type 0
+IsInCube cube v = All (HasFixed v) cube
+
+-- what is fixed are columns of the netlist
+abbrev pub IsCubeOf : Parts → List Fixed → Type 0
+IsCubeOf net cube = All (λ fixed. fixed.column < columns net) cube
+
+-- the wires of no pair are apart at a care vector in the cube
+abbrev pub AreNeverApartIn : Parts → CareSet → List Fixed → List Pair → Type 0
+AreNeverApartIn net care cube pairs = (v : List Bool) → IsCareVector net care v → IsInCube cube v → some_is_apart net pairs v ≡ false
 
 -- both wires are the netlist's
 pub record IsPairOf (net : Parts) (pair : Pair) : Type 0 where

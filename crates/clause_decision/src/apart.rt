@@ -1,16 +1,16 @@
 //! Pairs of wires that are never apart on care, with the help of others that are asked first.
 
-ghost use Rattle.std.specs.Prelude.{◌≡◌, ◌↔◌, true, IsTrue, All, IfOk};
+ghost use Rattle.std.specs.Prelude.{◌≡◌, ◌<◌, ◌↔◌, true, IsTrue, length, map, All, IfOk};
 ghost use Rattle.care_sets.specs.Binding.{IsCareOf};
 ghost use Rattle.ternary_clauses.specs.Apart.{SaysApart};
 ghost use Rattle.ternary_clauses.specs.Formulas.{IsFormula};
 ghost use Rattle.ternary_clauses.specs.Rails.{rails_at};
-ghost use Rattle.clause_decision.specs.Apart.{IsPairOf, IsPairIn, ArePairsIn, AreNeverApart};
-ghost use Rattle.clause_decision.specs.Pairs.{HasRails, AddsLiteral, AddLiterals, SayPairs, AreAskable, AreLiteralsOf, HaveNoModel, TellPairs, AreRefuted};
+ghost use Rattle.clause_decision.specs.Apart.{IsPairOf, IsPairIn, ArePairsIn, IsCubeOf, AreNeverApart, AreNeverApartIn};
+ghost use Rattle.clause_decision.specs.Pairs.{fixed_literal, assumed_literals, HasRails, AddsLiteral, AddLiterals, SayPairs, AreAskable, AreLiteralsOf, HaveNoModel, TellPairs, AreRefuted};
 ghost use Rattle.clause_decision.specs.Scopes.{IsScopeOf};
 
 use crate::cones::{Cone, cone_of};
-use crate::pairs::{Budget, Hint, Pair, PairSearch};
+use crate::pairs::{Budget, Fixed, Hint, Pair, PairSearch};
 use crate::question::query_of;
 use crate::scope::Scope;
 use care_sets::Care;
@@ -22,12 +22,11 @@ use ternary_clauses::{ClausesFault, Formula, Rails, add_apart, exchanged};
 /// How many hints the solver may give up on: no more are asked for then.
 const FAILURES: usize = 1_000;
 
-/// How many times as many conflicts are allowed where the first ones were too few.
-const MORE: u64 = 20;
-
 /// A cone, with a literal for each hint and for each pair.
 struct Asked {
     cone: Cone,
+    /// The literals of the care set, and of the columns that are fixed.
+    assumed: Vec<u32>,
     hints: Vec<u32>,
     pairs: Vec<u32>,
 }
@@ -36,6 +35,7 @@ impl Drop for Asked {
     fn drop(self) {
         let Asked {
             cone: _,
+            assumed: _,
             hints: _,
             pairs: _,
         } = self;
@@ -105,12 +105,42 @@ fn add_hints(
     Ok(literals)
 }
 
+/// The literal that says of a column that it has this value.
+fn literal_of(rails: &[Rails], fixed: Fixed) -> u32
+    requires { fixed.column < length rails.now }
+    ensures { result ≡ fixed_literal rails.now fixed }
+{
+    let column = rails[fixed.column as usize];
+    if fixed.value { column.one } else { column.zero }
+}
+
+/// Those of all that is fixed.
+fn literals_of_cube(alloc: Global, rails: &[Rails], cube: &[Fixed]) -> Result<Vec<u32>, AllocError>
+    requires { All (λ fixed. fixed.column < length rails.now) cube.now }
+    ensures { IfOk result (λ literals. literals.items ≡ map (fixed_literal rails.now) cube.now) }
+{
+    cube.iter()
+        .map(|fixed| literal_of(rails, *fixed))
+        .collect(alloc)
+}
+
+/// Those, and the literals of the care set.
+fn assumed_of(alloc: Global, cone: &Cone, cube: &[Fixed]) -> Result<Vec<u32>, AllocError>
+    requires { All (λ fixed. fixed.column < length cone.now.rails.items) cube.now }
+    ensures { IfOk result (λ assumed. assumed.items ≡ assumed_literals cone.now cube.now) }
+{
+    let mut assumed = literals_of_cube(alloc, &cone.rails, cube)?;
+    assumed.extend_from_slice(&[cone.inside, cone.allowed])?;
+    Ok(assumed)
+}
+
 /// The clauses of a cone, with a literal for each hint and each pair.
 fn asked_of(
     alloc: Global,
     net: &Netlist,
     care: &Care,
     scope: &Scope,
+    cube: &[Fixed],
     search: &PairSearch<'_>,
 ) -> Result<Asked, ClausesFault>
     requires care { IsCareOf net.now care.now }
@@ -119,12 +149,19 @@ fn asked_of(
     requires hints_within { All (λ hint. IsPairIn net.now scope.now hint.pair) search.now.hints.now }
     requires pairs { All (IsPairOf net.now) search.now.pairs.now }
     requires pairs_within { ArePairsIn net.now scope.now search.now.pairs.now }
-    ensures { IfOk result (TellPairs net.now care.now scope.now.gates search.now.pairs.now) }
+    requires cube { IsCubeOf net.now cube.now }
+    ensures { IfOk result (TellPairs net.now care.now scope.now.gates cube.now search.now.pairs.now) }
 {
     let mut cone = cone_of(alloc, net, care, scope)?;
     let hints = add_hints(alloc, &mut cone.formula, &cone.rails, search.hints)?;
     let pairs = add_pairs(alloc, &mut cone.formula, &cone.rails, search.pairs)?;
-    Ok(Asked { cone, hints, pairs })
+    let assumed = assumed_of(alloc, &cone, cube)?;
+    Ok(Asked {
+        cone,
+        assumed,
+        hints,
+        pairs,
+    })
 }
 
 /// Whether each place has a mark.
@@ -159,8 +196,8 @@ fn are_refuted_after(
     Ok(are_marked(&never))
 }
 
-/// Whether each of the pairs' literals is refuted with those of care: at once with few conflicts each, or behind the hints,
-/// with more and then with many. A model of one of them, found at once, ends it.
+/// Whether each of the pairs' literals is refuted with those of care: at once with few conflicts each, or behind the hints
+/// with more. A model of one of them, found at once, ends it.
 fn ask_pairs(
     alloc: Global,
     query: &mut Query,
@@ -178,13 +215,25 @@ fn ask_pairs(
     )? {
         return Ok(!possible);
     }
-    if are_refuted_after(alloc, query, literals, budget)? {
-        return Ok(true);
-    }
-    are_refuted_after(alloc, query, literals, budget.times(MORE))
+    are_refuted_after(alloc, query, literals, budget)
 }
 
-/// Whether each pair's literal is refuted.
+impl Asked {
+    /// Its literals.
+    fn literals(&self) -> Literals<'_>
+        ensures care { result.care.now ≡ self.now.assumed.items }
+        ensures hints { result.hints.now ≡ self.now.hints.items }
+        ensures pairs { result.pairs.now ≡ self.now.pairs.items }
+    {
+        Literals {
+            care: &self.assumed,
+            hints: &self.hints,
+            pairs: &self.pairs,
+        }
+    }
+}
+
+/// Whether each pair's literal is refuted, at once or behind the hints.
 fn ask_all(alloc: Global, asked: &Asked, budget: Budget) -> Result<bool, AllocError>
     requires askable { AreAskable asked.now }
     ensures { IfOk result (λ refuted. refuted ≡ true → AreRefuted asked.now) }
@@ -192,24 +241,45 @@ fn ask_all(alloc: Global, asked: &Asked, budget: Budget) -> Result<bool, AllocEr
     let Some(mut query) = query_of(alloc, &asked.cone.formula)? else {
         return Ok(false);
     };
-    let literals = Literals {
-        care: &[asked.cone.inside, asked.cone.allowed],
-        hints: &asked.hints,
-        pairs: &asked.pairs,
-    };
-    ask_pairs(alloc, &mut query, &literals, budget)
+    ask_pairs(alloc, &mut query, &asked.literals(), budget)
 }
 
-/// Whether at no care vector one wire of one of these pairs is 0 and its other wire 1. False says nothing of them, and comes
-/// too where their clauses are too many.
+/// Whether at no care vector that has the values of these columns one wire of one of these pairs is 0 and its other wire 1.
+/// False says nothing of them, and comes too where their clauses are too many.
 ///
 /// Each pair is asked for with few conflicts. Where no model has them apart, and the solver gave up on some, the hints are
-/// asked for one by one, with few conflicts each, and then the pairs with more; and where that is too few, both once again
-/// with twenty times as many. What the solver learns of each pair is there for the next, so hints do most where each stands
-/// behind those that feed its wires, from the inputs on (Kuehlmann and Krohm 1997).
+/// asked for one by one, with few conflicts each, and then the pairs with more. What the solver learns of each pair is there
+/// for the next, so hints do most where each stands behind those that feed its wires, from the inputs on (Kuehlmann and Krohm
+/// 1997).
 ///
-/// The condition is that the care set and the scope are the netlist's, and that each wire is an input, a latch or a gate in
-/// the scope.
+/// The condition is that the care set and the scope are the netlist's, that columns of it are fixed, and that each wire is
+/// an input, a latch or a gate in the scope.
+pub fn are_never_apart_in(
+    alloc: Global,
+    net: &Netlist,
+    care: &Care,
+    scope: &Scope,
+    cube: &[Fixed],
+    search: &PairSearch<'_>,
+) -> Result<bool, AllocError>
+    requires care { IsCareOf net.now care.now }
+    requires scope { IsScopeOf net.now scope.now }
+    requires hints { All (λ hint. IsPairOf net.now hint.pair) search.now.hints.now }
+    requires hints_within { All (λ hint. IsPairIn net.now scope.now hint.pair) search.now.hints.now }
+    requires pairs { All (IsPairOf net.now) search.now.pairs.now }
+    requires pairs_within { ArePairsIn net.now scope.now search.now.pairs.now }
+    requires cube { IsCubeOf net.now cube.now }
+    ensures { IfOk result (λ never. never ≡ true → AreNeverApartIn net.now care.now cube.now search.now.pairs.now) }
+{
+    match asked_of(alloc, net, care, scope, cube, search) {
+        Ok(asked) => ask_all(alloc, &asked, search.budget),
+        Err(ClausesFault::TooMany) => Ok(false),
+        Err(ClausesFault::Memory) => Err(AllocError),
+    }
+}
+
+/// The same at no care vector at all.
+#[tactic(auto, using(crate::proofs::ApartLemmas::nothing_fixed))]
 pub fn are_never_apart(
     alloc: Global,
     net: &Netlist,
@@ -225,9 +295,5 @@ pub fn are_never_apart(
     requires pairs_within { ArePairsIn net.now scope.now search.now.pairs.now }
     ensures { IfOk result (λ never. never ≡ true → AreNeverApart net.now care.now search.now.pairs.now) }
 {
-    match asked_of(alloc, net, care, scope, search) {
-        Ok(asked) => ask_all(alloc, &asked, search.budget),
-        Err(ClausesFault::TooMany) => Ok(false),
-        Err(ClausesFault::Memory) => Err(AllocError),
-    }
+    are_never_apart_in(alloc, net, care, scope, &[], search)
 }

@@ -25,13 +25,13 @@ mod simulating;
 mod sweeping;
 mod unknown;
 
-pub use apart::are_never_apart;
+pub use apart::{are_never_apart, are_never_apart_in};
 pub use care::is_possible;
 pub use clause_queries::{First, Found};
 pub use counting::{sweeps_fed_known, sweeps_needed};
 pub use initial::least_outside;
 pub use leaving::least_leaving;
-pub use pairs::{Budget, Hint, Pair, PairSearch};
+pub use pairs::{Budget, Fixed, Hint, Pair, PairSearch};
 pub use scope::Scope;
 pub use simulating::sweeps_at;
 pub use unknown::{each_unknown, first_unknown, least_unknown};

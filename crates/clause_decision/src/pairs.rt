@@ -25,12 +25,19 @@ pub struct Budget {
 
 impl Budget {
     /// So many times as many, or as many as there can be.
-    pub(crate) fn times(self, factor: u64) -> Budget {
+    pub fn times(self, factor: u64) -> Budget {
         Budget {
             few: self.few.saturating_mul(factor),
             many: self.many.saturating_mul(factor),
         }
     }
+}
+
+/// A column that has this value.
+#[derive(Clone, Copy, Debug, PartialEq, Eq)]
+pub struct Fixed {
+    pub column: u32,
+    pub value: bool,
 }
 
 /// Pairs that are asked for, with the help of hints.

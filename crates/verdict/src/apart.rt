@@ -40,8 +40,8 @@ fn whole_scope(alloc: Global, looped: &LoopedNetlist<'_>) -> Result<Scope, Alloc
 /// variable for each gate.
 ///
 /// The pairs are asked for in `few` conflicts of the budget each, and then, where that is too few, the hints, one by one in
-/// their order, and the pairs with `many`; and where one is still open, both once again with twenty times as many. Hints do
-/// most where each stands behind those whose wires feed its own; nothing is said of them.
+/// their order, and the pairs with `many`. Hints do most where each stands behind those whose wires feed its own; nothing is
+/// said of them.
 ///
 /// The condition is that the care set is the netlist's, and that the wires of each pair and each hint are.
 #[tactic(auto, using(crate::proofs::ApartLemmas::pairs_within, crate::proofs::ApartLemmas::hints_within))]

@@ -27,8 +27,10 @@ returns c =
     let mid = c.add_hints.new.formula in
     let new = c.add_pairs.new.formula in
     let pairs = c.in_ok-pairs.pairs in
-    pairs-told c.args.net.now c.args.care.now c.args.scope.now.gates cone.formula mid c.args.search.now.pairs.now
-    (record { cone = record { formula = c.add_pairs.new.formula; rails = c.in_ok-cone.cone.rails; inside = c.in_ok-cone.cone.inside; allowed = c.in_ok-cone.cone.allowed }; hints = c.in_ok-hints.hints; pairs = c.in_ok-pairs.pairs })
+    pairs-told c.args.net.now c.args.care.now c.args.scope.now.gates cone.formula mid c.args.cube.now c.args.search.now.pairs.now
+    (record { cone = record { formula = c.add_pairs.new.formula; rails = c.in_ok-cone.cone.rails; inside = c.in_ok-cone.cone.inside; allowed = c.in_ok-cone.cone.allowed }; assumed = c.in_ok-assumed.assumed; hints = c.in_ok-hints.hints; pairs = c.in_ok-pairs.pairs })
+    c.requires.cube
+    c.in_ok-assumed.ensures
     c.in_ok-cone.ensures
     c.in_ok-hints.ensures
     (subst (λ (rails : List Rails). SayPairs mid new rails c.args.search.now.pairs.now pairs.items) c.deref-2.ensures.value c.in_ok-pairs.ensures)
