@@ -8,6 +8,7 @@ pub mod MiterLemmas
 pub mod DifferenceLemmas
 pub mod CompareLemmas
 pub mod AlikeLemmas
+pub mod CaseLemmas
 pub mod PlacedLemmas
 pub mod ScopeLemmas
 pub mod ValidLemmas

@@ -137,7 +137,7 @@ fn marks_of_gates(alloc: Global, net: &Netlist, mark: bool) -> Result<Vec<bool>,
 /// The scope of all gates. It is said of none that it is known at each vector: unit clauses say so of those that no loop
 /// feeds.
 #[tactic(auto, using(crate::proofs::ScopeLemmas::all_close, crate::proofs::ScopeLemmas::none_known))]
-fn whole_scope(alloc: Global, net: &Netlist) -> Result<Scope, AllocError>
+pub(crate) fn whole_scope(alloc: Global, net: &Netlist) -> Result<Scope, AllocError>
     ensures scope { IfOk result (IsScopeOf net.now) }
     ensures all { IfOk result (λ scope. (n : ℕ) → n < length net.now.gates → is_marked scope.gates n ≡ true) }
 {

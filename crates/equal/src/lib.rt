@@ -9,6 +9,7 @@
 mod accepted;
 mod alike;
 mod answer;
+mod cases;
 mod comparing;
 mod fault;
 mod hints;
@@ -21,6 +22,7 @@ mod placing;
 mod prints;
 mod rebinding;
 mod standing;
+mod steering;
 mod words;
 
 pub use answer::Answer;

@@ -6,7 +6,7 @@ ghost use Rattle.netlist.specs.Netlists.{count};
 
 use crate::words::{Word, gate_word, word_at};
 use care_sets::Care;
-use clause_decision::Pair;
+use clause_decision::{Fixed, Pair};
 use loops::{Blocks, Cut, LoopedNetlist, find_blocks, find_cut, gates_at};
 use netlist::Netlist;
 use std::alloc::{AllocError, Global};
@@ -25,13 +25,28 @@ fn next_number(number: u64) -> u64 {
     next ^ (next << 17)
 }
 
-/// Vectors that look random, and all gates unknown.
-fn first_words(alloc: Global, net: &Netlist, number: &mut u64) -> Result<Vec<Word>, AllocError> {
+/// Fixes columns.
+fn fix_columns(cube: &[Fixed], words: &mut [Word]) {
+    for fixed in cube {
+        if let Some(word) = words.get_mut(fixed.column as usize) {
+            *word = Word::constant(fixed.value);
+        }
+    }
+}
+
+/// Vectors that look random but for what is fixed, and all gates unknown.
+fn first_words(
+    alloc: Global,
+    net: &Netlist,
+    cube: &[Fixed],
+    number: &mut u64,
+) -> Result<Vec<Word>, AllocError> {
     let mut words = Vec::with_capacity(alloc, net.count() as usize)?;
     for _ in 0..net.columns() {
         *number = next_number(*number);
         words.push(Word::known(*number))?;
     }
+    fix_columns(cube, &mut words);
     words.resize(net.count() as usize, Word::UNKNOWN)?;
     Ok(words)
 }
@@ -246,13 +261,14 @@ fn mix_vectors(
     alloc: Global,
     looped: &LoopedNetlist<'_>,
     care: &SimulatedCare<'_>,
+    cube: &[Fixed],
     pairs: &[Pair],
     number: &mut u64,
     prints: &mut [Print],
 ) -> Result<bool, AllocError>
     ensures { length prints.new ≡ length prints.old }
 {
-    let mut words = first_words(alloc, looped.net(), number)?;
+    let mut words = first_words(alloc, looped.net(), cube, number)?;
     settle(looped, &mut words);
     let vectors = care.allowed(alloc, &words)?;
     let taken = if vectors == 0 { u64::MAX } else { vectors };
@@ -265,6 +281,7 @@ fn fingerprints_on(
     alloc: Global,
     looped: &LoopedNetlist<'_>,
     care: &SimulatedCare<'_>,
+    cube: &[Fixed],
     pairs: &[Pair],
 ) -> Result<Option<Vec<Print>>, AllocError>
     ensures { IfOk result (λ found. IfSome found (λ prints. length prints.items ≡ count looped.now.net)) }
@@ -272,7 +289,7 @@ fn fingerprints_on(
     let mut prints = vec![in alloc; Print::START; looped.net().count() as usize]?;
     let mut number = SEED;
     for _ in 0..WORDS {
-        if mix_vectors(alloc, looped, care, pairs, &mut number, &mut prints)? {
+        if mix_vectors(alloc, looped, care, cube, pairs, &mut number, &mut prints)? {
             return Ok(None);
         }
     }
@@ -285,10 +302,11 @@ pub(crate) fn fingerprints(
     alloc: Global,
     looped: &LoopedNetlist<'_>,
     care: &Care,
+    cube: &[Fixed],
     pairs: &[Pair],
 ) -> Result<Option<Vec<Print>>, AllocError>
     ensures { IfOk result (λ found. IfSome found (λ prints. length prints.items ≡ count looped.now.net)) }
 {
     let models = SimulatedCare::new(alloc, care)?;
-    fingerprints_on(alloc, looped, &models, pairs)
+    fingerprints_on(alloc, looped, &models, cube, pairs)
 }

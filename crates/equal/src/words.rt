@@ -31,6 +31,11 @@ impl Word {
         Word { ones, zeros: !ones }
     }
 
+    /// This value at each vector.
+    pub fn constant(value: bool) -> Word {
+        if value { Word::ONE } else { Word::ZERO }
+    }
+
     /// Known at these vectors alone.
     pub fn within(self, vectors: u64) -> Word {
         Word {
