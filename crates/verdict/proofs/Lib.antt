@@ -25,4 +25,5 @@ mod SolutionLemmas
 mod SolvingLemmas
 mod StartLemmas
 mod VerdictLemmas
+pub mod WitnessLemmas
 pub mod WorkLemmas

@@ -1,7 +1,8 @@
 -- Many gates, piece by piece.
-use Rattle.std.proofs.Common.{◌≡◌, inl, inr, ℕ, ◌<◌, ◌≤◌, ◌+◌, ◌-◌, false, List, length, get_or, sym, ap, subst, ◌∙◌, arith}
-use Rattle.verdict.proofs.Common.{cases_lt, Parts, CareSet}
+use Rattle.std.proofs.Common.{◌≡◌, inl, inr, ℕ, ◌<◌, ◌≤◌, ◌+◌, ◌-◌, Bool, true, false, List, length, get_or, sym, ap, subst, ◌∙◌, arith}
+use Rattle.verdict.proofs.Common.{cases_lt, Parts, CareSet, is_unknown_at}
 use Rattle.clause_decision.specs.Tests.{is_unknown, IsFirstUnknown, TellsFirstUnknown}
+use Rattle.clause_decision.specs.Witnesses.{IsWitness}
 use Rattle.clause_queries.specs.declared.first.First.TheVariants as firsts
 use Rattle.verdict.specs.Pieces.{IsPieceAt, AreKnownBefore}
 
@@ -26,4 +27,11 @@ module _ (net : Parts) (care : CareSet) (gates piece : List ℕ) (start : ℕ) (
     within = let a = is.within in let b = first.within in omega (arith, a, b);
     unknown = ap (is_unknown net care) (sym (is.each place first.within)) ∙ first.unknown;
     before = known-up-to place (let b = first.within in omega (arith, b)) first.before;
+  }
+
+  pub witness-there : (vector : List Bool) (place : ℕ) → IsWitness net care piece vector place → IsWitness net care gates vector (start + place)
+  witness-there vector place witness = record {
+    within = let a = is.within in let b = witness.within in omega (arith, a, b);
+    width = witness.width;
+    unknown = subst (λ n. is_unknown_at net care n vector ≡ true) (is.each place witness.within) witness.unknown;
   }

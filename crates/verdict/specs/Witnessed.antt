@@ -1,24 +1,19 @@
 -- The judgement with any witness of an observed wire that is undetermined.
-use Rattle.std.specs.Prelude.{◌≡◌, ℕ, Bool, List, Contains, Some}
+use Rattle.std.specs.Prelude.{◌≡◌, Bool, List, Contains, Some}
 use Rattle.cyc_base.specs.declared.sig.Sig.{Sig}
 use Rattle.cyc_base.specs.declared.trit.Trit.TheVariants.{X}
 use Rattle.cyc_base.specs.Values.{bits}
 use Rattle.netlist.specs.declared.parts.Parts.{Parts}
 use Rattle.netlist.specs.Fixpoint.{fix, wire}
-use Rattle.netlist.specs.Netlists.{gate_sig}
 use Rattle.care_sets.specs.Care.{CareSet, IsCareVector}
 use Rattle.refusals.specs.Acceptance.{Accepts, observed}
 use Rattle.refusals.specs.Refusals.{refusal, IsAt}
 use Rattle.refusals.specs.declared.observe.Observe.{Observe}
 use Rattle.refusals.specs.declared.refusal.Refusal.{Refusal}
 use Rattle.refusals.specs.declared.refusal.Refusal.TheVariants.{Initial, EmptyCare, Undetermined, Leaves}
-use Rattle.verdict.specs.declared.clauses.Determinacy.{Determinacy}
-use Rattle.verdict.specs.declared.clauses.Determinacy.TheVariants as determinacies
 use Rattle.verdict.specs.declared.judgement.Judgement.{Judgement}
 use Rattle.verdict.specs.declared.judgement.Judgement.TheVariants as judgements
-use Rattle.verdict.specs.Loose.{IsLooseNumber}
 use Rattle.verdict.specs.Questions.{Asked}
-use Rattle.verdict.specs.Searches.{Searched}
 use Rattle.verdict.specs.Verdicts.{AreLoose}
 
 -- A netlist that is refused for an undetermined wire, the first at its least vector: here another observed wire, or the same
@@ -46,16 +41,3 @@ IsSomeJudgement net care what (judgements.Refused r) = IsSomeRefusal net care wh
 
 abbrev pub IsSomeJudgementOf : Asked → Judgement → Type 0
 IsSomeJudgementOf q judgement = IsSomeJudgement q.net q.care q.what judgement
-
--- no observed gate is unknown on care, and so many others are, or one refuses the netlist, or nothing is said
-abbrev pub IsSomeDeterminacy : Searched → Observe → Determinacy → Type 0
-IsSomeDeterminacy s what (determinacies.Determined loose) = IsLooseNumber s.net s.care what loose
-IsSomeDeterminacy s what (determinacies.Refused r) = IsSomeRefusal s.net s.care what r
-IsSomeDeterminacy s what determinacies.Undecided = Unit {0}
-
--- the refusal has this vector, and the wire of this gate
-abbrev pub IsUnknownGateAt : Parts → List Bool → ℕ → Refusal → Type 0
-IsUnknownGateAt net v n (Initial q) = ⊥
-IsUnknownGateAt net v n EmptyCare = ⊥
-IsUnknownGateAt net v n (Undetermined w s) = (w ≡ v) × (s ≡ gate_sig net n)
-IsUnknownGateAt net v n (Leaves w q) = ⊥

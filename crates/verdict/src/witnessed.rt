@@ -1,7 +1,7 @@
 //! The judgement with any witness: where an observed wire is undetermined on care, one that is, and a vector at which it is.
 //! Neither is the least, so one question finds both.
 
-ghost use Rattle.std.specs.Prelude.{◌≡◌, ◌<◌, ◌≤◌, ◌⊎◌, length, Err, IfOk, IfErr, IfSome};
+ghost use Rattle.std.specs.Prelude.{◌≡◌, ◌<◌, ◌≤◌, ◌⊎◌, true, length, Err, IfOk, IfErr, IfSome};
 ghost use Rattle.care_sets.specs.Binding.{IsCareOf};
 ghost use Rattle.care_sets.specs.Care.{columns};
 ghost use Rattle.clause_decision.specs.Tests.{is_unknown_at};
@@ -12,7 +12,8 @@ ghost use Rattle.verdict.specs.Enough.{IsBelowEnough, IsFullFor};
 ghost use Rattle.verdict.specs.Observed.{AreMarksOf};
 ghost use Rattle.verdict.specs.Questions.{AreSettledMarks};
 ghost use Rattle.verdict.specs.Scopes.{MayGoOn};
-ghost use Rattle.verdict.specs.Witnessed.{IsSomeDeterminacy, IsSomeJudgement, IsSomeJudgementOf, IsSomeRefusal, IsUnknownGateAt};
+ghost use Rattle.verdict.specs.Determinacy.{IsSomeDeterminacy, IsUnknownGateAt};
+ghost use Rattle.verdict.specs.Witnessed.{IsSomeJudgement, IsSomeJudgementOf, IsSomeRefusal};
 
 use crate::clauses::{
     Beginning, Determinacy, begin, determinacy_of_loose, gates_open, judge_by_invariance,
@@ -68,7 +69,8 @@ fn some_refusal(
     search.laws();
     let marks = asked_candidates(alloc, search, observed, u32::MAX)?;
     let gates = marked_places(alloc, &marks)?;
-    match &some_of(alloc, search, &gates)? {
+    let found = some_of(alloc, search, &gates)?;
+    match &found {
         Witness::Found { vector, place } => {
             Ok(Some(refusal_at(alloc, search.net(), vector, gates[*place])?))
         }
@@ -88,6 +90,7 @@ fn determinacy_of_others(
     requires observed { AreMarksOf search.now.net (observed_signals search.now.net observe) observed.now }
     ensures { IfOk result (IsSomeDeterminacy search.now observe) }
 {
+    search.laws();
     match some_refusal(alloc, search, observe, observed)? {
         Some(refusal) => Ok(Determinacy::Refused(refusal)),
         None => determinacy_of_loose(alloc, search, observe),
@@ -95,6 +98,7 @@ fn determinacy_of_others(
 }
 
 /// Whether the observed gates are determined where this gate is unknown at this care vector.
+#[tactic(auto, using(crate::proofs::WitnessLemmas::witness_refuses))]
 fn determinacy_with_unknown(
     alloc: Global,
     search: &Search<'_>,
@@ -128,7 +132,8 @@ fn some_determinacy(
 {
     search.laws();
     let gates = gates_open(alloc, search)?;
-    match &some_of(alloc, search, &gates)? {
+    let found = some_of(alloc, search, &gates)?;
+    match &found {
         Witness::Found { vector, place } => {
             determinacy_with_unknown(alloc, search, observe, vector, gates[*place])
         }
@@ -138,6 +143,7 @@ fn some_determinacy(
 }
 
 /// The judgement where neither the initial states nor the care set refuse the netlist, by searches.
+#[tactic(auto, using(crate::proofs::WitnessLemmas::exact_judgement))]
 fn some_judgement(
     alloc: Global,
     search: &Search<'_>,
@@ -155,6 +161,7 @@ fn some_judgement(
 }
 
 /// The judgement by clauses, where these marks are those of settled loops, or none where the solver gave up soon.
+#[tactic(auto, using(crate::proofs::WitnessLemmas::exact_refusal))]
 fn judge_soon(
     alloc: Global,
     question: &Question<'_>,
@@ -218,6 +225,7 @@ fn judge_early(
 }
 
 /// The same, and with the least witness where the solver gives up soon.
+#[tactic(auto, using(crate::proofs::WitnessLemmas::exact_judgement))]
 fn judge_question(
     alloc: Global,
     d: &mut Diagrams,

@@ -6,6 +6,6 @@ pub returns-in-Nowhere : goal.returns-in-Nowhere
 returns-in-Nowhere c =
     let s = c.args.search.now in
     let is = c.laws.ensures.is in
-    let none = rw c.in-Nowhere.is at c.requires.first in
+    let none = rw c.in-Nowhere.is at c.requires.found in
     let all = open-determine s.net is.net s.blocks is.blocks s.care s.settled is.settled (open-known s.net s.blocks s.care s.settled c.args.gates.now c.requires.gates none) in
     record { none = none-undetermined s.net s.care c.args.observe all; number = determination-loose s.net s.care all }

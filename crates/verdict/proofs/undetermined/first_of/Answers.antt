@@ -1,4 +1,3 @@
-use Rattle.std.proofs.Common.{length, arith}
 use Rattle.clause_decision.specs.Tests.{IsFirstUnknown, TellsFirstUnknown}
 use Rattle.clause_queries.specs.declared.first.First.TheVariants as firsts
 use Rattle.verdict.proofs.PieceLemmas.{first-there, known-more}
