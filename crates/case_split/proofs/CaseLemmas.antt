@@ -19,15 +19,16 @@ use Rattle.netlist.specs.declared.parts.Parts.{Parts}
 use Rattle.netlist.specs.Fixpoint.{wire, fix}
 use Rattle.netlist.specs.Netlists.{count, no_gate, signal}
 use Rattle.netlist.proofs.FixpointLemmas.{unknown_below_state}
+use Rattle.loops.specs.Cones.{is_marked}
 use Rattle.loops.specs.Sweeps.{first_gate}
 use Rattle.case_split.specs.declared.operands.Operand.{Operand}
 use Rattle.case_split.specs.declared.operands.Operand.TheVariants.{Wire}
 use Rattle.case_split.specs.Cases.{case_number}
 use Rattle.case_split.specs.Operands.{IsWithin}
 use Rattle.case_split.specs.Added.{AreNew, IsMore}
-use Rattle.case_split.specs.Sizes.{looped_gates}
+use Rattle.case_split.specs.Sizes.{copied_gates}
 use Rattle.case_split.specs.Tables.{operand_at, plain_of, ArePlain, IsPlain, IsMade, IsTable, AreStanding, AreCopySteps}
-use Rattle.case_split.specs.CaseTables.{is_copied, IsBelowCase, IsCaseTable, IsTableStep, IsEntry, AreTables, IsKnowing, ReadsCase}
+use Rattle.case_split.specs.CaseTables.{IsBelowCase, IsCaseTable, IsTableStep, IsEntry, AreTables, IsKnowing, ReadsCase}
 use Rattle.case_split.specs.Choices.{IsWithinAny}
 use Rattle.case_split.specs.Heads.{leaves_of, IsRoot, IsRootStep, AreRoots, IsHead, AreHeads}
 use Rattle.case_split.proofs.AddedLemmas.{agrees_before, all_within_more, more_length, more_none, more_trans, more_weaker}
@@ -84,15 +85,15 @@ knows_next net picked number j column given values value are h l at is = record 
 
 -- ---- the gates of loops
 
-pub looped_within : (net : Parts) → All (λ n. n < length net.gates) (looped_gates net)
-looped_within net =
-    All-from_recursion (λ n. n < length net.gates) (looped_gates net)
-    (all_filtered (λ n. n < length net.gates) (is_copied net) (range_with_len 0 (length net.gates))
+pub copied_within : (net : Parts) (marks : List Bool) → All (λ n. n < length net.gates) (copied_gates net marks)
+copied_within net marks =
+    All-from_recursion (λ n. n < length net.gates) (copied_gates net marks)
+    (all_filtered (λ n. n < length net.gates) (is_marked marks) (range_with_len 0 (length net.gates))
     (recursion_from_All (λ n. n < length net.gates) (range_with_len 0 (length net.gates))
     (λ i d l. let w = length-range_with_len 0 (length net.gates) in let e = get_or-range_with_len 0 (length net.gates) i d (omega arith) in omega arith)))
 
-pub looped_all : (net : Parts) (n : ℕ) → n < length net.gates → is_copied net n ≡ true → Contains (looped_gates net) n
-looped_all net n l e = Contains-filter (is_copied net) (range_with_len 0 (length net.gates)) n e (Contains-range (length net.gates) n l)
+pub copied_all : (net : Parts) (marks : List Bool) (n : ℕ) → n < length net.gates → is_marked marks n ≡ true → Contains (copied_gates net marks) n
+copied_all net marks n l e = Contains-filter (is_marked marks) (range_with_len 0 (length net.gates)) n e (Contains-range (length net.gates) n l)
 
 -- ---- a table before any gate is copied
 
@@ -117,30 +118,30 @@ plain_standing net values gates table h wide s l = inl (plain_by values (get_or 
 
 -- ---- one table
 
-pub table_made : (net : Parts) (given values : List Trit) (list order : List ℕ) (old new : List Gate) (before after : List Operand) → list ≡ looped_gates net → values ≡ fix net given → length values ≡ count net → ArePlain values before → IsPermutation list order → AreCopySteps net order old new before after →
-    IsTableStep net given old new after
-table_made net given values list order old new before after is ev wide plain permuted steps =
+pub table_made : (net : Parts) (marks : List Bool) (given values : List Trit) (list order : List ℕ) (old new : List Gate) (before after : List Operand) → list ≡ copied_gates net marks → values ≡ fix net given → length values ≡ count net → ArePlain values before → IsPermutation list order → AreCopySteps net order old new before after →
+    IsTableStep net marks given old new after
+table_made net marks given values list order old new before after is ev wide plain permuted steps =
     let stand = plain_standing net values old before plain wide in
     let all = steps.made values stand in
     record {
-      is = subst (λ (xs : List Trit). IsTable net (is_copied net) xs (count net) new after) ev (record {
+      is = subst (λ (xs : List Trit). IsTable net (is_marked marks) xs (count net) new after) ev (record {
         width = steps.width;
         each = steps.stand values stand;
         made = λ n l e. All-contains (IsMade net values (count net) new after) order n all
-            (Contains-permutation list order n permuted (subst (λ (xs : List ℕ). Contains xs n) (sym is) (looped_all net n l e)));
+            (Contains-permutation list order n permuted (subst (λ (xs : List ℕ). Contains xs n) (sym is) (copied_all net marks n l e)));
       });
       within = steps.within;
-      more = more_weaker old new (length order) (length (looped_gates net)) (let e = length_permutation list order permuted in let f = ap length is in omega arith) steps.more;
+      more = more_weaker old new (length order) (length (copied_gates net marks)) (let e = length_permutation list order permuted in let f = ap length is in omega arith) steps.more;
       are = steps.are;
     }
 
-pub case_table : (net : Parts) (picked : List ℕ) (number : ℕ) (given : List Trit) (old new : List Gate) (table : List Operand) → IsBelowCase net picked number given → IsTableStep net given old new table → IsCaseTable net picked number new table
-case_table net picked number given old new table below step = record { given = given; below = below; is = step.is; within = step.within }
+pub case_table : (net : Parts) (marks : List Bool) (picked : List ℕ) (number : ℕ) (given : List Trit) (old new : List Gate) (table : List Operand) → IsBelowCase net picked number given → IsTableStep net marks given old new table → IsCaseTable net marks picked number new table
+case_table net marks picked number given old new table below step = record { given = given; below = below; is = step.is; within = step.within }
 
 -- ---- all tables
 
-pub case_more : (net : Parts) (picked : List ℕ) (number : ℕ) (a b : List Gate) (m : ℕ) (table : List Operand) → IsMore a b m → IsCaseTable net picked number a table → IsCaseTable net picked number b table
-case_more net picked number a b m table h is = record {
+pub case_more : (net : Parts) (marks : List Bool) (picked : List ℕ) (number : ℕ) (a b : List Gate) (m : ℕ) (table : List Operand) → IsMore a b m → IsCaseTable net marks picked number a table → IsCaseTable net marks picked number b table
+case_more net marks picked number a b m table h is = record {
   given = is.given;
   below = is.below;
   is = record {
@@ -151,25 +152,25 @@ case_more net picked number a b m table h is = record {
   within = all_within_more (count net + length a) (count net + length b) table (let x = (more_length a b m h).0 in omega arith) is.within;
 }
 
-pub tables_next : (net : Parts) (picked : List ℕ) (allowed : List Bool) (n : ℕ) (old mid new : List Gate) (tables : List (List Operand)) (table : List Operand) → AreTables net picked allowed n old mid tables → IsEntry net picked allowed n mid new table → AreTables net picked allowed (n + 1) old new (tables ++ table ∷ [])
-tables_next net picked allowed n old mid new tables table h entry =
+pub tables_next : (net : Parts) (marks : List Bool) (picked : List ℕ) (allowed : List Bool) (n : ℕ) (old mid new : List Gate) (tables : List (List Operand)) (table : List Operand) → AreTables net marks picked allowed n old mid tables → IsEntry net marks picked allowed n mid new table → AreTables net marks picked allowed (n + 1) old new (tables ++ table ∷ [])
+tables_next net marks picked allowed n old mid new tables table h entry =
     let width = h.width in
     record {
       width = (let e = length-append tables (table ∷ []) in omega arith);
       each = λ i d l may. elim (cases_lt i n) [
         | inl before ↦
-            subst (IsCaseTable net picked i new) (sym (get_or_append_left tables (table ∷ []) d i (omega arith)))
-            (case_more net picked i mid new (length (looped_gates net)) (get_or tables i d) entry.more (h.each i d before may))
+            subst (IsCaseTable net marks picked i new) (sym (get_or_append_left tables (table ∷ []) d i (omega arith)))
+            (case_more net marks picked i mid new (length (copied_gates net marks)) (get_or tables i d) entry.more (h.each i d before may))
         | inr here ↦
             let same : i ≡ n = omega arith in
             let at : get_or (tables ++ table ∷ []) i d ≡ table = get_or-append_right tables (table ∷ []) n i d width here ∙ ap (λ k. get_or (table ∷ []) k d) (let z : i - n ≡ 0 = omega arith in z) in
-            subst (IsCaseTable net picked i new) (sym at) (subst (λ (k : ℕ). IsCaseTable net picked k new table) (sym same) (entry.is (ap (λ k. get_or allowed k false) (sym same) ∙ may)))
+            subst (IsCaseTable net marks picked i new) (sym at) (subst (λ (k : ℕ). IsCaseTable net marks picked k new table) (sym same) (entry.is (ap (λ k. get_or allowed k false) (sym same) ∙ may)))
       ];
       within = All-append (All (IsWithin (count net + length new))) tables (table ∷ [])
-          (λ i d k. all_within_more (count net + length mid) (count net + length new) (get_or tables i d) (let x = (more_length mid new (length (looped_gates net)) entry.more).0 in omega arith) (h.within i d k))
+          (λ i d k. all_within_more (count net + length mid) (count net + length new) (get_or tables i d) (let x = (more_length mid new (length (copied_gates net marks)) entry.more).0 in omega arith) (h.within i d k))
           (All-cons (All (IsWithin (count net + length new))) table [] entry.within (All-nil (All (IsWithin (count net + length new)))));
-      more = more_weaker old new (n * length (looped_gates net) + length (looped_gates net)) ((n + 1) * length (looped_gates net)) (omega arith)
-          (more_trans old mid new (n * length (looped_gates net)) (length (looped_gates net)) h.more entry.more);
+      more = more_weaker old new (n * length (copied_gates net marks) + length (copied_gates net marks)) ((n + 1) * length (copied_gates net marks)) (omega arith)
+          (more_trans old mid new (n * length (copied_gates net marks)) (length (copied_gates net marks)) h.more entry.more);
       are = entry.are;
     }
 
@@ -248,16 +249,16 @@ roots_next net picked tables list j n old mid new roots root h all l at step =
 
 -- ---- heads
 
-pub heads_next : (net : Parts) (roots : List (Option Operand)) (n : ℕ) (heads : List Gate) (head : Gate) → AreHeads net roots n heads → IsHead net (get_or roots n None) n head → AreHeads net roots (n + 1) (heads ++ head ∷ [])
-heads_next net roots n heads head h is =
+pub heads_next : (net : Parts) (marks : List Bool) (roots : List (Option Operand)) (n : ℕ) (heads : List Gate) (head : Gate) → AreHeads net marks roots n heads → IsHead net marks (get_or roots n None) n head → AreHeads net marks roots (n + 1) (heads ++ head ∷ [])
+heads_next net marks roots n heads head h is =
     let width = h.width in
     record {
       width = (let e = length-append heads (head ∷ []) in omega arith);
       each = λ i l. elim (cases_lt i n) [
-        | inl before ↦ subst (IsHead net (get_or roots i None) i) (sym (get_or_append_left heads (head ∷ []) no_gate i (omega arith))) (h.each i before)
+        | inl before ↦ subst (IsHead net marks (get_or roots i None) i) (sym (get_or_append_left heads (head ∷ []) no_gate i (omega arith))) (h.each i before)
         | inr here ↦
             let same : i ≡ n = omega arith in
             let at : get_or (heads ++ head ∷ []) i no_gate ≡ head = get_or-append_right heads (head ∷ []) n i no_gate width here ∙ ap (λ k. get_or (head ∷ []) k no_gate) (let z : i - n ≡ 0 = omega arith in z) in
-            subst (IsHead net (get_or roots i None) i) (sym at) (subst (λ (k : ℕ). IsHead net (get_or roots k None) k head) (sym same) is)
+            subst (IsHead net marks (get_or roots i None) i) (sym at) (subst (λ (k : ℕ). IsHead net marks (get_or roots k None) k head) (sym same) is)
       ];
     }

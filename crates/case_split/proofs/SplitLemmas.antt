@@ -4,7 +4,6 @@ use Rattle.std.proofs.Common.{cond}
 use Rattle.std.specs.Prelude.{if◌then◌else◌}
 use Rattle.std.specs.List.{AllByRecursion, filter, list_any, range_with_len}
 use Rattle.std.proofs.Math.Nat.{mul-le-mul}
-use Rattle.std.proofs.lemmas.List.FromFn.{length-range_with_len}
 unfoldable use Rattle.std.specs.List.{IsDistinct}
 use Rattle.std.specs.Option.{option_map_or}
 use Rattle.std.specs.Str.{bytes_eq}
@@ -32,6 +31,7 @@ use Rattle.netlist.specs.Fixpoint.{wire, fix}
 use Rattle.netlist.specs.Netlists.{count, driven_names, gate_at, gate_sig, is_driven, no_gate, signal, signal_names, IsClockName, IsNetlist, IsSignal}
 use Rattle.netlist.proofs.FixpointLemmas.{fix_is_monotone}
 use Rattle.netlist.proofs.NameLemmas.{length-signal_names}
+use Rattle.loops.specs.Cones.{is_marked}
 use Rattle.loops.specs.Sweeps.{first_gate}
 use Rattle.unroll.specs.Laws.{KeepsInterface, TellsAsMuchAt}
 use Rattle.unroll.specs.Marks.{clock_names, longest_run_in}
@@ -41,15 +41,15 @@ use Rattle.case_split.specs.declared.operands.Operand.TheVariants.{Wire}
 use Rattle.case_split.specs.Cases.{case_number, HaveValues, IsInCase}
 use Rattle.case_split.specs.Operands.{value_by}
 use Rattle.case_split.specs.Added.{AreNew, IsNewName}
-use Rattle.case_split.specs.Sizes.{looped_gates}
+use Rattle.case_split.specs.Sizes.{copied_gates}
 use Rattle.case_split.specs.Splits.{split_by, with_gates}
 use Rattle.case_split.specs.Tables.{operand_at}
-use Rattle.case_split.specs.CaseTables.{is_copied, IsCaseTable}
+use Rattle.case_split.specs.CaseTables.{IsCaseTable}
 use Rattle.case_split.specs.Choices.{HaveValuesBy, IsUnder, leaf_at}
 use Rattle.case_split.specs.Heads.{leaves_of, IsRoot, IsShown}
 use Rattle.case_split.specs.Made.{AreSplitParts, IsSplit, IsSplitNetlist}
 use Rattle.case_split.proofs.AddedLemmas.{more_length}
-use Rattle.case_split.proofs.CaseLemmas.{case_more, looped_all}
+use Rattle.case_split.proofs.CaseLemmas.{case_more, copied_all}
 use Rattle.case_split.proofs.LawLemmas.{now, now_column, now_head, agrees, tells_as_much}
 
 abbrev names_of : List Gate → List (List ℕ)
@@ -66,17 +66,6 @@ count_next p n =
     ap length (ap (λ (k : ℕ). filter p (range_with_len 0 k)) (let e : n + 1 ≡ suc n = omega arith in e) ∙ ap (filter p) (range-suc 0 n) ∙ filter-append p (range_with_len 0 n) ((0 + n) ∷ []))
     ∙ length-append (filter p (range_with_len 0 n)) (filter p ((0 + n) ∷ []))
     ∙ ap (λ (k : ℕ). length (filter p (range_with_len 0 n)) + k) (kept_length (p (0 + n)) (0 + n) ∙ ap (λ (k : ℕ). if p k then 1 else 0) (let e : 0 + n ≡ n = omega arith in e))
-
-pub looped_few : (net : Parts) → length (looped_gates net) ≤ length net.gates
-looped_few net = subst (λ (n : ℕ). length (looped_gates net) ≤ n) (length-range_with_len 0 (length net.gates)) (filter_few (is_copied net) (range_with_len 0 (length net.gates)))
-  where
-    kept_few : (b : Bool) (x : ℕ) (xs : List ℕ) → length (cond b (x ∷ xs) xs) ≤ suc (length xs)
-    kept_few true x xs = omega arith
-    kept_few false x xs = omega arith
-
-    filter_few : (p : ℕ → Bool) (xs : List ℕ) → length (filter p xs) ≤ length xs
-    filter_few p [] = omega arith
-    filter_few p (x ∷ xs) = (let h = kept_few (p x) x (filter p xs) in let t = filter_few p xs in omega arith)
 
 pub product_small : (c l : ℕ) → c ≤ 4096 → l ≤ 4294967295 → c * l ≤ 17592186040320
 product_small c l h k = (let e = mul-le-mul h k in omega (arith, e))
@@ -244,24 +233,24 @@ shown_root f operand (Some p) name head h is = Below-trans (value_by f operand) 
 sizes : (c l t a b : ℕ) → t ≡ c → a ≤ 0 + c * l → b ≤ a + l * t → b ≤ 2 * (c * l)
 sizes c l t a b e x y = (let z : l * t ≡ l * c = ap (λ n. l * n) e in omega (arith, z))
 
-module _ (net : Parts) (valid : IsNetlist net) (picked : List ℕ) (allowed : List Bool) (heads more : List Gate) (parts : AreSplitParts net picked allowed heads more) (columns : All (λ c. c < first_gate net) picked)
-    (inputs : length net.inputs ≤ 4000000000) (small : length net.gates + length net.latches + 2 * (length allowed * length (looped_gates net)) ≤ 4000000) where
-  few_more : length more ≤ 2 * (length allowed * length (looped_gates net))
+module _ (net : Parts) (valid : IsNetlist net) (marks : List Bool) (picked : List ℕ) (allowed : List Bool) (heads more : List Gate) (parts : AreSplitParts net marks picked allowed heads more) (columns : All (λ c. c < first_gate net) picked)
+    (inputs : length net.inputs ≤ 4000000000) (small : length net.gates + length net.latches + 2 * (length allowed * length (copied_gates net marks)) ≤ 4000000) where
+  few_more : length more ≤ 2 * (length allowed * length (copied_gates net marks))
   few_more =
-      sizes (length allowed) (length (looped_gates net)) (length parts.tables) (length parts.first) (length more) parts.are.width
-      (more_length [] parts.first (length allowed * length (looped_gates net)) parts.are.more).1
-      (more_length parts.first more (length (looped_gates net) * length parts.tables) parts.chosen.more).1
+      sizes (length allowed) (length (copied_gates net marks)) (length parts.tables) (length parts.first) (length more) parts.are.width
+      (more_length [] parts.first (length allowed * length (copied_gates net marks)) parts.are.more).1
+      (more_length parts.first more (length (copied_gates net marks) * length parts.tables) parts.chosen.more).1
 
   fits_more : count net + length more ≤ 4294967295
   fits_more = (let f = few_more in omega arith)
 
-  root_is : (n : ℕ) → n < length net.gates → is_copied net n ≡ true → IsRoot net picked parts.tables more n (get_or parts.roots n None)
-  root_is n l e = All-contains (λ m. IsRoot net picked parts.tables more m (get_or parts.roots m None)) (looped_gates net) n parts.chosen.each (looped_all net n l e)
+  root_is : (n : ℕ) → n < length net.gates → is_marked marks n ≡ true → IsRoot net picked parts.tables more n (get_or parts.roots n None)
+  root_is n l e = All-contains (λ m. IsRoot net picked parts.tables more m (get_or parts.roots m None)) (copied_gates net marks) n parts.chosen.each (copied_all net marks n l e)
 
   head_sound : (n : ℕ) → n < length net.gates → IsSound (count net + length more) (get_or heads n no_gate)
   head_sound n l =
       let head = parts.heads_are.each n l in
-      elim (cases_Bool (is_copied net n)) [
+      elim (cases_Bool (is_marked marks n)) [
         | inl e ↦ record { pins = (head.shown e).within (count net + length more) (root_is n l e).within; counted = (head.shown e).counted }
         | inr e ↦
             let same = head.kept e in
@@ -284,8 +273,8 @@ module _ (net : Parts) (valid : IsNetlist net) (picked : List ℕ) (allowed : Li
     abbrev table : List Operand
     table = get_or parts.tables number []
 
-    is_case : IsCaseTable net picked number more table
-    is_case = case_more net picked number parts.first more (length (looped_gates net) * length parts.tables) table parts.chosen.more (parts.are.each number [] inside here.may)
+    is_case : IsCaseTable net marks picked number more table
+    is_case = case_more net marks picked number parts.first more (length (copied_gates net marks) * length parts.tables) table parts.chosen.more (parts.are.each number [] inside here.may)
 
     known : (s : Sig) (b : Bool) → wire (fix net is_case.given) s ≡ bit b → wire (fix net v) s ≡ bit b
     known s b e =
@@ -302,7 +291,7 @@ module _ (net : Parts) (valid : IsNetlist net) (picked : List ℕ) (allowed : Li
     values_by : HaveValuesBy seen picked here.values
     values_by = have_by seen v picked here.values (first_gate net) (λ c l. now_column net valid heads more parts.heads_are.width v wide (signal c) l) columns here.are
 
-    chosen : (n : ℕ) → n < length net.gates → is_copied net n ≡ true → Below (value_by seen (operand_at table (gate_sig net n))) (seen (gate_sig net n))
+    chosen : (n : ℕ) → n < length net.gates → is_marked marks n ≡ true → Below (value_by seen (operand_at table (gate_sig net n))) (seen (gate_sig net n))
     chosen n l e =
         let head = parts.heads_are.each n l in
         subst (Below (value_by seen (operand_at table (gate_sig net n)))) (sym (now_head net valid heads more parts.heads_are.width v wide n l))
@@ -313,10 +302,10 @@ module _ (net : Parts) (valid : IsNetlist net) (picked : List ℕ) (allowed : Li
 
     tells : TellsAsMuchAt net (split_by net heads more) v
     tells =
-        tells_as_much net valid heads more parts.heads_are.width v wide (is_copied net) (fix net is_case.given) known table is_case.is
+        tells_as_much net valid heads more parts.heads_are.width v wide (is_marked marks) (fix net is_case.given) known table is_case.is
         (λ n l e. (parts.heads_are.each n l).kept e) chosen
 
-  pub made_is_split : IsSplitNetlist net picked allowed (split_by net heads more)
+  pub made_is_split : IsSplitNetlist net marks picked allowed (split_by net heads more)
   made_is_split = record {
     valid = new_is_netlist net valid heads more parts.heads_are.width fits_more parts.chosen.are (λ i l. (parts.heads_are.each i l).named) head_sound;
     interface = interface_kept net valid heads more parts.heads_are.width fits_more parts.chosen.are (λ i l. (parts.heads_are.each i l).named) head_sound;
@@ -324,8 +313,8 @@ module _ (net : Parts) (valid : IsNetlist net) (picked : List ℕ) (allowed : Li
     tells = tells;
   }
 
-pub split_is : (net : Parts) → IsNetlist net → (picked : List ℕ) (allowed : List Bool) (gates : List Gate) → IsSplit net picked allowed gates → All (λ c. c < first_gate net) picked → length net.inputs ≤ 4000000000 →
-    length net.gates + length net.latches + 2 * (length allowed * length (looped_gates net)) ≤ 4000000 → IsSplitNetlist net picked allowed (with_gates net gates)
-split_is net valid picked allowed gates h columns inputs small =
-    subst (λ (gs : List Gate). IsSplitNetlist net picked allowed (with_gates net gs)) (sym h.is)
-    (made_is_split net valid picked allowed h.heads h.more h.parts columns inputs small)
+pub split_is : (net : Parts) → IsNetlist net → (marks : List Bool) (picked : List ℕ) (allowed : List Bool) (gates : List Gate) → IsSplit net marks picked allowed gates → All (λ c. c < first_gate net) picked → length net.inputs ≤ 4000000000 →
+    length net.gates + length net.latches + 2 * (length allowed * length (copied_gates net marks)) ≤ 4000000 → IsSplitNetlist net marks picked allowed (with_gates net gates)
+split_is net valid marks picked allowed gates h columns inputs small =
+    subst (λ (gs : List Gate). IsSplitNetlist net marks picked allowed (with_gates net gs)) (sym h.is)
+    (made_is_split net valid marks picked allowed h.heads h.more h.parts columns inputs small)

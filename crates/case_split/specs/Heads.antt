@@ -12,7 +12,7 @@ use Rattle.case_split.specs.declared.operands.Operand.{Operand}
 use Rattle.case_split.specs.Cases.{case_number}
 use Rattle.case_split.specs.Operands.{value_by, Agrees}
 use Rattle.case_split.specs.Added.{AreNew, IsMore}
-use Rattle.case_split.specs.CaseTables.{is_copied}
+use Rattle.loops.specs.Cones.{is_marked}
 use Rattle.case_split.specs.Choices.{HaveValuesBy, IsUnder, IsWithinAny, leaf_at, row}
 use Rattle.case_split.specs.Splits.{SameGate}
 
@@ -54,11 +54,11 @@ pub record IsShown (name : List ℕ) (root : Option Operand) (head : Gate) : Typ
   pub within : (bound : ℕ) → IsWithinAny bound root → All (λ s. s.0 < bound) head.pins
 
 -- the head of a gate
-pub record IsHead (net : Parts) (root : Option Operand) (n : ℕ) (head : Gate) : Type 0 where
+pub record IsHead (net : Parts) (marks : List Bool) (root : Option Operand) (n : ℕ) (head : Gate) : Type 0 where
   pub named : head.name ≡ (gate_at net n).name
-  pub kept : is_copied net n ≡ false → SameGate head (gate_at net n)
-  pub shown : is_copied net n ≡ true → IsShown (gate_at net n).name root head
+  pub kept : is_marked marks n ≡ false → SameGate head (gate_at net n)
+  pub shown : is_marked marks n ≡ true → IsShown (gate_at net n).name root head
 
-pub record AreHeads (net : Parts) (roots : List (Option Operand)) (n : ℕ) (heads : List Gate) : Type 0 where
+pub record AreHeads (net : Parts) (marks : List Bool) (roots : List (Option Operand)) (n : ℕ) (heads : List Gate) : Type 0 where
   pub width : length heads ≡ n
-  pub each : (i : ℕ) → i < n → IsHead net (slice_index_or roots i None) i (slice_index_or heads i no_gate)
+  pub each : (i : ℕ) → i < n → IsHead net marks (slice_index_or roots i None) i (slice_index_or heads i no_gate)

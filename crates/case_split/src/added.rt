@@ -16,16 +16,23 @@ use netlist::{Gate, Netlist};
 use std::alloc::{AllocError, Global};
 use unroll::copy_name;
 
-/// A netlist, and the mark of new names.
+/// A netlist, the gates of it that are copied, and the mark of new names.
 pub(crate) struct Base<'a> {
     pub(crate) net: &'a Netlist,
+    /// A mark for each gate.
+    pub(crate) copied: &'a [bool],
     pub(crate) mark: Name,
     ghost marked: { mark ≡ mark_of net.now },
+    ghost width: { length copied.now ≡ length net.now.gates },
 }
 
 impl<'a> Drop for Base<'a> {
     fn drop(self) {
-        let Base { net: _, mark: _ } = self;
+        let Base {
+            net: _,
+            copied: _,
+            mark: _,
+        } = self;
     }
 }
 

@@ -7,7 +7,7 @@ ghost use Rattle.loops.specs.Sweeps.{first_gate};
 ghost use Rattle.ternary_run.specs.Reading.{IsFanoutOf};
 ghost use Rattle.case_split.specs.Added.{AreNew};
 ghost use Rattle.case_split.specs.CaseTables.{IsTableStep, IsEntry, AreTables};
-ghost use Rattle.case_split.specs.Sizes.{looped_gates};
+ghost use Rattle.case_split.specs.Sizes.{copied_gates};
 
 use crate::added::{Added, Base};
 use crate::cases::known_vector;
@@ -27,12 +27,12 @@ fn table_at(
     gates: &[u32],
     given: &[Trit],
 ) -> Result<Vec<Operand>, AllocError>
-    requires gates { gates.now ≡ looped_gates base.now.net.now }
+    requires gates { gates.now ≡ copied_gates base.now.net.now base.now.copied.now }
     requires room { count base.now.net.now + length added.old.gates.items + length gates.now ≤ 4294967295 }
     requires new { AreNew base.now.net.now added.old.gates.items }
     requires fanout { IsFanoutOf base.now.net.now fanout.now }
     requires width { length given.now ≡ first_gate base.now.net.now }
-    ensures { IfOk result (λ table. IsTableStep base.now.net.now given.now added.old.gates.items added.new.gates.items table.items) }
+    ensures { IfOk result (λ table. IsTableStep base.now.net.now base.now.copied.now given.now added.old.gates.items added.new.gates.items table.items) }
 {
     let values = fanout.settle(alloc, base.net, given)?;
     let mut table = plain_table(alloc, &values)?;
@@ -53,12 +53,12 @@ fn table_of(
     number: usize,
 ) -> Result<Vec<Operand>, AllocError>
     requires number { number < length allowed.now }
-    requires gates { gates.now ≡ looped_gates base.now.net.now }
+    requires gates { gates.now ≡ copied_gates base.now.net.now base.now.copied.now }
     requires room { count base.now.net.now + length added.old.gates.items + length gates.now ≤ 4294967295 }
     requires new { AreNew base.now.net.now added.old.gates.items }
     requires fanout { IsFanoutOf base.now.net.now fanout.now }
     requires picked { All (λ column. column < first_gate base.now.net.now) picked.now }
-    ensures { IfOk result (λ table. IsEntry base.now.net.now picked.now allowed.now number added.old.gates.items added.new.gates.items table.items) }
+    ensures { IfOk result (λ table. IsEntry base.now.net.now base.now.copied.now picked.now allowed.now number added.old.gates.items added.new.gates.items table.items) }
 {
     if !allowed[number] {
         return Ok(Vec::new(alloc));
@@ -77,11 +77,11 @@ pub(crate) fn tables_of(
     picked: &[u32],
     allowed: &[bool],
 ) -> Result<Vec<Vec<Operand>>, AllocError>
-    requires gates { gates.now ≡ looped_gates base.now.net.now }
+    requires gates { gates.now ≡ copied_gates base.now.net.now base.now.copied.now }
     requires room { count base.now.net.now + length added.old.gates.items + length allowed.now * length gates.now ≤ 4294967295 }
     requires new { AreNew base.now.net.now added.old.gates.items }
     requires picked { All (λ column. column < first_gate base.now.net.now) picked.now }
-    ensures { IfOk result (λ tables. AreTables base.now.net.now picked.now allowed.now (length allowed.now) added.old.gates.items added.new.gates.items (map vec_items tables.items)) }
+    ensures { IfOk result (λ tables. AreTables base.now.net.now base.now.copied.now picked.now allowed.now (length allowed.now) added.old.gates.items added.new.gates.items (map vec_items tables.items)) }
 {
     let fanout = Fanout::of(alloc, base.net)?;
     let mut tables = Vec::new(alloc);

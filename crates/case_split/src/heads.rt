@@ -15,7 +15,6 @@ use crate::choosing::choose;
 use crate::operands::Operand;
 use cover_logic::{Cover, Lit, Row};
 use cyc_base::{Items, Name, Sig};
-use loops::LoopedNetlist;
 use netlist::Gate;
 use std::alloc::{AllocError, Global};
 
@@ -175,16 +174,16 @@ fn copy_gate(alloc: Global, gate: &Gate) -> Result<Gate, AllocError>
 
 fn head_of(
     alloc: Global,
-    looped: &LoopedNetlist<'_>,
+    base: &Base<'_>,
     roots: &[Option<Operand>],
     gate: u32,
 ) -> Result<Gate, AllocError>
-    requires gate { gate < length looped.now.net.gates }
-    requires roots { length roots.now ≡ length looped.now.net.gates }
-    ensures { IfOk result (IsHead looped.now.net (slice_index_or roots.now gate None) gate) }
+    requires gate { gate < length base.now.net.now.gates }
+    requires roots { length roots.now ≡ length base.now.net.now.gates }
+    ensures { IfOk result (IsHead base.now.net.now base.now.copied.now (slice_index_or roots.now gate None) gate) }
 {
-    let own = looped.net().gate(gate);
-    if looped.are_in_one_loop(gate, gate) {
+    let own = base.net.gate(gate);
+    if base.copied[gate as usize] {
         shown(alloc, own.name.copy()?, roots[gate as usize])
     } else {
         copy_gate(alloc, own)
@@ -194,15 +193,15 @@ fn head_of(
 /// The heads of all gates.
 pub(crate) fn heads_of(
     alloc: Global,
-    looped: &LoopedNetlist<'_>,
+    base: &Base<'_>,
     roots: &[Option<Operand>],
 ) -> Result<Vec<Gate>, AllocError>
-    requires { length roots.now ≡ length looped.now.net.gates }
-    ensures { IfOk result (λ heads. AreHeads looped.now.net roots.now (length looped.now.net.gates) heads.items) }
+    requires { length roots.now ≡ length base.now.net.now.gates }
+    ensures { IfOk result (λ heads. AreHeads base.now.net.now base.now.copied.now roots.now (length base.now.net.now.gates) heads.items) }
 {
     let mut heads = Vec::new(alloc);
-    for gate in 0..looped.net().gates() {
-        heads.push(head_of(alloc, looped, roots, gate)?)?;
+    for gate in 0..base.net.gates() {
+        heads.push(head_of(alloc, base, roots, gate)?)?;
     }
     Ok(heads)
 }

@@ -13,6 +13,7 @@ mod choosing;
 mod cofactors;
 mod fault;
 mod heads;
+mod marking;
 mod nearness;
 mod operands;
 mod ordering;
@@ -23,5 +24,6 @@ mod trying;
 
 pub use cases::case_values;
 pub use fault::SplitFault;
+pub use marking::copied_marks;
 pub use picking::pick;
 pub use splitting::split;

@@ -1,15 +1,14 @@
 //! The columns by whose values loops vanish.
 
-ghost use Rattle.std.specs.Prelude.{◌≡◌, ◌*◌, ◌++◌, ◌<◌, ◌≤◌, true, [], ◌∷◌, length, All, IfOk, IfSome};
+ghost use Rattle.std.specs.Prelude.{◌≡◌, ◌+◌, ◌*◌, ◌++◌, ◌<◌, ◌≤◌, true, [], ◌∷◌, length, All, IfOk, IfSome};
 ghost use Rattle.loops.specs.Sweeps.{first_gate};
 ghost use Rattle.ternary_run.specs.Reading.{IsFanoutOf};
-ghost use Rattle.case_split.specs.Sizes.{looped_gates, most_items, IsPicked};
+ghost use Rattle.case_split.specs.Sizes.{IsPicked};
 
 use crate::nearness::near_columns;
-use crate::splitting::{looped_gates_of, size_of};
+use crate::splitting::{copied_count, copied_gates_of, size_of};
 use crate::trying::{LeftOver, left_by};
 use cyc_base::MAX_REWRITTEN_ITEMS;
-use loops::LoopedNetlist;
 use netlist::Netlist;
 use std::alloc::{AllocError, Global};
 use ternary_run::Fanout;
@@ -64,44 +63,45 @@ fn best_of(
     Ok(best)
 }
 
-/// Whether there may be twice as many cases.
-fn may_double(net: &Netlist, gates: u32, cases: usize, most: usize) -> bool
-    requires gates { gates ≡ length (looped_gates net.now) }
+/// Whether there may be twice as many cases, where so many gates are copied.
+fn may_double(net: &Netlist, count: u32, cases: usize, most: usize) -> bool
     requires most { most ≤ 4096 }
     ensures few { result ≡ true → 2 * cases ≤ most }
-    ensures small { result ≡ true → most_items net.now (2 * cases) ≤ 4000000 }
+    ensures small { result ≡ true → length net.now.gates + length net.now.latches + 2 * (2 * cases * count) ≤ 4000000 }
 {
     if cases > most / 2 {
         return false;
     }
-    size_of(net, gates, 2 * cases) <= u64::from(MAX_REWRITTEN_ITEMS)
+    size_of(net, count, 2 * cases) <= u64::from(MAX_REWRITTEN_ITEMS)
 }
 
 /// The columns of these that are picked, for these gates.
 fn pick_among(
     alloc: Global,
     net: &Netlist,
+    copied: &[bool],
     fanout: &Fanout,
     gates: &[u32],
     columns: &[u32],
     most: usize,
 ) -> Result<Vec<u32>, AllocError>
-    requires gates { gates.now ≡ looped_gates net.now }
+    requires copied { length copied.now ≡ length net.now.gates }
     requires within { All (λ n. n < length net.now.gates) gates.now }
     requires few { length gates.now ≤ 4000000 }
     requires fanout { IsFanoutOf net.now fanout.now }
     requires columns { All (λ column. column < first_gate net.now) columns.now }
     requires some { 1 ≤ most }
     requires most { most ≤ 4096 }
-    ensures { IfOk result (λ picked. IsPicked net.now most picked.items) }
+    ensures { IfOk result (λ picked. IsPicked net.now copied.now most picked.items) }
 {
+    let count = copied_count(net, copied);
     let mut picked = Vec::new(alloc);
     let mut tried = Vec::new(alloc);
     let mut cases = 1;
     let mut left = left_by(alloc, net, fanout, gates, &tried, 1)?;
     let mut least = left.gates;
     for _ in 0..12 {
-        if !may_double(net, gates.len() as u32, cases, most) {
+        if !may_double(net, count, cases, most) {
             break;
         }
         let Some(best) = best_of(alloc, net, fanout, gates, &tried, columns, 2 * cases, left)?
@@ -119,23 +119,30 @@ fn pick_among(
     Ok(picked)
 }
 
-/// Columns by whose values few gates are left in loops, with at most so many cases.
+/// Columns by whose values few gates are left in loops, with at most so many cases, where the marked gates are copied.
 ///
 /// Any columns are right for `split`. One column is picked after another, as long as less is left of the loops and
 /// the netlist can't become too large; those behind the last one that lessens the gates left in loops are dropped.
-/// Each time those 64 columns are tried that lie nearest upstream of the loops, each in at most eight of the cases: for
-/// each the netlist is settled once, and the components of the loops' gates are found.
-pub fn pick(alloc: Global, looped: &LoopedNetlist<'_>, most: u32) -> Result<Vec<u32>, AllocError>
+/// Each time those 64 columns are tried from which most ways lead into the loops, each in at most eight of the cases: for
+/// each the netlist is settled once, and the components of the marked gates are found.
+///
+/// The condition is that there is a mark for each gate, and from 1 to 4,096 cases.
+pub fn pick(
+    alloc: Global,
+    net: &Netlist,
+    copied: &[bool],
+    most: u32,
+) -> Result<Vec<u32>, AllocError>
+    requires copied { length copied.now ≡ length net.now.gates }
     requires some { 1 ≤ most }
     requires most { most ≤ 4096 }
-    ensures { IfOk result (λ picked. IsPicked looped.now.net most picked.items) }
+    ensures { IfOk result (λ picked. IsPicked net.now copied.now most picked.items) }
 {
-    let net = looped.net();
-    let gates = looped_gates_of(alloc, looped)?;
+    let gates = copied_gates_of(alloc, net, copied)?;
     if gates.len() > MAX_REWRITTEN_ITEMS as usize {
         return Ok(Vec::new(alloc));
     }
     let fanout = Fanout::of(alloc, net)?;
     let columns = near_columns(alloc, net, &gates)?;
-    pick_among(alloc, net, &fanout, &gates, &columns, most as usize)
+    pick_among(alloc, net, copied, &fanout, &gates, &columns, most as usize)
 }

@@ -3,11 +3,10 @@
 ghost use Rattle.std.specs.Prelude.{◌≡◌, ◌+◌, ◌*◌, ◌<◌, ◌≤◌, List, [], length, All, IfOk, IfErr, OnOk};
 ghost use Rattle.cyc_base.specs.declared.trit.Trit.{Trit};
 ghost use Rattle.netlist.specs.Netlists.{count, IsNetlist};
-ghost use Rattle.loops.specs.Looped.{IsLooped};
 ghost use Rattle.loops.specs.Sweeps.{first_gate};
 ghost use Rattle.unroll.specs.Laws.{KeepsInterface, TellsAsMuchAt};
 ghost use Rattle.case_split.specs.Cases.{IsInCase};
-ghost use Rattle.case_split.specs.Sizes.{looped_gates, most_items, IsSplitFault};
+ghost use Rattle.case_split.specs.Sizes.{copied_gates, most_items, IsSplitFault};
 ghost use Rattle.case_split.specs.Splits.{with_gates};
 ghost use Rattle.case_split.specs.Made.{AreSplitParts, IsSplit, IsSplitNetlist};
 
@@ -16,58 +15,59 @@ use crate::case_tables::tables_of;
 use crate::fault::SplitFault;
 use crate::heads::{heads_of, roots_of};
 use cyc_base::{Items, MAX_REWRITTEN_ITEMS};
-use loops::LoopedNetlist;
 use netlist::{Gate, Latch, Netlist, Parts, PartsFault};
 use std::alloc::{AllocError, Global};
 use unroll::{copy_clock, copy_inputs, mark};
 
-/// The gates of loops.
-pub(crate) fn looped_gates_of(
+/// The gates that are copied.
+pub(crate) fn copied_gates_of(
     alloc: Global,
-    looped: &LoopedNetlist<'_>,
+    net: &Netlist,
+    copied: &[bool],
 ) -> Result<Vec<u32>, AllocError>
-    ensures gates { IfOk result (λ gates. gates.items ≡ looped_gates looped.now.net) }
-    ensures looped { IsLooped looped.now }
+    requires { length copied.now ≡ length net.now.gates }
+    ensures { IfOk result (λ gates. gates.items ≡ copied_gates net.now copied.now) }
 {
-    (0..looped.net().gates())
-        .filter(|gate| looped.are_in_one_loop(*gate, *gate))
+    (0..net.gates())
+        .filter(|gate| copied[*gate as usize])
         .collect(alloc)
 }
 
-/// How many gates of loops there are.
+/// How many gates are copied.
 #[tactic(auto, using(crate::proofs::SplitLemmas::count_next))]
-fn looped_count(looped: &LoopedNetlist<'_>) -> u32
-    ensures count { result ≡ length (looped_gates looped.now.net) }
-    ensures looped { IsLooped looped.now }
+pub(crate) fn copied_count(net: &Netlist, copied: &[bool]) -> u32
+    requires { length copied.now ≡ length net.now.gates }
+    ensures count { result ≡ length (copied_gates net.now copied.now) }
+    ensures valid { IsNetlist net.now }
 {
     let mut count = 0;
-    for gate in 0..looped.net().gates() {
-        if looped.are_in_one_loop(gate, gate) {
+    for gate in 0..net.gates() {
+        if copied[gate as usize] {
             count += 1;
         }
     }
     count
 }
 
-/// How many gates and latches there may be.
-pub(crate) fn size_of(net: &Netlist, looped: u32, cases: usize) -> u64
-    requires looped { looped ≡ length (looped_gates net.now) }
+/// How many gates and latches there may be in so many cases, where so many gates are copied.
+pub(crate) fn size_of(net: &Netlist, count: u32, cases: usize) -> u64
     requires cases { cases ≤ 4096 }
-    ensures size { result ≡ most_items net.now cases }
+    ensures size { result ≡ length net.now.gates + length net.now.latches + 2 * (cases * count) }
     ensures valid { IsNetlist net.now }
 {
     let own = u64::from(net.gates()) + u64::from(net.latches());
-    own + 2 * (cases as u64 * u64::from(looped))
+    own + 2 * (cases as u64 * u64::from(count))
 }
 
 /// Refuses what may become too large.
-fn check_size(looped: &LoopedNetlist<'_>, cases: usize) -> Result<(), SplitFault>
+fn check_size(net: &Netlist, copied: &[bool], cases: usize) -> Result<(), SplitFault>
+    requires copied { length copied.now ≡ length net.now.gates }
     requires cases { cases ≤ 4096 }
-    ensures fault { IfErr result (IsSplitFault (most_items looped.now.net cases)) }
-    ensures small { OnOk result (most_items looped.now.net cases ≤ 4000000) }
-    ensures looped { IsLooped looped.now }
+    ensures fault { IfErr result (IsSplitFault (most_items net.now copied.now cases)) }
+    ensures small { OnOk result (most_items net.now copied.now cases ≤ 4000000) }
+    ensures valid { IsNetlist net.now }
 {
-    let size = size_of(looped.net(), looped_count(looped), cases);
+    let size = size_of(net, copied_count(net, copied), cases);
     if size > u64::from(MAX_REWRITTEN_ITEMS) {
         return Err(SplitFault::TooLarge { size });
     }
@@ -77,22 +77,18 @@ fn check_size(looped: &LoopedNetlist<'_>, cases: usize) -> Result<(), SplitFault
 /// The heads of all gates, and the copies behind them.
 fn split_gates(
     alloc: Global,
-    looped: &LoopedNetlist<'_>,
+    base: &Base<'_>,
     gates: &[u32],
     picked: &[u32],
     allowed: &[bool],
 ) -> Result<Vec<Gate>, AllocError>
-    requires gates { gates.now ≡ looped_gates looped.now.net }
-    requires picked { All (λ column. column < first_gate looped.now.net) picked.now }
-    requires fits { count looped.now.net + 2 * (length allowed.now * length gates.now) ≤ 4294967295 }
-    ensures { IfOk result (λ all. IsSplit looped.now.net picked.now allowed.now all.items) }
+    requires gates { gates.now ≡ copied_gates base.now.net.now base.now.copied.now }
+    requires picked { All (λ column. column < first_gate base.now.net.now) picked.now }
+    requires fits { count base.now.net.now + 2 * (length allowed.now * length gates.now) ≤ 4294967295 }
+    ensures { IfOk result (λ all. IsSplit base.now.net.now base.now.copied.now picked.now allowed.now all.items) }
 {
-    let base = Base {
-        net: looped.net(),
-        mark: mark(alloc, looped.net())?,
-    };
     let mut added = Added::new(alloc);
-    let mut all = split_heads(alloc, looped, &base, &mut added, gates, picked, allowed)?;
+    let mut all = split_heads(alloc, base, &mut added, gates, picked, allowed)?;
     all.append(&mut added.gates)?;
     Ok(all)
 }
@@ -100,23 +96,21 @@ fn split_gates(
 /// Adds all copies and selections, and answers the heads.
 fn split_heads(
     alloc: Global,
-    looped: &LoopedNetlist<'_>,
     base: &Base<'_>,
     added: &mut Added,
     gates: &[u32],
     picked: &[u32],
     allowed: &[bool],
 ) -> Result<Vec<Gate>, AllocError>
-    requires net { base.now.net.now ≡ looped.now.net }
     requires none { added.old.gates.items ≡ [] }
-    requires gates { gates.now ≡ looped_gates looped.now.net }
-    requires picked { All (λ column. column < first_gate looped.now.net) picked.now }
-    requires fits { count looped.now.net + 2 * (length allowed.now * length gates.now) ≤ 4294967295 }
-    ensures { IfOk result (λ heads. AreSplitParts looped.now.net picked.now allowed.now heads.items added.new.gates.items) }
+    requires gates { gates.now ≡ copied_gates base.now.net.now base.now.copied.now }
+    requires picked { All (λ column. column < first_gate base.now.net.now) picked.now }
+    requires fits { count base.now.net.now + 2 * (length allowed.now * length gates.now) ≤ 4294967295 }
+    ensures { IfOk result (λ heads. AreSplitParts base.now.net.now base.now.copied.now picked.now allowed.now heads.items added.new.gates.items) }
 {
     let tables = tables_of(alloc, base, added, gates, picked, allowed)?;
     let roots = roots_of(alloc, base, added, gates, picked, &tables)?;
-    let heads = heads_of(alloc, looped, &roots)?;
+    let heads = heads_of(alloc, base, &roots)?;
     Ok(heads)
 }
 
@@ -183,19 +177,25 @@ fn netlist_by(alloc: Global, net: &Netlist, gates: Vec<Gate>) -> Result<Netlist,
 /// The netlist split by cases, where it can't become too large.
 fn split_small(
     alloc: Global,
-    looped: &LoopedNetlist<'_>,
+    net: &Netlist,
+    copied: &[bool],
     picked: &[u32],
     allowed: &[bool],
 ) -> Result<Netlist, AllocError>
-    requires picked { All (λ column. column < first_gate looped.now.net) picked.now }
-    requires inputs { length looped.now.net.inputs ≤ 4000000000 }
-    requires small { most_items looped.now.net (length allowed.now) ≤ 4000000 }
-    ensures { IfOk result (IsSplitNetlist looped.now.net picked.now allowed.now) }
+    requires copied { length copied.now ≡ length net.now.gates }
+    requires picked { All (λ column. column < first_gate net.now) picked.now }
+    requires inputs { length net.now.inputs ≤ 4000000000 }
+    requires small { most_items net.now copied.now (length allowed.now) ≤ 4000000 }
+    ensures { IfOk result (IsSplitNetlist net.now copied.now picked.now allowed.now) }
 {
-    let net = looped.net();
     net.laws();
-    let gates = looped_gates_of(alloc, looped)?;
-    let all = split_gates(alloc, looped, &gates, picked, allowed)?;
+    let gates = copied_gates_of(alloc, net, copied)?;
+    let base = Base {
+        net,
+        copied,
+        mark: mark(alloc, net)?,
+    };
+    let all = split_gates(alloc, &base, &gates, picked, allowed)?;
     let other = netlist_by(alloc, net, all)?;
     Ok(other)
 }
@@ -203,33 +203,39 @@ fn split_small(
 /// The netlist split by cases of these columns.
 ///
 /// Case number k gives the picked columns the bits of k, the lowest one to the first. For each case that is allowed
-/// the gates of loops are copied, with what the case determines put in (ternary simulation of a vector that knows
-/// the picked columns alone), and equal copies are one. A gate of a loop becomes a selection by the picked columns among
-/// its copies. All signals keep their numbers, and the copies come behind them. A loop that a case leaves is left.
+/// the marked gates are copied, with what the case determines put in (ternary simulation of a vector that knows
+/// the picked columns alone), and equal copies are one. A marked gate becomes a selection by the picked columns among
+/// its copies. All signals keep their numbers, and the copies come behind them. Any marks are right; those of
+/// `copied_marks` are the gates of loops and the ones between them. A loop that a case leaves is left.
 ///
 /// At a vector of a case that is allowed the new netlist tells at least what the netlist does.
 ///
+/// The condition is that there is a mark for each gate, that the picked columns are the netlist's, and that there are at
+/// most 4,096 cases and 4,000,000,000 inputs.
+///
 /// # Errors
 ///
-/// `TooLarge` exactly where the netlist's gates and latches and twice as many gates as its loops have in all cases
-/// together are over 4,000,000; else `Memory` where memory runs out.
+/// `TooLarge` exactly where the netlist's gates and latches and two gates for each marked one in each case
+/// are over 4,000,000 together, with their number; else `Memory` where memory runs out.
 pub fn split(
     alloc: Global,
-    looped: &LoopedNetlist<'_>,
+    net: &Netlist,
+    copied: &[bool],
     picked: &[u32],
     allowed: &[bool],
 ) -> Result<Netlist, SplitFault>
-    requires picked { All (λ column. column < first_gate looped.now.net) picked.now }
+    requires copied { length copied.now ≡ length net.now.gates }
+    requires picked { All (λ column. column < first_gate net.now) picked.now }
     requires cases { length allowed.now ≤ 4096 }
-    requires inputs { length looped.now.net.inputs ≤ 4000000000 }
-    ensures fault { IfErr result (IsSplitFault (most_items looped.now.net (length allowed.now))) }
-    ensures small { OnOk result (most_items looped.now.net (length allowed.now) ≤ 4000000) }
-    ensures size { IfOk result (λ other. length other.gates + length other.latches ≤ most_items looped.now.net (length allowed.now)) }
+    requires inputs { length net.now.inputs ≤ 4000000000 }
+    ensures fault { IfErr result (IsSplitFault (most_items net.now copied.now (length allowed.now))) }
+    ensures small { OnOk result (most_items net.now copied.now (length allowed.now) ≤ 4000000) }
+    ensures size { IfOk result (λ other. length other.gates + length other.latches ≤ most_items net.now copied.now (length allowed.now)) }
     ensures valid { IfOk result IsNetlist }
-    ensures interface { IfOk result (KeepsInterface looped.now.net) }
-    ensures tells { IfOk result (λ other. (v : List Trit) → length v ≡ first_gate looped.now.net → IsInCase picked.now allowed.now v → TellsAsMuchAt looped.now.net other v) }
+    ensures interface { IfOk result (KeepsInterface net.now) }
+    ensures tells { IfOk result (λ other. (v : List Trit) → length v ≡ first_gate net.now → IsInCase picked.now allowed.now v → TellsAsMuchAt net.now other v) }
 {
-    check_size(looped, allowed.len())?;
-    let other = split_small(alloc, looped, picked, allowed)?;
+    check_size(net, copied, allowed.len())?;
+    let other = split_small(alloc, net, copied, picked, allowed)?;
     Ok(other)
 }

@@ -3,13 +3,13 @@ use Rattle.std.specs.List.Sorted.{IsPermutation}
 use Rattle.std.proofs.lemmas.List.Sorted.{All-permutation, length_permutation}
 use Rattle.netlist.specs.Netlists.{count}
 use Rattle.netlist.proofs.FixpointLemmas.{length-fix}
-use Rattle.case_split.proofs.CaseLemmas.{looped_within, plain_within, table_made}
+use Rattle.case_split.proofs.CaseLemmas.{copied_within, plain_within, table_made}
 use Rattle.case_split.proofs.case_tables.table_at.Goals as goal
 
 pub in_order-requires-clause-gates : goal.in_order-requires-clause-gates
 in_order-requires-clause-gates c =
     let net = c.args.base.now.net.now in
-    subst (All (λ (n : ℕ). n < length net.gates)) (sym c.requires.gates) (looped_within net)
+    subst (All (λ (n : ℕ). n < length net.gates)) (sym c.requires.gates) (copied_within net c.args.base.now.copied.now)
 
 pub in_order-requires-clause-table : goal.in_order-requires-clause-table
 in_order-requires-clause-table c =
@@ -20,7 +20,7 @@ copy_gates-requires-clause-gates c =
     let net = c.args.base.now.net.now in
     subst (All (λ (n : ℕ). n < length net.gates)) (sym c.deref-3.ensures.value)
     (All-permutation (λ (n : ℕ). n < length net.gates) c.args.gates.now c.in_ok-order.order.items c.in_ok-order.ensures
-    (subst (All (λ (n : ℕ). n < length net.gates)) (sym c.requires.gates) (looped_within net)))
+    (subst (All (λ (n : ℕ). n < length net.gates)) (sym c.requires.gates) (copied_within net c.args.base.now.copied.now)))
 
 pub copy_gates-requires-clause-room : goal.copy_gates-requires-clause-room
 copy_gates-requires-clause-room c =
@@ -42,7 +42,7 @@ copy_gates-requires-clause-within c =
 pub returns : goal.returns
 returns c =
     let net = c.args.base.now.net.now in
-    table_made net c.args.given.now c.deref.result.now c.args.gates.now c.deref-3.result.now c.args.added.now.gates.items c.copy_gates.new.added.gates.items c.in_ok-table.table.items c.copy_gates.new.table.items
+    table_made net c.args.base.now.copied.now c.args.given.now c.deref.result.now c.args.gates.now c.deref-3.result.now c.args.added.now.gates.items c.copy_gates.new.added.gates.items c.in_ok-table.table.items c.copy_gates.new.table.items
     c.requires.gates (c.deref.ensures.value ∙ c.in_ok-values.ensures) (ap length (c.deref.ensures.value ∙ c.in_ok-values.ensures) ∙ length-fix net c.args.given.now c.requires.width) c.in_ok-table.ensures
     (subst (IsPermutation c.args.gates.now) (sym c.deref-3.ensures.value) c.in_ok-order.ensures)
     c.in_ok-copy_gates.ensures

@@ -10,5 +10,5 @@ loop-number-preserved c =
       arith,
       c.in_ok-push.ensures.items,
       map-append,
-      tables_next c.args.base.now.net.now c.args.picked.now c.args.allowed.now c.loop-number.number c.args.added.now.gates.items c.loop-number.added.gates.items c.table_of.new.added.gates.items (map vec_items c.loop-number.tables.items) c.in_ok-table.table.items c.loop-number.invariant c.in_ok-table.ensures,
+      tables_next c.args.base.now.net.now c.args.base.now.copied.now c.args.picked.now c.args.allowed.now c.loop-number.number c.args.added.now.gates.items c.loop-number.added.gates.items c.table_of.new.added.gates.items (map vec_items c.loop-number.tables.items) c.in_ok-table.table.items c.loop-number.invariant c.in_ok-table.ensures,
     )
