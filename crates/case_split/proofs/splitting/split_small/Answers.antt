@@ -1,0 +1,13 @@
+use Rattle.std.proofs.Common.{sym, subst}
+use Rattle.case_split.specs.Made.{IsSplitNetlist}
+use Rattle.case_split.proofs.SplitLemmas.{split_is}
+use Rattle.case_split.proofs.splitting.split_small.Goals as goal
+
+pub netlist_by-requires : goal.netlist_by-requires
+netlist_by-requires c =
+    (split_is c.args.net.now c.laws.ensures.valid c.args.copied.now c.args.picked.now c.args.allowed.now c.in_ok-all.all.items c.in_ok-all.ensures c.requires.picked c.requires.inputs c.requires.small).valid
+
+pub returns : goal.returns
+returns c =
+    subst (IsSplitNetlist c.args.net.now c.args.copied.now c.args.picked.now c.args.allowed.now) (sym c.in_ok-other.ensures)
+    (split_is c.args.net.now c.laws.ensures.valid c.args.copied.now c.args.picked.now c.args.allowed.now c.in_ok-all.all.items c.in_ok-all.ensures c.requires.picked c.requires.inputs c.requires.small)

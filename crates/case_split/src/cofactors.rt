@@ -1,0 +1,187 @@
+//! A cover with known values put in.
+
+ghost use Rattle.std.specs.Prelude.{◌≡◌, length, map, IfOk, None, slice_index_or};
+ghost use Rattle.cover_logic.specs.Covers.{cover_of, first_fault};
+ghost use Rattle.cover_logic.specs.Partial.{may_allow, may_match};
+ghost use Rattle.case_split.specs.Cofactors.{live_rows as live_rows_of, is_literal as is_literal_of, is_asked as is_asked_in, left_at as left_at_pin, AreLeft, wires_of as wires_of_left, left_lits as left_lits_of, left_row, IsCofactor};
+
+use crate::operands::{Operand, known_values};
+use cover_logic::{Cover, Lit, Row};
+use cyc_base::{Items, Sig, Trit};
+use std::alloc::{AllocError, Global};
+
+/// What is left of a cover.
+#[derive(Drop)]
+pub(crate) enum Cofactor {
+    /// It is a constant, or one of its wires.
+    Folded(Operand),
+    /// A cover of these wires.
+    Left(Cover, Vec<Sig>),
+}
+
+fn is_allowed(lit: Lit, known: Trit) -> bool
+    ensures { result ≡ may_allow lit known }
+{
+    match (lit, known) {
+        (Lit::Zero, Trit::One) => false,
+        (Lit::One, Trit::Zero) => false,
+        _ => true,
+    }
+}
+
+fn is_live(lits: &[Lit], known: &[Trit]) -> bool
+    ensures { result ≡ may_match lits.now known.now }
+{
+    lits.iter()
+        .zip(known)
+        .all(|(lit, value)| is_allowed(*lit, *value))
+}
+
+fn copy_row(alloc: Global, row: &Row) -> Result<Row, AllocError>
+    ensures { IfOk result (λ copy. copy ≡ row.now) }
+{
+    let lits = row.lits.items().to_vec(alloc)?;
+    Ok(Row {
+        lits: Items::of(lits),
+    })
+}
+
+/// The rows that no known value contradicts.
+fn live_rows(alloc: Global, rows: &[Row], known: &[Trit]) -> Result<Vec<Row>, AllocError>
+    ensures { IfOk result (λ live. live.items ≡ live_rows_of rows.now known.now) }
+{
+    let mut live = Vec::new(alloc);
+    for row in rows {
+        if is_live(row.lits.items(), known) {
+            live.push(copy_row(alloc, row)?)?;
+        }
+    }
+    Ok(live)
+}
+
+fn is_literal(lits: &[Lit], pin: usize) -> bool
+    ensures { result ≡ is_literal_of (slice_index_or lits.now pin Lit.Any) }
+{
+    match lits.get(pin) {
+        Some(lit) => *lit != Lit::Any,
+        None => false,
+    }
+}
+
+fn is_asked(live: &[Row], pin: usize) -> bool
+    ensures { result ≡ is_asked_in live.now pin }
+{
+    live.iter().any(|row| is_literal(row.lits.items(), pin))
+}
+
+fn left_at(live: &[Row], pin: usize, operand: Operand) -> Option<Sig>
+    ensures { result ≡ left_at_pin live.now pin operand }
+{
+    match operand {
+        Operand::Constant(_) => None,
+        Operand::Wire(wire) => {
+            if is_asked(live, pin) {
+                Some(wire)
+            } else {
+                None
+            }
+        }
+    }
+}
+
+/// For each pin the wire that is left there.
+fn left_pins(
+    alloc: Global,
+    live: &[Row],
+    operands: &[Operand],
+) -> Result<Vec<Option<Sig>>, AllocError>
+    ensures { IfOk result (λ left. AreLeft live.now operands.now left.items) }
+{
+    let mut left = Vec::with_capacity(alloc, operands.len())?;
+    for (pin, operand) in operands.iter().enumerate() {
+        left.push(left_at(live, pin, *operand))?;
+    }
+    Ok(left)
+}
+
+fn wires_of(alloc: Global, left: &[Option<Sig>]) -> Result<Vec<Sig>, AllocError>
+    ensures { IfOk result (λ wires. wires.items ≡ wires_of_left left.now) }
+{
+    let mut wires = Vec::new(alloc);
+    for pin in left {
+        if let Some(wire) = pin {
+            wires.push(*wire)?;
+        }
+    }
+    Ok(wires)
+}
+
+fn left_lits(alloc: Global, lits: &[Lit], left: &[Option<Sig>]) -> Result<Vec<Lit>, AllocError>
+    ensures { IfOk result (λ rest. rest.items ≡ left_lits_of lits.now left.now) }
+{
+    lits.iter()
+        .zip(left)
+        .filter(|pin| pin.1.is_some())
+        .map(|pin| *pin.0)
+        .collect(alloc)
+}
+
+fn left_rows(alloc: Global, live: &[Row], left: &[Option<Sig>]) -> Result<Vec<Row>, AllocError>
+    ensures { IfOk result (λ rows. rows.items ≡ map (left_row left.now) live.now) }
+{
+    let mut rows = Vec::with_capacity(alloc, live.len())?;
+    for row in live {
+        let lits = Items::of(left_lits(alloc, row.lits.items(), left)?);
+        rows.push(Row { lits })?;
+    }
+    Ok(rows)
+}
+
+/// The wires that are left of a cover where these operands are on its pins.
+pub(crate) fn left_wires(
+    alloc: Global,
+    cover: &Cover,
+    operands: &[Operand],
+) -> Result<Vec<Sig>, AllocError> {
+    let known = known_values(alloc, operands)?;
+    let live = live_rows(alloc, cover.rows(), &known)?;
+    let left = left_pins(alloc, &live, operands)?;
+    wires_of(alloc, &left)
+}
+
+/// The cover of these parts.
+fn cover_by(pins: usize, plane: bool, rows: Vec<Row>) -> Cover
+    requires { first_fault pins rows.items ≡ None }
+    ensures { result ≡ cover_of pins plane rows.items }
+{
+    match Cover::new(pins, plane, rows) {
+        Ok(cover) => cover,
+        Err(_) => unreachable!(),
+    }
+}
+
+/// What is left of a cover where these operands are on its pins: rows that a constant contradicts go, and so do pins of
+/// which no row that is left asks anything.
+pub(crate) fn cofactor_of(
+    alloc: Global,
+    cover: &Cover,
+    operands: &[Operand],
+) -> Result<Cofactor, AllocError>
+    requires { length operands.now ≡ cover.now.pins }
+    ensures { IfOk result (IsCofactor cover.now operands.now) }
+{
+    let plane = cover.plane();
+    let known = known_values(alloc, operands)?;
+    let live = live_rows(alloc, cover.rows(), &known)?;
+    if live.is_empty() {
+        return Ok(Cofactor::Folded(Operand::Constant(!plane)));
+    }
+    let left = left_pins(alloc, &live, operands)?;
+    let wires = wires_of(alloc, &left)?;
+    if wires.is_empty() {
+        return Ok(Cofactor::Folded(Operand::Constant(plane)));
+    }
+    let rows = left_rows(alloc, &live, &left)?;
+    let rest = cover_by(wires.len(), plane, rows);
+    Ok(Cofactor::Left(rest, wires))
+}

@@ -1,0 +1,241 @@
+//! The netlist split by cases.
+
+ghost use Rattle.std.specs.Prelude.{◌≡◌, ◌+◌, ◌*◌, ◌<◌, ◌≤◌, List, [], length, All, IfOk, IfErr, OnOk};
+ghost use Rattle.cyc_base.specs.declared.trit.Trit.{Trit};
+ghost use Rattle.netlist.specs.Netlists.{count, IsNetlist};
+ghost use Rattle.loops.specs.Sweeps.{first_gate};
+ghost use Rattle.unroll.specs.Laws.{KeepsInterface, TellsAsMuchAt};
+ghost use Rattle.case_split.specs.Cases.{IsInCase};
+ghost use Rattle.case_split.specs.Sizes.{copied_gates, most_items, IsSplitFault};
+ghost use Rattle.case_split.specs.Splits.{with_gates};
+ghost use Rattle.case_split.specs.Made.{AreSplitParts, IsSplit, IsSplitNetlist};
+
+use crate::added::{Added, Base};
+use crate::case_tables::tables_of;
+use crate::fault::SplitFault;
+use crate::heads::{heads_of, roots_of};
+use cyc_base::{Items, MAX_REWRITTEN_ITEMS};
+use netlist::{Gate, Latch, Netlist, Parts, PartsFault};
+use std::alloc::{AllocError, Global};
+use unroll::{copy_clock, copy_inputs, mark};
+
+/// The gates that are copied.
+pub(crate) fn copied_gates_of(
+    alloc: Global,
+    net: &Netlist,
+    copied: &[bool],
+) -> Result<Vec<u32>, AllocError>
+    requires { length copied.now ≡ length net.now.gates }
+    ensures { IfOk result (λ gates. gates.items ≡ copied_gates net.now copied.now) }
+{
+    (0..net.gates())
+        .filter(|gate| copied[*gate as usize])
+        .collect(alloc)
+}
+
+/// How many gates are copied.
+#[tactic(auto, using(crate::proofs::SplitLemmas::count_next))]
+pub(crate) fn copied_count(net: &Netlist, copied: &[bool]) -> u32
+    requires { length copied.now ≡ length net.now.gates }
+    ensures count { result ≡ length (copied_gates net.now copied.now) }
+    ensures valid { IsNetlist net.now }
+{
+    let mut count = 0;
+    for gate in 0..net.gates() {
+        if copied[gate as usize] {
+            count += 1;
+        }
+    }
+    count
+}
+
+/// How many gates and latches there may be in so many cases, where so many gates are copied.
+pub(crate) fn size_of(net: &Netlist, count: u32, cases: usize) -> u64
+    requires cases { cases ≤ 4096 }
+    ensures size { result ≡ length net.now.gates + length net.now.latches + 2 * (cases * count) }
+    ensures valid { IsNetlist net.now }
+{
+    let own = u64::from(net.gates()) + u64::from(net.latches());
+    own + 2 * (cases as u64 * u64::from(count))
+}
+
+/// Refuses what may become too large.
+fn check_size(net: &Netlist, copied: &[bool], cases: usize) -> Result<(), SplitFault>
+    requires copied { length copied.now ≡ length net.now.gates }
+    requires cases { cases ≤ 4096 }
+    ensures fault { IfErr result (IsSplitFault (most_items net.now copied.now cases)) }
+    ensures small { OnOk result (most_items net.now copied.now cases ≤ 4000000) }
+    ensures valid { IsNetlist net.now }
+{
+    let size = size_of(net, copied_count(net, copied), cases);
+    if size > u64::from(MAX_REWRITTEN_ITEMS) {
+        return Err(SplitFault::TooLarge { size });
+    }
+    Ok(())
+}
+
+/// The heads of all gates, and the copies behind them.
+fn split_gates(
+    alloc: Global,
+    base: &Base<'_>,
+    gates: &[u32],
+    picked: &[u32],
+    allowed: &[bool],
+) -> Result<Vec<Gate>, AllocError>
+    requires gates { gates.now ≡ copied_gates base.now.net.now base.now.copied.now }
+    requires picked { All (λ column. column < first_gate base.now.net.now) picked.now }
+    requires fits { count base.now.net.now + 2 * (length allowed.now * length gates.now) ≤ 4294967295 }
+    ensures { IfOk result (λ all. IsSplit base.now.net.now base.now.copied.now picked.now allowed.now all.items) }
+{
+    let mut added = Added::new(alloc);
+    let mut all = split_heads(alloc, base, &mut added, gates, picked, allowed)?;
+    all.append(&mut added.gates)?;
+    Ok(all)
+}
+
+/// Adds all copies and selections, and answers the heads.
+fn split_heads(
+    alloc: Global,
+    base: &Base<'_>,
+    added: &mut Added,
+    gates: &[u32],
+    picked: &[u32],
+    allowed: &[bool],
+) -> Result<Vec<Gate>, AllocError>
+    requires none { added.old.gates.items ≡ [] }
+    requires gates { gates.now ≡ copied_gates base.now.net.now base.now.copied.now }
+    requires picked { All (λ column. column < first_gate base.now.net.now) picked.now }
+    requires fits { count base.now.net.now + 2 * (length allowed.now * length gates.now) ≤ 4294967295 }
+    ensures { IfOk result (λ heads. AreSplitParts base.now.net.now base.now.copied.now picked.now allowed.now heads.items added.new.gates.items) }
+{
+    let tables = tables_of(alloc, base, added, gates, picked, allowed)?;
+    let roots = roots_of(alloc, base, added, gates, picked, &tables)?;
+    let heads = heads_of(alloc, base, &roots)?;
+    Ok(heads)
+}
+
+/// An equal latch.
+fn copy_latch(latch: &Latch) -> Result<Latch, AllocError>
+    ensures { IfOk result (λ copy. copy ≡ latch.now) }
+{
+    Ok(Latch {
+        name: latch.name.copy()?,
+        from: latch.from,
+        init: latch.init,
+        clocked: latch.clocked,
+    })
+}
+
+fn copy_latches(alloc: Global, net: &Netlist) -> Result<Vec<Latch>, AllocError>
+    ensures { IfOk result (λ latches. latches.items ≡ net.now.latches) }
+{
+    let mut latches = Vec::with_capacity(alloc, net.latches() as usize)?;
+    for number in 0..net.latches() {
+        latches.push(copy_latch(net.latch(number))?)?;
+    }
+    Ok(latches)
+}
+
+/// The parts of a netlist with other gates.
+fn parts_with(alloc: Global, net: &Netlist, gates: Vec<Gate>) -> Result<Parts, AllocError>
+    ensures { IfOk result (λ parts. parts ≡ with_gates net.now gates.items) }
+{
+    let name = net.name().copy()?;
+    let clock = copy_clock(net)?;
+    let inputs = Items::of(copy_inputs(alloc, net)?);
+    let latches = Items::of(copy_latches(alloc, net)?);
+    let outputs = Items::of(net.outputs().to_vec(alloc)?);
+    Ok(Parts {
+        name,
+        inputs,
+        clock,
+        latches,
+        gates: Items::of(gates),
+        outputs,
+    })
+}
+
+/// The parts of the netlist that is split are refused for want of memory alone.
+fn want_of_memory(_fault: PartsFault) -> AllocError
+    requires { _fault ≡ PartsFault.Memory }
+{
+    AllocError
+}
+
+/// The netlist of these gates.
+fn netlist_by(alloc: Global, net: &Netlist, gates: Vec<Gate>) -> Result<Netlist, AllocError>
+    requires { IsNetlist (with_gates net.now gates.items) }
+    ensures { IfOk result (λ other. other ≡ with_gates net.now gates.items) }
+{
+    let parts = parts_with(alloc, net, gates)?;
+    match Netlist::new(alloc, parts) {
+        Ok(other) => Ok(other),
+        Err(fault) => Err(want_of_memory(fault)),
+    }
+}
+
+/// The netlist split by cases, where it can't become too large.
+fn split_small(
+    alloc: Global,
+    net: &Netlist,
+    copied: &[bool],
+    picked: &[u32],
+    allowed: &[bool],
+) -> Result<Netlist, AllocError>
+    requires copied { length copied.now ≡ length net.now.gates }
+    requires picked { All (λ column. column < first_gate net.now) picked.now }
+    requires inputs { length net.now.inputs ≤ 4000000000 }
+    requires small { most_items net.now copied.now (length allowed.now) ≤ 4000000 }
+    ensures { IfOk result (IsSplitNetlist net.now copied.now picked.now allowed.now) }
+{
+    net.laws();
+    let gates = copied_gates_of(alloc, net, copied)?;
+    let base = Base {
+        net,
+        copied,
+        mark: mark(alloc, net)?,
+    };
+    let all = split_gates(alloc, &base, &gates, picked, allowed)?;
+    let other = netlist_by(alloc, net, all)?;
+    Ok(other)
+}
+
+/// The netlist split by cases of these columns.
+///
+/// Case number k gives the picked columns the bits of k, the lowest one to the first. For each case that is allowed
+/// the marked gates are copied, with what the case determines put in (ternary simulation of a vector that knows
+/// the picked columns alone), and equal copies are one. A marked gate becomes a selection by the picked columns among
+/// its copies. All signals keep their numbers, and the copies come behind them. Any marks are right; those of
+/// `copied_marks` are the gates of loops and the ones between them. A loop that a case leaves is left.
+///
+/// At a vector of a case that is allowed the new netlist tells at least what the netlist does.
+///
+/// The condition is that there is a mark for each gate, that the picked columns are the netlist's, and that there are at
+/// most 4,096 cases and 4,000,000,000 inputs.
+///
+/// # Errors
+///
+/// `TooLarge` exactly where the netlist's gates and latches and two gates for each marked one in each case
+/// are over 4,000,000 together, with their number; else `Memory` where memory runs out.
+pub fn split(
+    alloc: Global,
+    net: &Netlist,
+    copied: &[bool],
+    picked: &[u32],
+    allowed: &[bool],
+) -> Result<Netlist, SplitFault>
+    requires copied { length copied.now ≡ length net.now.gates }
+    requires picked { All (λ column. column < first_gate net.now) picked.now }
+    requires cases { length allowed.now ≤ 4096 }
+    requires inputs { length net.now.inputs ≤ 4000000000 }
+    ensures fault { IfErr result (IsSplitFault (most_items net.now copied.now (length allowed.now))) }
+    ensures small { OnOk result (most_items net.now copied.now (length allowed.now) ≤ 4000000) }
+    ensures size { IfOk result (λ other. length other.gates + length other.latches ≤ most_items net.now copied.now (length allowed.now)) }
+    ensures valid { IfOk result IsNetlist }
+    ensures interface { IfOk result (KeepsInterface net.now) }
+    ensures tells { IfOk result (λ other. (v : List Trit) → length v ≡ first_gate net.now → IsInCase picked.now allowed.now v → TellsAsMuchAt net.now other v) }
+{
+    check_size(net, copied, allowed.len())?;
+    let other = split_small(alloc, net, copied, picked, allowed)?;
+    Ok(other)
+}

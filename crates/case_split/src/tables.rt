@@ -1,0 +1,103 @@
+//! What stands for each signal in a case, and the copies of gates.
+
+ghost use Rattle.std.specs.Prelude.{◌≡◌, ◌+◌, ◌<◌, ◌≤◌, length, map, All, IfOk, OnOk};
+ghost use Rattle.netlist.specs.Netlists.{count};
+ghost use Rattle.case_split.specs.Added.{AreNew};
+ghost use Rattle.case_split.specs.Operands.{IsWithin};
+ghost use Rattle.case_split.specs.Tables.{operand_at, plain_of, ArePlain, IsCopyStep, AreCopySteps};
+
+use crate::added::{Added, Base};
+use crate::operands::Operand;
+use cyc_base::{Sig, Trit};
+use std::alloc::{AllocError, Global};
+
+/// What stands for a signal of this value: a constant where it is known, else itself.
+fn plain(value: Trit, signal: Sig) -> Operand
+    ensures { result ≡ plain_of value signal }
+{
+    match value {
+        Trit::Zero => Operand::Constant(false),
+        Trit::One => Operand::Constant(true),
+        Trit::X => Operand::Wire(signal),
+    }
+}
+
+/// What stands for each signal before any gate is copied.
+pub(crate) fn plain_table(alloc: Global, values: &[Trit]) -> Result<Vec<Operand>, AllocError>
+    requires { length values.now ≤ 4294967295 }
+    ensures { IfOk result (λ table. ArePlain values.now table.items) }
+{
+    let mut table = Vec::with_capacity(alloc, values.len())?;
+    for (number, value) in values.iter().enumerate() {
+        table.push(plain(*value, Sig(number as u32)))?;
+    }
+    Ok(table)
+}
+
+pub(crate) fn operand_of(table: &[Operand], signal: Sig) -> Operand
+    requires { signal.0 < length table.now }
+    ensures { result ≡ operand_at table.now signal }
+{
+    table[signal.0 as usize]
+}
+
+pub(crate) fn operands_of(
+    alloc: Global,
+    table: &[Operand],
+    signals: &[Sig],
+) -> Result<Vec<Operand>, AllocError>
+    requires { All (λ signal. signal.0 < length table.now) signals.now }
+    ensures { IfOk result (λ operands. operands.items ≡ map (operand_at table.now) signals.now) }
+{
+    signals
+        .iter()
+        .map(|signal| operand_of(table, *signal))
+        .collect(alloc)
+}
+
+/// Copies a gate, unless something stands for it already.
+fn copy_gate(
+    alloc: Global,
+    base: &Base<'_>,
+    added: &mut Added,
+    table: &mut Vec<Operand>,
+    gate: u32,
+) -> Result<(), AllocError>
+    requires gate { gate < length base.now.net.now.gates }
+    requires room { count base.now.net.now + length added.old.gates.items < 4294967295 }
+    requires new { AreNew base.now.net.now added.old.gates.items }
+    requires width { length table.old.items ≡ count base.now.net.now }
+    requires within { All (IsWithin (count base.now.net.now + length added.old.gates.items)) table.old.items }
+    ensures { OnOk result (IsCopyStep base.now.net.now gate added.old.gates.items added.new.gates.items table.old.items table.new.items) }
+{
+    let signal = base.net.gate_sig(gate);
+    if operand_of(table, signal) != Operand::Wire(signal) {
+        return Ok(());
+    }
+    let own = base.net.gate(gate);
+    let operands = operands_of(alloc, table, own.pins.items())?;
+    let operand = added.add(alloc, base, &own.name, &own.cover, &operands)?;
+    table[signal.0 as usize] = operand;
+    Ok(())
+}
+
+/// Copies these gates, one after another. A pin whose gate isn't copied yet reads the netlist's own gate.
+pub(crate) fn copy_gates(
+    alloc: Global,
+    base: &Base<'_>,
+    added: &mut Added,
+    table: &mut Vec<Operand>,
+    gates: &[u32],
+) -> Result<(), AllocError>
+    requires gates { All (λ n. n < length base.now.net.now.gates) gates.now }
+    requires room { count base.now.net.now + length added.old.gates.items + length gates.now ≤ 4294967295 }
+    requires new { AreNew base.now.net.now added.old.gates.items }
+    requires width { length table.old.items ≡ count base.now.net.now }
+    requires within { All (IsWithin (count base.now.net.now + length added.old.gates.items)) table.old.items }
+    ensures { OnOk result (AreCopySteps base.now.net.now gates.now added.old.gates.items added.new.gates.items table.old.items table.new.items) }
+{
+    for gate in gates {
+        copy_gate(alloc, base, added, table, *gate)?;
+    }
+    Ok(())
+}
