@@ -11,7 +11,6 @@ use Rattle.cyc_base.specs.declared.trit.Trit.TheVariants.{X}
 use Rattle.cyc_base.specs.Values.{bits}
 use Rattle.netlist.specs.declared.parts.Parts.{Parts}
 use Rattle.netlist.specs.Fixpoint.{fix, wire}
-use Rattle.netlist.specs.Netlists.{IsNetlist}
 use Rattle.care_sets.specs.Binding.{IsCareOf}
 use Rattle.care_sets.specs.Care.{CareSet, holds_at, is_in_invariant, state_of, IsCareVector}
 use Rattle.care_sets.specs.declared.model.CareModel.{CareModel}
@@ -19,15 +18,15 @@ use Rattle.refusals.specs.Acceptance.{Accepts, observed}
 use Rattle.refusals.specs.Refusals.{refusal, IsAt}
 use Rattle.refusals.specs.declared.observe.Observe.{Observe}
 use Rattle.refusals.specs.declared.refusal.Refusal.{Refusal}
-use Rattle.refusals.specs.declared.refusal.Refusal.TheVariants.{EmptyCare, Undetermined}
-use Rattle.refusals.proofs.LawLemmas.{refusal_is_shown, undetermined_is_observed}
+use Rattle.refusals.specs.declared.refusal.Refusal.TheVariants.{Initial, EmptyCare, Undetermined, Leaves}
 use Rattle.care_rows.specs.Rows.{IsIn, IsInNone, IsSteadySignal, AreSteadyRows}
 use Rattle.care_rows.specs.declared.rows.Row.{Row}
 use Rattle.care_rows.specs.declared.rows.WireValue.{WireValue}
 use Rattle.care_rows.specs.Restricted.{IsModelSize, IsRestrictFault}
 use Rattle.care_rows.specs.declared.fault.RestrictFault.TheVariants as fault
-use Rattle.assumptions.specs.Assumptions.{IsOpenRow, HasNewVector, AreFound, IsStrengthened, IsAccepted, IsAssumeModel, IsWeakest, IsRefusedBeside, IsTooLarge}
-use Rattle.assumptions.specs.Making.{Excludes, IsNextRow, HasOneMore}
+use Rattle.assumptions.specs.Assumptions.{IsOpenRow, HasNewVector, AreFound, IsStrengthened, IsAccepted, IsAssumeModel, IsWeakest, IsRefused, IsRefusedBeside, HasManyRows, IsTooLarge, IsUndetermined as IsForUndetermined}
+use Rattle.verdict.specs.Witnessed.{IsSomeRefusal}
+use Rattle.assumptions.specs.Making.{Excludes, IsNextRow, IsShownBeside, HasOneMore}
 
 pub found_none : (net : Parts) (care : CareSet) (what : Observe) → AreFound net care what []
 found_none net care what = record { each = All-nil (IsOpenRow net what); new = λ k d l. absurd (omega arith) }
@@ -95,15 +94,41 @@ counted net care what rows stronger v h counts =
     let both = (h.lets v counts.width).0 counts.allowed in
     (record { width = counts.width; state = sym (same_states stronger care (state_of net v) h.invariant) ∙ counts.state; allowed = both.0 }, both.1)
 
-pub open_at : (net : Parts) (care : CareSet) (what : Observe) (rows : List Row) (v : List Bool) (s : Sig) → IsNetlist net → IsRefusedBeside net care what rows (Undetermined v s) → IsOpenAt net care what rows v s
-open_at net care what rows v s valid h =
-    let shown = refusal_is_shown net h.stronger what (Undetermined v s) valid h.refused in
-    let proves = shown.1 (λ e. not_empty e) in
-    let counts = counted net care what rows h.stronger v h.strengthened proves.counts in
-    record { at = shown.0; unknown = proves.unknown; among = undetermined_is_observed net h.stronger what v s h.refused; counts = counts.0; beyond = counts.1 }
+pub open_at : (net : Parts) (care : CareSet) (what : Observe) (rows : List Row) (v : List Bool) (s : Sig) → IsShownBeside net care what rows (Undetermined v s) → IsOpenAt net care what rows v s
+open_at net care what rows v s h =
+    let counts = counted net care what rows h.stronger v h.strengthened h.refused.counts in
+    record { at = h.refused.at; unknown = h.refused.unknown; among = h.refused.among; counts = counts.0; beyond = counts.1 }
+
+-- ---- refusals of the definition
+
+-- one that isn't for an undetermined wire is that of the definition
+refused_beside : (net : Parts) (care : CareSet) (what : Observe) (rows : List Row) (r : Refusal) → IsShownBeside net care what rows r → ¬ IsForUndetermined r → IsRefusedBeside net care what rows r
+refused_beside net care what rows r h other = record { stronger = h.stronger; strengthened = h.strengthened; refused = exact r h.refused other }
   where
-    not_empty : Undetermined v s ≢ EmptyCare
-    not_empty e = cc
+    exact : (r : Refusal) → IsSomeRefusal net h.stronger what r → ¬ IsForUndetermined r → refusal net h.stronger what ≡ Some r
+    exact (Initial q) is other = is
+    exact EmptyCare is other = is
+    exact (Undetermined v s) is other = absurd (other tt)
+    exact (Leaves v q) is other = is
+
+pub refused_rest : (net : Parts) (care : CareSet) (what : Observe) (rows : List Row) (r : Refusal) → length rows ≤ 4096 → IsShownBeside net care what rows r → ¬ IsForUndetermined r → IsRefused net care what r
+refused_rest net care what rows r few h other = record { rows = rows; few = few; refused = refused_beside net care what rows r h other; other = other }
+
+-- beside any witness there is that of the definition
+pub many_rows_by : (net : Parts) (care : CareSet) (what : Observe) (rows : List Row) (r : Refusal) → length rows ≡ 4096 → IsShownBeside net care what rows r → IsForUndetermined r → HasManyRows net care what
+many_rows_by net care what rows r many h is = by r h.refused is
+  where
+    by : (r : Refusal) → IsSomeRefusal net h.stronger what r → IsForUndetermined r → HasManyRows net care what
+    by (Initial q) shown is = absurd is
+    by EmptyCare shown is = absurd is
+    by (Undetermined v s) shown is = record {
+      rows = rows;
+      many = many;
+      refusal_left = Undetermined shown.least shown.first;
+      refused = record { stronger = h.stronger; strengthened = h.strengthened; refused = shown.refused };
+      open_left = tt;
+    }
+    by (Leaves v q) shown is = absurd is
 
 pub next_row : (net : Parts) (care : CareSet) (what : Observe) (rows : List Row) (v : List Bool) (s : Sig) (row : Row) → IsOpenAt net care what rows v s → IsOpenRow net what row → IsIn net v row → IsNextRow net care what rows row
 next_row net care what rows v s row at opens inside = record { opens = opens; new = record { vector = v; counts = at.counts; inside = inside; beyond = at.beyond } }
@@ -114,10 +139,10 @@ one_more net care what rows row few found next =
     record { found = found_more net care what rows row found next; more = omega arith; few = omega arith }
 
 -- a row, by what is told of a call that makes it
-module _ (net m : Parts) (care : CareSet) (what : Observe) (rows : List Row) (r : Refusal) (v w : List Bool) (s : Sig) (valid : IsNetlist m) (same : m ≡ net) (items : w ≡ v)
-    (is : r ≡ Undetermined v s) (h : IsRefusedBeside net care what rows r) where
+module _ (net m : Parts) (care : CareSet) (what : Observe) (rows : List Row) (r : Refusal) (v w : List Bool) (s : Sig) (same : m ≡ net) (items : w ≡ v)
+    (is : r ≡ Undetermined v s) (h : IsShownBeside net care what rows r) where
   open_there : IsOpenAt net care what rows v s
-  open_there = open_at net care what rows v s (subst IsNetlist same valid) (subst (IsRefusedBeside net care what rows) is h)
+  open_there = open_at net care what rows v s (subst (IsShownBeside net care what rows) is h)
 
   moved : (P : Parts → List Bool → Type 0) → P net v → P m w
   moved P p = subst (λ (n : Parts). P n w) (sym same) (subst (λ (u : List Bool). P net u) (sym items) p)
@@ -145,12 +170,12 @@ module _ (net m : Parts) (care : CareSet) (what : Observe) (rows : List Row) (r 
 pub stands_by : (net : Parts) (care : CareSet) (what : Observe) → Accepts net care what → (is_some care.assume ≡ true) ⊎ (is_some care.invariant ≡ true) → IsAccepted net care what
 stands_by net care what accepted some = record { accepted = accepted; some = some }
 
-pub refused_by : (net : Parts) (care : CareSet) (what : Observe) (rows : List Row) (stronger : CareSet) (r : Refusal) → AreFound net care what rows → Excludes net care rows stronger → refusal net stronger what ≡ Some r →
-    IsRefusedBeside net care what rows r
-refused_by net care what rows stronger r found excludes refused = record { stronger = stronger; strengthened = strengthened_by net care what rows stronger found excludes; refused = refused }
+pub shown_by : (net : Parts) (care : CareSet) (what : Observe) (rows : List Row) (stronger : CareSet) (r : Refusal) → AreFound net care what rows → Excludes net care rows stronger → IsSomeRefusal net stronger what r →
+    IsShownBeside net care what rows r
+shown_by net care what rows stronger r found excludes refused = record { stronger = stronger; strengthened = strengthened_by net care what rows stronger found excludes; refused = refused }
 
-pub refused_without : (net : Parts) (care : CareSet) (what : Observe) (rows : List Row) (r : Refusal) → IsCareOf net care → rows ≡ [] → refusal net care what ≡ Some r → IsRefusedBeside net care what rows r
-refused_without net care what rows r is none refused =
+pub shown_without : (net : Parts) (care : CareSet) (what : Observe) (rows : List Row) (r : Refusal) → IsCareOf net care → rows ≡ [] → IsSomeRefusal net care what r → IsShownBeside net care what rows r
+shown_without net care what rows r is none refused =
     record { stronger = care; strengthened = subst (λ (rs : List Row). IsStrengthened net care what rs care) (sym none) (strengthened_by_none net care what is); refused = refused }
 
 pub found_at_first : (net : Parts) (care : CareSet) (what : Observe) (rows : List Row) → rows ≡ [] → AreFound net care what rows

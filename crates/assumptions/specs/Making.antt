@@ -18,7 +18,11 @@ use Rattle.refusals.specs.declared.observe.Observe.TheVariants as observe
 use Rattle.care_rows.specs.Rows.{IsInNone}
 use Rattle.care_rows.specs.declared.rows.Row.{Row}
 use Rattle.care_rows.specs.declared.rows.WireValue.{WireValue}
-use Rattle.assumptions.specs.Assumptions.{AreFound, IsAssumeModel, IsOpenRow, HasNewVector}
+use Rattle.loops.specs.Looped.{Looped}
+use Rattle.refusals.specs.declared.refusal.Refusal.{Refusal}
+use Rattle.verdict.specs.Determination.{SettleInOneSweep}
+use Rattle.verdict.specs.Witnessed.{IsSomeRefusal}
+use Rattle.assumptions.specs.Assumptions.{AreFound, IsAssumeModel, IsOpenRow, HasNewVector, IsStrengthened}
 
 abbrev pub wire_value : ℕ → Bool → WireValue
 wire_value n value = record { wire = signal n; value = value }
@@ -92,3 +96,14 @@ pub record HasOneMore (net : Parts) (care : CareSet) (what : Observe) (old new :
   pub found : AreFound net care what new
   pub more : length new ≡ length old + 1
   pub few : length new ≤ 4096
+
+-- a mark for each block: loops with one are settled by themselves in one sweep
+pub record AreSettled (l : Looped) (settled : List Bool) : Type 0 where
+  pub width : length settled ≡ length l.blocks.list
+  pub settle : SettleInOneSweep l.net l.blocks settled
+
+-- the netlist is refused where some rows are excluded, and where a wire is undetermined this may be any such wire and vector
+pub record IsShownBeside (net : Parts) (care : CareSet) (what : Observe) (rows : List Row) (r : Refusal) : Type 0 where
+  pub stronger : CareSet
+  pub strengthened : IsStrengthened net care what rows stronger
+  pub refused : IsSomeRefusal net stronger what r

@@ -5,10 +5,10 @@ ghost use Rattle.care_sets.specs.Binding.{IsCareOf};
 ghost use Rattle.care_rows.specs.Rows.{AreSteadyMarks};
 ghost use Rattle.verdict.specs.Causes.{IsOutOfNodes};
 ghost use Rattle.verdict.specs.Enough.{IsBelowEnough};
-ghost use Rattle.verdict.specs.Verdicts.{IsJudgement};
-ghost use Rattle.assumptions.specs.Assumptions.{AreFound, IsAssumption, IsRefusedBeside, IsUndetermined as IsForUndetermined};
+ghost use Rattle.verdict.specs.Witnessed.{IsSomeJudgement};
+ghost use Rattle.assumptions.specs.Assumptions.{AreFound, IsAssumption, IsUndetermined as IsForUndetermined};
 ghost use Rattle.assumptions.specs.Limits.{RunsOutOfNodes};
-ghost use Rattle.assumptions.specs.Making.{Excludes, HasOneMore, IsNextRow};
+ghost use Rattle.assumptions.specs.Making.{AreSettled, Excludes, HasOneMore, IsNextRow, IsShownBeside};
 
 use crate::assumption::Assumption;
 use crate::implied::shortened;
@@ -21,13 +21,16 @@ use cyc_base::MAX_NODES;
 use loops::LoopedNetlist;
 use refusals::{Observe, Refusal};
 use std::alloc::{AllocError, Global};
-use verdict::{DecideFault, Judgement, judge};
+use verdict::{DecideFault, Judgement, LOOP_NODES, judge, judge_with_witness, settled_loops};
 
 /// How many rows are excluded at most.
 pub const MAX_ROWS: usize = 4_096;
 
 /// How many rows a person may read.
 const READ_ROWS: usize = 64;
+
+/// How many rows come from least vectors.
+const LEAST_ROWS: usize = 4;
 
 /// What is to be made harmless.
 #[derive(Drop)]
@@ -36,6 +39,8 @@ struct Task<'a> {
     care: &'a Care,
     /// Marks of the signals that no loop takes part in.
     steady: &'a [bool],
+    /// Marks of the loops that are settled by themselves, whatever the care set.
+    settled: &'a [bool],
     limit: u32,
     observe: Observe,
 }
@@ -63,12 +68,11 @@ fn next_row(
     refusal: &Refusal,
 ) -> Result<Row, AllocError>
     requires steady { AreSteadyMarks task.now.looped.now.net task.now.steady.now }
-    requires refused { IsRefusedBeside task.now.looped.now.net task.now.care.now task.now.observe rows.now refusal.now }
+    requires refused { IsShownBeside task.now.looped.now.net task.now.care.now task.now.observe rows.now refusal.now }
     requires undetermined { IsForUndetermined refusal.now }
     ensures { IfOk result (IsNextRow task.now.looped.now.net task.now.care.now task.now.observe rows.now) }
 {
     let net = task.looped.net();
-    net.laws();
     match refusal {
         Refusal::Undetermined { vector, wire } => row_at(
             alloc,
@@ -90,7 +94,7 @@ fn short_row(
     refusal: &Refusal,
 ) -> Result<Row, AllocError>
     requires steady { AreSteadyMarks task.now.looped.now.net task.now.steady.now }
-    requires refused { IsRefusedBeside task.now.looped.now.net task.now.care.now task.now.observe rows.now refusal.now }
+    requires refused { IsShownBeside task.now.looped.now.net task.now.care.now task.now.observe rows.now refusal.now }
     requires undetermined { IsForUndetermined refusal.now }
     ensures { IfOk result (IsNextRow task.now.looped.now.net task.now.care.now task.now.observe rows.now) }
 {
@@ -103,6 +107,7 @@ fn short_row(
 }
 
 /// What follows from a refusal with these rows excluded: one more row, where an observed wire is undetermined.
+#[tactic(auto, using(crate::proofs::FoundLemmas::refused_rest, crate::proofs::FoundLemmas::many_rows_by))]
 fn go_on(
     alloc: Global,
     task: &Task<'_>,
@@ -112,7 +117,7 @@ fn go_on(
     requires steady { AreSteadyMarks task.now.looped.now.net task.now.steady.now }
     requires rows { AreFound task.now.looped.now.net task.now.care.now task.now.observe rows.old.items }
     requires few { length rows.old.items ≤ 4096 }
-    requires refused { IsRefusedBeside task.now.looped.now.net task.now.care.now task.now.observe rows.old.items refusal }
+    requires refused { IsShownBeside task.now.looped.now.net task.now.care.now task.now.observe rows.old.items refusal }
     ensures found { IfOk result (λ found. IfSome found (IsAssumption task.now.looped.now.net task.now.care.now task.now.observe)) }
     ensures grown { IfOk result (λ found. IfNone found (HasOneMore task.now.looped.now.net task.now.care.now task.now.observe rows.old.items rows.new.items)) }
 {
@@ -137,7 +142,7 @@ fn go_on_from(
     requires steady { AreSteadyMarks task.now.looped.now.net task.now.steady.now }
     requires rows { AreFound task.now.looped.now.net task.now.care.now task.now.observe rows.old.items }
     requires few { length rows.old.items ≤ 4096 }
-    requires refused { IsRefusedBeside task.now.looped.now.net task.now.care.now task.now.observe rows.old.items refusal }
+    requires refused { IsShownBeside task.now.looped.now.net task.now.care.now task.now.observe rows.old.items refusal }
     ensures found { IfOk result (λ found. IfSome found (IsAssumption task.now.looped.now.net task.now.care.now task.now.observe)) }
     ensures grown { IfOk result (λ found. IfNone found (HasOneMore task.now.looped.now.net task.now.care.now task.now.observe rows.old.items rows.new.items)) }
     ensures fault { IfErr result (λ fault. fault ≡ DecideFault.Memory) }
@@ -148,34 +153,51 @@ fn go_on_from(
     }
 }
 
-/// The judgement on a care set.
+/// The judgement on a care set that has so many rows excluded. The first rows, which a person reads most, come from least vectors,
+/// and each further one from any.
+#[tactic(auto, using(verdict::proofs::WitnessLemmas::exact_judgement))]
 fn judged(
     alloc: Global,
     d: &mut Diagrams,
     task: &Task<'_>,
     care: &Care,
+    rows: usize,
 ) -> Result<Judgement, DecideFault>
+    requires settled { AreSettled task.now.looped.now task.now.settled.now }
     requires care { IsCareOf task.now.looped.now.net care.now }
     requires limit { task.now.limit ≤ MAX_NODES }
-    ensures judgement { IfOk result (IsJudgement task.now.looped.now.net care.now task.now.observe) }
+    ensures judgement { IfOk result (IsSomeJudgement task.now.looped.now.net care.now task.now.observe) }
     ensures fault { IfErr result (λ fault. (fault ≡ DecideFault.Memory) ⊎ (fault ≡ DecideFault.NodeLimit task.now.limit)) }
     ensures cause { result ≡ Err (DecideFault.NodeLimit task.now.limit) → IsOutOfNodes d.new task.now.looped.now.net care.now task.now.limit }
     ensures enough { result ≡ Err (DecideFault.NodeLimit task.now.limit) → IsBelowEnough task.now.looped.now.net care.now task.now.limit }
 {
-    let net = task.looped.net();
-    let blocks = task.looped.blocks();
-    let cut = task.looped.cut();
-    judge(alloc, d, net, blocks, cut, care, task.limit, task.observe)
+    let looped = task.looped;
+    looped.net().laws();
+    if rows < LEAST_ROWS {
+        let (net, blocks, cut) = (looped.net(), looped.blocks(), looped.cut());
+        judge(alloc, d, net, blocks, cut, care, task.limit, task.observe)
+    } else {
+        judge_with_witness(
+            alloc,
+            d,
+            looped,
+            care,
+            task.settled,
+            task.limit,
+            task.observe,
+        )
+    }
 }
 
 /// The judgement on the care set as it is.
-#[tactic(auto, using(crate::proofs::FoundLemmas::stands_by, crate::proofs::FoundLemmas::refused_without, crate::proofs::FoundLemmas::found_at_first, crate::proofs::LimitLemmas::runs_out_without))]
+#[tactic(auto, using(crate::proofs::FoundLemmas::stands_by, crate::proofs::FoundLemmas::shown_without, crate::proofs::FoundLemmas::found_at_first, crate::proofs::LimitLemmas::runs_out_without))]
 fn round_without_rows(
     alloc: Global,
     d: &mut Diagrams,
     task: &Task<'_>,
     rows: &mut Vec<Row>,
 ) -> Result<Option<Assumption>, DecideFault>
+    requires settled { AreSettled task.now.looped.now task.now.settled.now }
     requires steady { AreSteadyMarks task.now.looped.now.net task.now.steady.now }
     requires care { IsCareOf task.now.looped.now.net task.now.care.now }
     requires limit { task.now.limit ≤ MAX_NODES }
@@ -186,14 +208,14 @@ fn round_without_rows(
     ensures fault { IfErr result (λ fault. (fault ≡ DecideFault.Memory) ⊎ (fault ≡ DecideFault.NodeLimit task.now.limit)) }
     ensures cause { result ≡ Err (DecideFault.NodeLimit task.now.limit) → RunsOutOfNodes d.new task.now.looped.now.net task.now.care.now task.now.observe task.now.limit }
 {
-    match judged(alloc, d, task, task.care)? {
+    match judged(alloc, d, task, task.care, 0)? {
         Judgement::Accepted { .. } => Ok(Some(Assumption::Stands)),
         Judgement::Refused(refusal) => go_on_from(alloc, task, rows, refusal),
     }
 }
 
 /// The judgement on this care set, which has these rows excluded.
-#[tactic(auto, using(crate::proofs::FoundLemmas::weakest_by, crate::proofs::FoundLemmas::refused_by, crate::proofs::LimitLemmas::runs_out_by))]
+#[tactic(auto, using(crate::proofs::FoundLemmas::weakest_by, crate::proofs::FoundLemmas::shown_by, crate::proofs::LimitLemmas::runs_out_by))]
 fn round_on(
     alloc: Global,
     d: &mut Diagrams,
@@ -201,6 +223,7 @@ fn round_on(
     rows: &mut Vec<Row>,
     stronger: Care,
 ) -> Result<Option<Assumption>, DecideFault>
+    requires settled { AreSettled task.now.looped.now task.now.settled.now }
     requires steady { AreSteadyMarks task.now.looped.now.net task.now.steady.now }
     requires limit { task.now.limit ≤ MAX_NODES }
     requires rows { AreFound task.now.looped.now.net task.now.care.now task.now.observe rows.old.items }
@@ -211,7 +234,7 @@ fn round_on(
     ensures fault { IfErr result (λ fault. (fault ≡ DecideFault.Memory) ⊎ (fault ≡ DecideFault.NodeLimit task.now.limit)) }
     ensures cause { result ≡ Err (DecideFault.NodeLimit task.now.limit) → RunsOutOfNodes d.new task.now.looped.now.net task.now.care.now task.now.observe task.now.limit }
 {
-    match judged(alloc, d, task, &stronger)? {
+    match judged(alloc, d, task, &stronger, rows.len())? {
         Judgement::Accepted { .. } => Ok(Some(Assumption::Weakest(stronger))),
         Judgement::Refused(refusal) => go_on_from(alloc, task, rows, refusal),
     }
@@ -225,6 +248,7 @@ fn round_with_rows(
     task: &Task<'_>,
     rows: &mut Vec<Row>,
 ) -> Result<Option<Assumption>, DecideFault>
+    requires settled { AreSettled task.now.looped.now task.now.settled.now }
     requires steady { AreSteadyMarks task.now.looped.now.net task.now.steady.now }
     requires care { IsCareOf task.now.looped.now.net task.now.care.now }
     requires limit { task.now.limit ≤ MAX_NODES }
@@ -249,6 +273,7 @@ fn round(
     task: &Task<'_>,
     rows: &mut Vec<Row>,
 ) -> Result<Option<Assumption>, DecideFault>
+    requires settled { AreSettled task.now.looped.now task.now.settled.now }
     requires steady { AreSteadyMarks task.now.looped.now.net task.now.steady.now }
     requires care { IsCareOf task.now.looped.now.net task.now.care.now }
     requires limit { task.now.limit ≤ MAX_NODES }
@@ -268,6 +293,7 @@ fn round(
 
 /// What is found by a task.
 fn search(alloc: Global, d: &mut Diagrams, task: &Task<'_>) -> Result<Assumption, DecideFault>
+    requires settled { AreSettled task.now.looped.now task.now.settled.now }
     requires steady { AreSteadyMarks task.now.looped.now.net task.now.steady.now }
     requires care { IsCareOf task.now.looped.now.net task.now.care.now }
     requires limit { task.now.limit ≤ MAX_NODES }
@@ -297,7 +323,7 @@ fn search(alloc: Global, d: &mut Diagrams, task: &Task<'_>) -> Result<Assumption
 /// comes where no assumption helps: a permitted initial state is outside the invariant, a next state is, or the rows exclude
 /// all vectors; `TooManyRows` with 4,096 rows that leave an observed wire undetermined somewhere. How few rows may do isn't said.
 ///
-/// The faults are those of the judgement (`verdict::judge`), on the care set with some rows excluded.
+/// The faults are those of the judgement (`verdict::judge_with_witness`), on the care set with some rows excluded.
 ///
 /// The condition is that the care set is the netlist's, and that the limit is at most 50,000,000.
 pub fn weakest_assumption(
@@ -317,10 +343,14 @@ pub fn weakest_assumption(
     let Ok(steady) = steady_signals(alloc, looped) else {
         return Err(DecideFault::Memory);
     };
+    let Ok(settled) = settled_loops(alloc, looped, LOOP_NODES) else {
+        return Err(DecideFault::Memory);
+    };
     let task = Task {
         looped,
         care,
         steady: &steady,
+        settled: &settled,
         limit,
         observe,
     };
