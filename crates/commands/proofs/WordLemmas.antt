@@ -5,7 +5,7 @@ use Rattle.std.proofs.Math.Seq.{take-length}
 use Rattle.std.specs.List.{list_all}
 use Rattle.std.specs.Option.{option_and_then}
 use Rattle.std.specs.Str.{bytes_eq}
-use Rattle.commands.specs.Words.{Options, Purpose, Decide, Assume, Equal, command_in, command_on, flagged, is_file_word, no_options, is_digit, with_digits, up_to, with_option, options_of, decide_on, assume_on, unobserved, equal_with}
+use Rattle.commands.specs.Words.{Options, Purpose, Wishes, Decide, Assume, Equal, command_in, command_on, is_file_word, no_options, is_digit, with_digits, up_to, with_option, with_flag, with_wish, options_of, wishes_of, decide_on, assume_on, unobserved, equal_with}
 
 -- more digits make no less of a number
 no_less : (n : ℕ) (digits : List ℕ) → n ≤ with_digits n digits
@@ -65,32 +65,32 @@ pub equal_observed : (file second : List ℕ) (rest : List (List ℕ)) (options 
     → unobserved options ≡ None → equal_with file second rest ≡ None
 equal_observed file second rest options found observed = grind arith
 
--- options and a flag, word by word
-flag_asked : (flag word : List ℕ) (known : Options) (rest : List (List ℕ)) → bytes_eq word flag ≡ true
-    → flagged flag known false (word ∷ rest) ≡ flagged flag known true rest
-flag_asked flag word known [] is = grind arith
-flag_asked flag word known (value ∷ rest) is = grind arith
+-- what is wished, word by word
+flag_asked : (flag word : List ℕ) (known more : Wishes) (rest : List (List ℕ)) → bytes_eq word flag ≡ true → with_flag known ≡ Some more
+    → wishes_of flag known (word ∷ rest) ≡ wishes_of flag more rest
+flag_asked flag word known more [] is once = grind arith
+flag_asked flag word known more (value ∷ rest) is once = grind arith
 
-option_asked : (flag word value : List ℕ) (known more : Options) (stood : Bool) (rest : List (List ℕ)) → bytes_eq word flag ≡ false → with_option word value known ≡ Some more
-    → flagged flag known stood (word ∷ value ∷ rest) ≡ flagged flag more stood rest
-option_asked flag word value known more stood rest other is = grind arith
+wish_asked : (flag word value : List ℕ) (known more : Wishes) (rest : List (List ℕ)) → bytes_eq word flag ≡ false → with_wish word value known ≡ Some more
+    → wishes_of flag known (word ∷ value ∷ rest) ≡ wishes_of flag more rest
+wish_asked flag word value known more rest other is = grind arith
 
 -- the same, where the words are at least one, or two
-pub flag_behind : (flag : List ℕ) (words : List (List ℕ)) (word : List ℕ) (known : Options) → 1 ≤ length words → word ≡ get_or words 0 word → bytes_eq word flag ≡ true
-    → flagged flag known false words ≡ flagged flag known true (take (length words - 1) (drop 1 words))
-flag_behind flag [] word known one first is = absurd (omega (arith, one))
-flag_behind flag (w ∷ rest) word known one first is =
-    flag_asked flag w known rest (ap (λ v. bytes_eq v flag) (sym first) ∙ is)
-    ∙ ap (flagged flag known true) (sym (ap (λ n. take n rest) (let e : length (w ∷ rest) - 1 ≡ length rest = omega arith in e) ∙ take-length rest))
+pub flag_behind : (flag : List ℕ) (words : List (List ℕ)) (word : List ℕ) (known more : Wishes) → 1 ≤ length words → word ≡ get_or words 0 word → bytes_eq word flag ≡ true
+    → with_flag known ≡ Some more → wishes_of flag known words ≡ wishes_of flag more (take (length words - 1) (drop 1 words))
+flag_behind flag [] word known more one first is once = absurd (omega (arith, one))
+flag_behind flag (w ∷ rest) word known more one first is once =
+    flag_asked flag w known more rest (ap (λ v. bytes_eq v flag) (sym first) ∙ is) once
+    ∙ ap (wishes_of flag more) (sym (ap (λ n. take n rest) (let e : length (w ∷ rest) - 1 ≡ length rest = omega arith in e) ∙ take-length rest))
 
-pub option_behind : (flag : List ℕ) (words : List (List ℕ)) (word again value : List ℕ) (known more : Options) (stood : Bool) → 2 ≤ length words
-    → word ≡ get_or words 0 word → again ≡ get_or words 0 again → value ≡ get_or words 1 value → bytes_eq again flag ≡ false → with_option word value known ≡ Some more
-    → flagged flag known stood words ≡ flagged flag more stood (take (length words - 2) (drop 2 words))
-option_behind flag [] word again value known more stood two first once_more second other is = absurd (omega (arith, two))
-option_behind flag (w ∷ []) word again value known more stood two first once_more second other is = absurd (omega (arith, two))
-option_behind flag (w ∷ v ∷ rest) word again value known more stood two first once_more second other is =
-    option_asked flag w v known more stood rest (ap (λ b. bytes_eq b flag) (sym once_more) ∙ other) (ap₂ (λ a b. with_option a b known) (sym first) (sym second) ∙ is)
-    ∙ ap (flagged flag more stood) (sym (ap (λ n. take n rest) (let e : length (w ∷ v ∷ rest) - 2 ≡ length rest = omega arith in e) ∙ take-length rest))
+pub wish_behind : (flag : List ℕ) (words : List (List ℕ)) (word again value : List ℕ) (known more : Wishes) → 2 ≤ length words
+    → word ≡ get_or words 0 word → again ≡ get_or words 0 again → value ≡ get_or words 1 value → bytes_eq again flag ≡ false → with_wish word value known ≡ Some more
+    → wishes_of flag known words ≡ wishes_of flag more (take (length words - 2) (drop 2 words))
+wish_behind flag [] word again value known more two first once_more second other is = absurd (omega (arith, two))
+wish_behind flag (w ∷ []) word again value known more two first once_more second other is = absurd (omega (arith, two))
+wish_behind flag (w ∷ v ∷ rest) word again value known more two first once_more second other is =
+    wish_asked flag w v known more rest (ap (λ b. bytes_eq b flag) (sym once_more) ∙ other) (ap₂ (λ a b. with_wish a b known) (sym first) (sym second) ∙ is)
+    ∙ ap (wishes_of flag more) (sym (ap (λ n. take n rest) (let e : length (w ∷ v ∷ rest) - 2 ≡ length rest = omega arith in e) ∙ take-length rest))
 
 -- a command on a word, and the words behind it
 pub command_behind : (words : List (List ℕ)) (command word : List ℕ) → 2 ≤ length words → command ≡ get_or words 0 command → word ≡ get_or words 1 word

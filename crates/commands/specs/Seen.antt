@@ -1,6 +1,8 @@
 -- How clauses see commands.
-use Rattle.std.specs.Prelude.{ℕ, option_copied}
+use Rattle.std.specs.Prelude.{ℕ, option_copied, option_map}
+use Rattle.std.specs.declared.option.Option.{Option}
 use Rattle.commands.specs.declared.command.Cells.{Cells}
+use Rattle.commands.specs.declared.cases.Cases.{Cases}
 use Rattle.commands.specs.declared.command.Command.{Command}
 use Rattle.commands.specs.declared.command.Command.TheVariants.{Decide, Assume, Equal, Flat, Loops, Sim, Delays, Demo, Help, HelpOn, Version}
 use Rattle.commands.specs.declared.command.Options.{Options}
@@ -11,6 +13,7 @@ use Rattle.commands.specs.declared.purpose.Purpose.{Purpose}
 use Rattle.commands.specs.declared.purpose.Purpose.TheVariants.{Tell, Make}
 use Rattle.commands.specs.declared.purpose.Telling.{Telling}
 use Rattle.commands.specs.declared.purpose.Telling.TheVariants.{Judge, Storm}
+use Rattle.commands.specs.declared.wishes.Wishes.{Wishes}
 use Rattle.commands.specs.Words as asked
 
 abbrev pub options_seen : Options → asked.Options
@@ -18,6 +21,12 @@ options_seen options = record { care = option_copied options.care; nodes = optio
 
 abbrev pub cells_seen : Cells → ℕ
 cells_seen cells = cells.number
+
+abbrev pub split_seen : Option Cases → Option ℕ
+split_seen split = option_map (λ cases. cases.number) split
+
+abbrev pub wishes_seen : Wishes → asked.Wishes
+wishes_seen wishes = record { options = options_seen wishes.options; flag = wishes.flag; cases = wishes.cases }
 
 abbrev pub rounds_seen : Rounds → ℕ
 rounds_seen rounds = rounds.number
@@ -27,8 +36,8 @@ telling_seen Judge = asked.Judges
 telling_seen (Storm rounds) = asked.Storms (rounds_seen rounds)
 
 abbrev pub making_seen : Making → asked.Purpose
-making_seen Rewrite = asked.Rewrites
-making_seen (Aiger encoding) = asked.WritesGraph encoding
+making_seen (Rewrite split) = asked.Rewrites (split_seen split)
+making_seen (Aiger encoding split) = asked.WritesGraph encoding (split_seen split)
 making_seen (Explain form) = asked.Explains form
 making_seen (Demonstrate cells) = asked.Demonstrates (cells_seen cells)
 

@@ -29,10 +29,10 @@ no_options = record { care = None; nodes = None; observe = None }
 pub data Purpose : Type 0 where
   -- to tell the verdict
   Judges : Purpose
-  -- to write it without loops
-  Rewrites : Purpose
-  -- to write its and-inverter graph, without loops
-  WritesGraph : Encoding → Purpose
+  -- to write it without loops, split into so many cases, where these are more than one
+  Rewrites : Option ℕ → Purpose
+  -- to write the and-inverter graph of that
+  WritesGraph : Encoding → Option ℕ → Purpose
   -- to show why a refused wire is undetermined, as lines or as a graph
   Explains : Form → Purpose
   -- to tell that the ring arbiter of so many cells is accepted
@@ -136,14 +136,51 @@ options_of known (word ∷ value ∷ rest) = option_and_then (λ more. options_o
 abbrev pub decide_on : Purpose → List ℕ → List (List ℕ) → Option Command
 decide_on purpose file rest = option_map (λ options. Decide file options purpose) (options_of no_options rest)
 
--- These options, and whether the flag stands among them, an option without a value that comes once at most: beside those
--- that are known, and behind words where it stood already or didn't.
-abbrev pub flagged : List ℕ → Options → Bool → List (List ℕ) → Option (Options × Bool)
-flagged flag known stood [] = Some (known, stood)
-flagged flag known stood (word ∷ []) = if bytes_eq word flag && not stood then Some (known, true) else None
-flagged flag known stood (word ∷ value ∷ rest) =
-    if bytes_eq word flag then (if stood then None else flagged flag known true (value ∷ rest))
-    else option_and_then (λ more. flagged flag more stood rest) (with_option word value known)
+-- what stands behind the file of a command that makes something: options of the decision, the command's own flag, which has
+-- no value, and a number of cases
+pub record Wishes : Type 0 where
+  pub options : Options
+  pub flag : Bool
+  pub cases : Option ℕ
+
+abbrev pub no_wishes : Wishes
+no_wishes = record { options = no_options; flag = false; cases = None }
+
+-- each comes once at most
+abbrev pub with_flag : Wishes → Option Wishes
+with_flag known = if known.flag then None else Some (record { options = known.options; flag = true; cases = known.cases })
+
+abbrev pub with_cases : List ℕ → Wishes → Option Wishes
+with_cases value known =
+    if is_none known.cases
+    then option_map (λ n. record { options = known.options; flag = known.flag; cases = Some n }) (number_between 1 4096 value)
+    else None
+
+-- a number of cases, or an option with its value
+abbrev pub with_wish : List ℕ → List ℕ → Wishes → Option Wishes
+with_wish word value known =
+    if bytes_eq word (codes "--cases") then with_cases value known
+    else option_map (λ options. record { options = options; flag = known.flag; cases = known.cases }) (with_option word value known.options)
+
+-- what these words say beside what is known
+abbrev pub wishes_of : List ℕ → Wishes → List (List ℕ) → Option Wishes
+wishes_of flag known [] = Some known
+wishes_of flag known (word ∷ []) = if bytes_eq word flag then with_flag known else None
+wishes_of flag known (word ∷ value ∷ rest) =
+    if bytes_eq word flag then option_and_then (λ more. wishes_of flag more (value ∷ rest)) (with_flag known)
+    else option_and_then (λ more. wishes_of flag more rest) (with_wish word value known)
+
+-- one case is the netlist as it is
+abbrev pub split_of : Option ℕ → Option ℕ
+split_of None = None
+split_of (Some n) = if nat_le n 1 then None else Some n
+
+-- a netlist is written in one form alone
+abbrev pub rewrite_by : List ℕ → Wishes → Option Command
+rewrite_by file wishes = if wishes.flag then None else Some (Decide file wishes.options (Rewrites (split_of wishes.cases)))
+
+abbrev pub rewrite_on : List ℕ → List (List ℕ) → Option Command
+rewrite_on file rest = option_and_then (rewrite_by file) (wishes_of (codes "--binary") no_wishes rest)
 
 -- a graph is written in the ASCII form, or in the binary one where `--binary` stands among its options
 abbrev pub encoding_of : Bool → Encoding
@@ -151,15 +188,19 @@ encoding_of true = encoding.Binary
 encoding_of false = encoding.Ascii
 
 abbrev pub aiger_on : List ℕ → List (List ℕ) → Option Command
-aiger_on file rest = option_map (λ found. Decide file found.0 (WritesGraph (encoding_of found.1))) (flagged (codes "--binary") no_options false rest)
+aiger_on file rest =
+    option_map (λ wishes. Decide file wishes.options (WritesGraph (encoding_of wishes.flag) (split_of wishes.cases))) (wishes_of (codes "--binary") no_wishes rest)
 
--- an explanation is told as lines, or as a graph where `--dot` stands among its options
+-- an explanation is told as lines, or as a graph where `--dot` stands among its options. It has no cases
 abbrev pub form_of : Bool → Form
 form_of true = form.Dot
 form_of false = form.Lines
 
+abbrev pub explain_by : List ℕ → Wishes → Option Command
+explain_by file wishes = if is_none wishes.cases then Some (Decide file wishes.options (Explains (form_of wishes.flag))) else None
+
 abbrev pub explain_on : List ℕ → List (List ℕ) → Option Command
-explain_on file rest = option_map (λ found. Decide file found.0 (Explains (form_of found.1))) (flagged (codes "--dot") no_options false rest)
+explain_on file rest = option_and_then (explain_by file) (wishes_of (codes "--dot") no_wishes rest)
 
 -- an assumption is looked for with the options of a decision
 abbrev pub assume_on : List ℕ → List (List ℕ) → Option Command
@@ -249,7 +290,7 @@ help_on word other = None
 abbrev pub command_on : List ℕ → List ℕ → List (List ℕ) → Option Command
 command_on command word rest =
     if bytes_eq command (codes "check") then decide_on Judges word rest
-    else if bytes_eq command (codes "rewrite") then decide_on Rewrites word rest
+    else if bytes_eq command (codes "rewrite") then rewrite_on word rest
     else if bytes_eq command (codes "aiger") then aiger_on word rest
     else if bytes_eq command (codes "explain") then explain_on word rest
     else if bytes_eq command (codes "assume") then assume_on word rest

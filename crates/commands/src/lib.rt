@@ -5,6 +5,7 @@
 //! nothing for words outside the grammar.
 #![tactic(auto)]
 
+mod cases;
 mod command;
 mod encoding;
 mod form;
@@ -13,7 +14,9 @@ mod parse;
 mod purpose;
 mod standard_input;
 mod topic;
+mod wishes;
 
+pub use cases::Cases;
 pub use command::{Cells, Command, Options, Rounds};
 pub use encoding::Encoding;
 pub use form::Form;

@@ -1,20 +1,25 @@
 // The grammar of the words.
-ghost use Rattle.std.specs.Prelude.{◌≡◌, ◌≤◌, ◌+◌, ◌-◌, ◌*◌, ◌&&◌, bytes_eq, nat_le, true, false, MatchOption, IfSome, None, Some};
+ghost use Rattle.std.specs.Prelude.{◌≡◌, ◌≤◌, ◌+◌, ◌-◌, ◌*◌, ◌&&◌, bytes_eq, nat_le, true, false, MatchOption, IfSome, None, Some, unwrap_or};
 ghost use Rattle.cyc_base.specs.declared.limits.TheConstants.{MAX_NODES as most_nodes};
-ghost use Rattle.commands.specs.Seen.{cells_seen, command_seen, options_seen, purpose_seen, rounds_seen};
-ghost use Rattle.commands.specs.Words.{aiger_on as aiger_asked, assume_on as assume_asked, cells as cells_asked, command_alone as alone_asked, command_in, command_on as command_asked, decide_on as decide_asked, delays_on as delays_asked, demo_on as demo_asked, equal_on as equal_asked, equal_with as equal_asked_with, encoding_of as encoding_asked, explain_on as explain_asked, flagged as asked_flagged, form_of as form_asked, help_on as help_asked, loops_on as loops_asked, is_digit, is_file_word, no_options as asked_no_options, number_between as number_asked, kind_of as kind_asked, observe_of as observe_asked, options_of as options_asked, probe_of as probe_asked, rounds as rounds_asked, sim_on as sim_asked, storm_on as storm_asked, topic_of as topic_asked, unobserved as asked_unobserved, up_to, with_care as asked_with_care, with_nodes as asked_with_nodes, with_observe as asked_with_observe, with_option as asked_with_option};
+ghost use Rattle.commands.specs.Seen.{cells_seen, command_seen, options_seen, purpose_seen, rounds_seen, split_seen, wishes_seen};
+ghost use Rattle.commands.specs.Words.{aiger_on as aiger_asked, assume_on as assume_asked, cells as cells_asked, command_alone as alone_asked, command_in, command_on as command_asked, decide_on as decide_asked, delays_on as delays_asked, demo_on as demo_asked, equal_on as equal_asked, equal_with as equal_asked_with, encoding_of as encoding_asked, explain_by as explain_asked_by, explain_on as explain_asked, form_of as form_asked, help_on as help_asked, loops_on as loops_asked, is_digit, is_file_word, no_options as asked_no_options, no_wishes as asked_no_wishes, number_between as number_asked, kind_of as kind_asked, observe_of as observe_asked, options_of as options_asked, probe_of as probe_asked, rewrite_by as rewrite_asked_by, rewrite_on as rewrite_asked, rounds as rounds_asked, sim_on as sim_asked, split_of as split_asked, storm_on as storm_asked, topic_of as topic_asked, unobserved as asked_unobserved, up_to, wishes_of as wishes_asked, with_care as asked_with_care, with_cases as asked_with_cases, with_flag as asked_with_flag, with_nodes as asked_with_nodes, with_observe as asked_with_observe, with_option as asked_with_option, with_wish as asked_with_wish};
 
+use crate::cases::Cases;
 use crate::command::{Cells, Command, Options, Rounds};
 use crate::encoding::Encoding;
 use crate::form::Form;
 use crate::kind::Kind;
 use crate::purpose::{Making, Purpose, Telling};
 use crate::topic::Topic;
+use crate::wishes::Wishes;
 use cyc_base::{MAX_NODES, MAX_RING_CELLS, MIN_NODES, MIN_RING_CELLS, Name};
 use refusals::Observe;
 
 /// The most rounds of a storm.
 const MAX_ROUNDS: u32 = 10_000;
+
+/// The most cases into which a netlist is split.
+const MAX_CASES: u32 = 4096;
 
 /// The command that the words ask for, or nothing for words outside the grammar. A file that is `-` is standard input,
 /// which `files_named` gives its name before.
@@ -52,8 +57,7 @@ fn command_on<'a>(command: &[u8], word: &'a Name, rest: &'a [Name]) -> Option<Co
         return decide_on(word, purpose, rest);
     }
     if command == b"rewrite".as_slice() {
-        let purpose = Purpose::Make(Making::Rewrite);
-        return decide_on(word, purpose, rest);
+        return rewrite_on(word, rest);
     }
     if command == b"aiger".as_slice() {
         return aiger_on(word, rest);
@@ -111,13 +115,54 @@ fn decide_on<'a>(file: &'a Name, purpose: Purpose, rest: &'a [Name]) -> Option<C
     Some(Command::Decide(file, options, purpose))
 }
 
+fn no_wishes<'a>() -> Wishes<'a>
+    ensures { wishes_seen result ≡ asked_no_wishes }
+{
+    Wishes {
+        options: no_options(),
+        flag: false,
+        cases: None,
+    }
+}
+
+fn rewrite_on<'a>(file: &'a Name, rest: &'a [Name]) -> Option<Command<'a>>
+    ensures { MatchOption result (rewrite_asked file.now rest.now ≡ None)
+        (λ asked. rewrite_asked file.now rest.now ≡ Some (command_seen asked)) }
+{
+    let wishes = wishes_of(b"--binary", no_wishes(), rest)?;
+    rewrite_by(file, wishes)
+}
+
+// A netlist is written in one form alone.
+fn rewrite_by<'a>(file: &'a Name, wishes: Wishes<'a>) -> Option<Command<'a>>
+    ensures { MatchOption result (rewrite_asked_by file.now (wishes_seen wishes.entry) ≡ None)
+        (λ asked. rewrite_asked_by file.now (wishes_seen wishes.entry) ≡ Some (command_seen asked)) }
+{
+    if wishes.flag {
+        return None;
+    }
+    let purpose = Purpose::Make(Making::Rewrite(split_of(wishes.cases)));
+    Some(Command::Decide(file, wishes.options, purpose))
+}
+
+// One case is the netlist as it is.
+fn split_of(cases: Option<u32>) -> Option<Cases>
+    requires { unwrap_or cases 1 ≤ 4096 }
+    ensures { split_seen result ≡ split_asked cases }
+{
+    match cases {
+        Some(number) if number > 1 => Some(Cases { number }),
+        _ => None,
+    }
+}
+
 fn aiger_on<'a>(file: &'a Name, rest: &'a [Name]) -> Option<Command<'a>>
     ensures { MatchOption result (aiger_asked file.now rest.now ≡ None)
         (λ asked. aiger_asked file.now rest.now ≡ Some (command_seen asked)) }
 {
-    let (options, binary) = flagged(b"--binary", no_options(), false, rest)?;
-    let purpose = Purpose::Make(Making::Aiger(encoding_of(binary)));
-    Some(Command::Decide(file, options, purpose))
+    let wishes = wishes_of(b"--binary", no_wishes(), rest)?;
+    let making = Making::Aiger(encoding_of(wishes.flag), split_of(wishes.cases));
+    Some(Command::Decide(file, wishes.options, Purpose::Make(making)))
 }
 
 fn encoding_of(binary: bool) -> Encoding
@@ -134,9 +179,20 @@ fn explain_on<'a>(file: &'a Name, rest: &'a [Name]) -> Option<Command<'a>>
     ensures { MatchOption result (explain_asked file.now rest.now ≡ None)
         (λ asked. explain_asked file.now rest.now ≡ Some (command_seen asked)) }
 {
-    let (options, dot) = flagged(b"--dot", no_options(), false, rest)?;
-    let purpose = Purpose::Make(Making::Explain(form_of(dot)));
-    Some(Command::Decide(file, options, purpose))
+    let wishes = wishes_of(b"--dot", no_wishes(), rest)?;
+    explain_by(file, wishes)
+}
+
+// An explanation has no cases.
+fn explain_by<'a>(file: &'a Name, wishes: Wishes<'a>) -> Option<Command<'a>>
+    ensures { MatchOption result (explain_asked_by file.now (wishes_seen wishes.entry) ≡ None)
+        (λ asked. explain_asked_by file.now (wishes_seen wishes.entry) ≡ Some (command_seen asked)) }
+{
+    if wishes.cases.is_some() {
+        return None;
+    }
+    let purpose = Purpose::Make(Making::Explain(form_of(wishes.flag)));
+    Some(Command::Decide(file, wishes.options, purpose))
 }
 
 fn form_of(dot: bool) -> Form
@@ -145,31 +201,69 @@ fn form_of(dot: bool) -> Form
     if dot { Form::Dot } else { Form::Lines }
 }
 
-// The options that these words give beside those that are known, and whether the flag stands among them, an option
-// without a value that comes once at most. It recurses at most once for each word.
-fn flagged<'a>(
-    flag: &[u8],
-    known: Options<'a>,
-    stood: bool,
-    words: &'a [Name],
-) -> Option<(Options<'a>, bool)>
-    ensures { MatchOption result (asked_flagged flag.now (options_seen known.entry) stood words.now ≡ None)
-        (λ found. asked_flagged flag.now (options_seen known.entry) stood words.now ≡ Some (options_seen found.0, found.1)) }
+// What these words say beside what is known. It recurses at most once for each word.
+fn wishes_of<'a>(flag: &[u8], known: Wishes<'a>, words: &'a [Name]) -> Option<Wishes<'a>>
+    ensures { MatchOption result (wishes_asked flag.now (wishes_seen known.entry) words.now ≡ None)
+        (λ wishes. wishes_asked flag.now (wishes_seen known.entry) words.now ≡ Some (wishes_seen wishes)) }
 {
     match words {
-        [] => Some((known, stood)),
+        [] => Some(known),
         [word, rest @ ..] if is_flag(word.bytes(), flag) => {
-            if stood {
-                return None;
-            }
-            flagged(flag, known, true, rest)
+            let more = with_flag(known)?;
+            wishes_of(flag, more, rest)
         }
         [word, value, rest @ ..] => {
-            let more = with_option(word.bytes(), value, known)?;
-            flagged(flag, more, stood, rest)
+            let more = with_wish(word.bytes(), value, known)?;
+            wishes_of(flag, more, rest)
         }
         _ => None,
     }
+}
+
+// The flag, which comes once at most.
+fn with_flag<'a>(known: Wishes<'a>) -> Option<Wishes<'a>>
+    ensures { MatchOption result (asked_with_flag (wishes_seen known.entry) ≡ None)
+        (λ wishes. asked_with_flag (wishes_seen known.entry) ≡ Some (wishes_seen wishes)) }
+{
+    if known.flag {
+        return None;
+    }
+    Some(Wishes {
+        options: known.options,
+        flag: true,
+        cases: known.cases,
+    })
+}
+
+// A number of cases, or an option with its value.
+fn with_wish<'a>(word: &[u8], value: &'a Name, known: Wishes<'a>) -> Option<Wishes<'a>>
+    ensures { MatchOption result (asked_with_wish word.now value.now (wishes_seen known.entry) ≡ None)
+        (λ wishes. asked_with_wish word.now value.now (wishes_seen known.entry) ≡ Some (wishes_seen wishes)) }
+{
+    if word == b"--cases".as_slice() {
+        return with_cases(value, known);
+    }
+    let options = with_option(word, value, known.options)?;
+    Some(Wishes {
+        options,
+        flag: known.flag,
+        cases: known.cases,
+    })
+}
+
+fn with_cases<'a>(value: &Name, known: Wishes<'a>) -> Option<Wishes<'a>>
+    ensures { MatchOption result (asked_with_cases value.now (wishes_seen known.entry) ≡ None)
+        (λ wishes. asked_with_cases value.now (wishes_seen known.entry) ≡ Some (wishes_seen wishes)) }
+{
+    if known.cases.is_some() {
+        return None;
+    }
+    let number = number_between(1, MAX_CASES, value.bytes())?;
+    Some(Wishes {
+        options: known.options,
+        flag: known.flag,
+        cases: Some(number),
+    })
 }
 
 fn is_flag(word: &[u8], flag: &[u8]) -> bool

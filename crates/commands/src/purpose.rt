@@ -1,3 +1,4 @@
+use crate::cases::Cases;
 use crate::command::{Cells, Rounds};
 use crate::encoding::Encoding;
 use crate::form::Form;
@@ -14,10 +15,10 @@ pub enum Telling {
 /// What a netlist is decided for whose sweeps are wanted, where it is accepted.
 #[derive(Clone, Copy, Drop)]
 pub enum Making {
-    /// To write it without loops.
-    Rewrite,
-    /// To write its and-inverter graph, without loops, in a form of AIGER.
-    Aiger(Encoding),
+    /// To write it without loops, split into so many cases, where these are more than one.
+    Rewrite(Option<Cases>),
+    /// To write the and-inverter graph of that, in a form of AIGER.
+    Aiger(Encoding, Option<Cases>),
     /// To show why a refused wire is undetermined, or what loops an accepted netlist has.
     Explain(Form),
     /// To tell that the ring arbiter of so many cells is accepted.

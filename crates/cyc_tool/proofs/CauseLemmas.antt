@@ -10,6 +10,7 @@ use Rattle.assumptions.specs.declared.assumption.Assumption.{Assumption}
 use Rattle.assumptions.specs.declared.assumption.Assumption.TheVariants.{Stands, Weakest, Refused, TooManyRows, TooLarge}
 use Rattle.schedules.proofs.HarmlessLemmas.{accepted_is_harmless}
 use Rattle.cyc_base.specs.declared.limits.TheConstants.{MAX_REWRITTEN_ITEMS}
+use Rattle.aig_core.specs.Building.{built}
 use Rattle.aig_core.specs.declared.building.Built.{Built}
 use Rattle.rewriting.specs.Graphs.{graph_of, most_ands}
 use Rattle.rewriting.specs.Rewriting.{rewritten, rewritten_size}
@@ -24,9 +25,9 @@ use Rattle.equal.specs.Rebound.{found}
 use Rattle.equality.specs.Texts.{answer_text}
 use Rattle.equality.specs.Shown.{IsShown}
 use Rattle.equality.specs.Told.{is_equal}
-use Rattle.cyc_tool.specs.Answer.{verdict_of, IsRefusalOutcome, IsVerdictOutcome}
+use Rattle.cyc_tool.specs.Answer.{verdict_of, IsAcceptedOutcome, IsGraphedByCases, IsRefusalOutcome, IsTooLarge, IsVerdictOutcome}
 use Rattle.cyc_tool.specs.Calls.{SinkCall, WriteFailed, Takes, IsMadeFor, IsWritten, Verdict, IsTold, Tells}
-use Rattle.cyc_tool.specs.Causes.{IsHelped, IsHelpedBy, IsWithoutCommand, Leads, Reaches, IsFaulty, IsUnread, MeetsLimit, IsVerdict, IsStormed, HasMade, HasWeakest, IsRefusedStill, AreToldEqual, IsDoneWith}
+use Rattle.cyc_tool.specs.Causes.{IsHelped, IsHelpedBy, IsWithoutCommand, Leads, Reaches, IsFaulty, IsUnread, MeetsLimit, IsVerdict, IsStormed, HasFormByCases, HasGraphByCases, HasMade, HasWeakest, IsRefusedStill, AreToldEqual, IsDoneWith}
 use Rattle.cyc_tool.specs.Endings.{accepted_told, aiger_told, assumption_told, comparison_told, found_told, graph_text, refused_told}
 use Rattle.cyc_tool.specs.Storms.{events_of, events_told, storm_text}
 use Rattle.cyc_tool.specs.Plans.{PrintsBeside, Refuses, Declines, WantsRows, Decision, Comparison}
@@ -72,15 +73,37 @@ explained_is_one form net (LeavesCare v q) end ends = ap status_of ends
 
 refusal_status : (net : Parts) (purpose : Purpose) (refused : Refusal) (end : Outcome) → IsRefusalOutcome net purpose refused end → IsEndStatus end.status
 refusal_status net Judges refused end ends = ending_status (refused_told net Judges refused) end.status (ap status_of ends)
-refusal_status net Rewrites refused end ends = ending_status (refused_told net Rewrites refused) end.status (ap status_of ends)
-refusal_status net (WritesGraph encoding) refused end ends = ending_status (refused_told net (WritesGraph encoding) refused) end.status (ap status_of ends)
+refusal_status net (Rewrites cases) refused end ends = ending_status (refused_told net (Rewrites cases) refused) end.status (ap status_of ends)
+refusal_status net (WritesGraph encoding cases) refused end ends = ending_status (refused_told net (WritesGraph encoding cases) refused) end.status (ap status_of ends)
 refusal_status net (Explains form) refused end ends = One (explained_is_one form net refused end ends)
 refusal_status net (Demonstrates cells) refused end ends = ending_status (refused_told net (Demonstrates cells) refused) end.status (ap status_of ends)
 refusal_status net (Storms rounds) refused end ends = ending_status (refused_told net (Storms rounds) refused) end.status (ap status_of ends)
 
+told_le : (n m : ℕ) → nat_le n m ≡ true → n ≤ m
+told_le n m told = grind (arith, told)
+
+too_large_status : (decision : Decision) (end : Outcome) → IsTooLarge decision end → IsEndStatus end.status
+too_large_status decision end ends = Eight (ap status_of ends.is)
+
+accepted_status : (decision : Decision) (purpose : Purpose) (end : Outcome) → IsAcceptedOutcome decision purpose end → IsEndStatus end.status
+accepted_status decision (Rewrites None) end ends = ending_status (accepted_told decision (Rewrites None)) end.status (ap status_of ends)
+accepted_status decision (Rewrites (Some cases)) end ends = elim ends [
+  | inl written_so ↦ Zero (ap status_of written_so.is)
+  | inr outgrown ↦ too_large_status decision end outgrown
+]
+accepted_status decision (WritesGraph encoding None) end ends = ending_status (accepted_told decision (WritesGraph encoding None)) end.status (ap status_of ends)
+accepted_status decision (WritesGraph encoding (Some cases)) end ends = elim ends [
+  | inl graphed ↦ ending_status (aiger_told encoding graphed.other (built graphed.other)) end.status (ap status_of graphed.is)
+  | inr outgrown ↦ too_large_status decision end outgrown
+]
+accepted_status decision Judges end ends = ending_status (accepted_told decision Judges) end.status (ap status_of ends)
+accepted_status decision (Explains form) end ends = ending_status (accepted_told decision (Explains form)) end.status (ap status_of ends)
+accepted_status decision (Demonstrates cells) end ends = ending_status (accepted_told decision (Demonstrates cells)) end.status (ap status_of ends)
+accepted_status decision (Storms rounds) end ends = ending_status (accepted_told decision (Storms rounds)) end.status (ap status_of ends)
+
 verdict_status : (decision : Decision) (purpose : Purpose) (verdict : Option Refusal) (end : Outcome) → IsVerdictOutcome decision purpose verdict end
     → IsEndStatus end.status
-verdict_status decision purpose None end ends = ending_status (accepted_told decision purpose) end.status (ap status_of ends)
+verdict_status decision purpose None end ends = accepted_status decision purpose end ends
 verdict_status decision purpose (Some refused) end ends = refusal_status decision.net purpose refused end ends
 
 -- the verdict of a decision, and what shows it
@@ -103,8 +126,8 @@ module _ (out : SinkCall) (end : Outcome) (took : Takes out end.out) (done : end
   not_eight : {A : Type 0} → end.status ≡ 8 → A
   not_eight eight = absurd (omega (arith, done, eight))
 
-  has_rewritten : (decision : Decision) (verdict : Option Refusal) → IsVerdictOutcome decision Rewrites verdict end → IsMadeFor decision Rewrites verdict
-      → HasMade decision Rewrites out
+  has_rewritten : (decision : Decision) (verdict : Option Refusal) → IsVerdictOutcome decision (Rewrites None) verdict end → IsMadeFor decision (Rewrites None) verdict
+      → HasMade decision (Rewrites None) out
   has_rewritten decision (Some refused) ends made = not_one (ap status_of ends)
   has_rewritten decision None ends made = by_size (nat_le size MAX_REWRITTEN_ITEMS) refl ends
     where
@@ -115,12 +138,12 @@ module _ (out : SinkCall) (end : Outcome) (took : Takes out end.out) (done : end
       other = rewritten decision.net decision.care
 
       by_size : (fits : Bool) → nat_le size MAX_REWRITTEN_ITEMS ≡ fits → end ≡ told (if fits then Prints (written other) else Outgrows size)
-          → HasMade decision Rewrites out
+          → HasMade decision (Rewrites None) out
       by_size true fits same = (made (let le : size ≤ MAX_REWRITTEN_ITEMS = grind (arith, fits) in le), out_is _ same)
       by_size false fits same = not_eight (ap status_of same)
 
-  has_graph : (encoding : Encoding) (decision : Decision) (verdict : Option Refusal) → IsVerdictOutcome decision (WritesGraph encoding) verdict end → IsMadeFor decision (WritesGraph encoding) verdict
-      → HasMade decision (WritesGraph encoding) out
+  has_graph : (encoding : Encoding) (decision : Decision) (verdict : Option Refusal) → IsVerdictOutcome decision (WritesGraph encoding None) verdict end → IsMadeFor decision (WritesGraph encoding None) verdict
+      → HasMade decision (WritesGraph encoding None) out
   has_graph encoding decision (Some refused) ends made = not_one (ap status_of ends)
   has_graph encoding decision None ends made = by_size (nat_le size MAX_REWRITTEN_ITEMS) refl ends
     where
@@ -137,14 +160,41 @@ module _ (out : SinkCall) (end : Outcome) (took : Takes out end.out) (done : end
       ands = length graph.aig.ands
 
       by_ands : size ≤ MAX_REWRITTEN_ITEMS → (fits : Bool) → nat_le ands most_ands ≡ fits
-          → end ≡ told (if fits then Prints (graph_text encoding other graph) else Outgrows (most_ands + 1)) → HasMade decision (WritesGraph encoding) out
+          → end ≡ told (if fits then Prints (graph_text encoding other graph) else Outgrows (most_ands + 1)) → HasMade decision (WritesGraph encoding None) out
       by_ands small true fits same = (made small (let le : ands ≤ most_ands = grind (arith, fits) in le), out_is _ same)
       by_ands small false fits same = not_eight (ap status_of same)
 
       by_size : (fits : Bool) → nat_le size MAX_REWRITTEN_ITEMS ≡ fits → end ≡ told (if fits then aiger_told encoding other graph else Outgrows size)
-          → HasMade decision (WritesGraph encoding) out
+          → HasMade decision (WritesGraph encoding None) out
       by_size true fits same = by_ands (let le : size ≤ MAX_REWRITTEN_ITEMS = grind (arith, fits) in le) (nat_le ands most_ands) refl same
       by_size false fits same = not_eight (ap status_of same)
+
+  -- by cases
+  has_form_by_cases : (decision : Decision) (cases : ℕ) (verdict : Option Refusal) → IsVerdictOutcome decision (Rewrites (Some cases)) verdict end
+      → HasFormByCases decision out
+  has_form_by_cases decision cases (Some refused) ends = not_one (ap status_of ends)
+  has_form_by_cases decision cases None ends = elim ends [
+    | inl made ↦ record { other = made.other; form = made.form; text = out_is _ made.is }
+    | inr outgrown ↦ not_eight (ap status_of outgrown.is)
+  ]
+
+  has_graph_by_cases : (encoding : Encoding) (decision : Decision) (cases : ℕ) (verdict : Option Refusal) → IsVerdictOutcome decision (WritesGraph encoding (Some cases)) verdict end
+      → HasGraphByCases encoding decision out
+  has_graph_by_cases encoding decision cases (Some refused) ends = not_one (ap status_of ends)
+  has_graph_by_cases encoding decision cases None ends = elim ends [
+    | inl made ↦ by_ands made (nat_le (length (built made.other).aig.ands) most_ands) refl made.is
+    | inr outgrown ↦ not_eight (ap status_of outgrown.is)
+  ]
+    where
+      by_ands : (made : IsGraphedByCases encoding decision end) (fits : Bool) → nat_le (length (built made.other).aig.ands) most_ands ≡ fits
+          → end ≡ told (if fits then Prints (graph_text encoding made.other (built made.other)) else Outgrows (most_ands + 1)) → HasGraphByCases encoding decision out
+      by_ands made true fits same = record {
+        other = made.other;
+        form = made.form;
+        graph = made.graph (told_le (length (built made.other).aig.ands) most_ands fits);
+        text = out_is _ same;
+      }
+      by_ands made false fits same = not_eight (ap status_of same)
 
   has_stormed : StormsNeverRest → (decision : Decision) (rounds : ℕ) (verdict : Option Refusal) → IsNetlist decision.net → verdict_of decision ≡ verdict
       → IsVerdictOutcome decision (Storms rounds) verdict end → IsStormed decision rounds out
@@ -172,8 +222,10 @@ module _ (out : SinkCall) (end : Outcome) (took : Takes out end.out) (done : end
 
   has_made : StormsNeverRest → (decision : Decision) (purpose : Purpose) (verdict : Option Refusal) → IsNetlist decision.net → verdict_of decision ≡ verdict
       → IsVerdictOutcome decision purpose verdict end → IsMadeFor decision purpose verdict → HasMade decision purpose out
-  has_made law decision Rewrites verdict valid is ends made = has_rewritten decision verdict ends made
-  has_made law decision (WritesGraph encoding) verdict valid is ends made = has_graph encoding decision verdict ends made
+  has_made law decision (Rewrites None) verdict valid is ends made = has_rewritten decision verdict ends made
+  has_made law decision (Rewrites (Some cases)) verdict valid is ends made = has_form_by_cases decision cases verdict ends
+  has_made law decision (WritesGraph encoding None) verdict valid is ends made = has_graph encoding decision verdict ends made
+  has_made law decision (WritesGraph encoding (Some cases)) verdict valid is ends made = has_graph_by_cases encoding decision cases verdict ends
   has_made law decision (Storms rounds) verdict valid is ends made = has_stormed law decision rounds verdict valid is ends
   has_made law decision Judges None valid is ends made = out_is _ ends
   has_made law decision Judges (Some refused) valid is ends made = not_one (ap status_of ends)

@@ -18,8 +18,8 @@ use Rattle.refusals.specs.declared.observe.Observe.{Observe}
 use Rattle.refusals.specs.declared.refusal.Refusal.TheVariants.{Initial, EmptyCare, Leaves as LeavesCare}
 use Rattle.refusals.proofs.LawLemmas.{accepted_without_refusal, refusal_is_shown}
 use Rattle.report.specs.Verdicts.{accepted_text, ring_line}
-use Rattle.rewriting.specs.Graphs.{graph_of, most_ands, IsGraphing}
-use Rattle.rewriting.specs.Rewriting.{rewritten, rewritten_size, IsRewriting}
+use Rattle.rewriting.specs.Graphs.{graph_of, most_ands, IsGraphIn, IsGraphing}
+use Rattle.rewriting.specs.Rewriting.{rewritten, rewritten_size, IsCaseFault, IsLoopFreeForm, IsRewriting}
 use Rattle.unroll.specs.Laws.{KeepsInterface}
 use Rattle.unroll.specs.Unrolled.{IsUnrollFault}
 use Rattle.unroll.specs.declared.fault.UnrollFault.{UnrollFault}
@@ -70,8 +70,8 @@ pub refused_decides : (net : Parts) (care : CareSet) (limit : ℕ) (what : Obser
     → IsNetlist net → refusal net care what ≡ Some refused → IsRefusalTold net purpose refused end
     → IsDecided (decision_of net care limit what) purpose nodes end
 refused_decides net care limit what Judges nodes end refused valid is same = refusal_decides net care limit what Judges nodes end refused is same
-refused_decides net care limit what Rewrites nodes end refused valid is same = refusal_decides net care limit what Rewrites nodes end refused is same
-refused_decides net care limit what (WritesGraph encoding) nodes end refused valid is same = refusal_decides net care limit what (WritesGraph encoding) nodes end refused is same
+refused_decides net care limit what (Rewrites cases) nodes end refused valid is same = refusal_decides net care limit what (Rewrites cases) nodes end refused is same
+refused_decides net care limit what (WritesGraph encoding cases) nodes end refused valid is same = refusal_decides net care limit what (WritesGraph encoding cases) nodes end refused is same
 refused_decides net care limit what (Demonstrates cells) nodes end refused valid is same = refusal_decides net care limit what (Demonstrates cells) nodes end refused is same
 refused_decides net care limit what (Storms rounds) nodes end refused valid is same = refusal_decides net care limit what (Storms rounds) nodes end refused is same
 refused_decides net care limit what (Explains form) nodes end (Initial q) valid is same = refusal_decides net care limit what (Explains form) nodes end (Initial q) is same
@@ -185,7 +185,7 @@ pub was_rewritten : (net : Parts) (blocks : Blocks) (cut : Cut) (counts : SweepC
     → IfOk made (λ other. (care : CareSet) (what : Observe) → Accepts net care what → AreSweepsOnCare net blocks cut care counts → IsRewriting net care other)
     → OnOk made ((care : CareSet) → AreSweepsOnCare net blocks cut care counts → rewritten_size net care ≤ 4000000)
     → IfErr made (λ fault. (care : CareSet) → AreSweepsOnCare net blocks cut care counts → IsUnrollFault (rewritten_size net care) fault)
-    → IsAccepted (decision_of net care limit what) Rewrites (outcome_of end)
+    → IsAccepted (decision_of net care limit what) (Rewrites None) (outcome_of end)
 was_rewritten net blocks cut counts care limit what (Ok other) end same accepts sweeps rewriting small fault =
     let is = rewriting care what accepts sweeps in
     record {
@@ -225,7 +225,7 @@ graph_outgrows encoding net graph many =
     ap (λ (t : Bool). told (if t then Prints (graph_text encoding net graph) else Outgrows (most_ands + 1))) over
 
 told_where : (encoding : Encoding) (net : Parts) (care : CareSet) (limit : ℕ) (what : Observe) (t : Bool) → nat_le (rewritten_size net care) MAX_REWRITTEN_ITEMS ≡ t
-    → told (accepted_told (decision_of net care limit what) (WritesGraph encoding))
+    → told (accepted_told (decision_of net care limit what) (WritesGraph encoding None))
     ≡ told (if t then aiger_told encoding (rewritten net care) (graph_of net care) else Outgrows (rewritten_size net care))
 told_where encoding net care limit what t is =
     ap (λ (t : Bool). told (if t then aiger_told encoding (rewritten net care) (graph_of net care) else Outgrows (rewritten_size net care))) is
@@ -234,15 +234,17 @@ told_where encoding net care limit what t is =
 pub was_graphed : (encoding : Encoding) (net : Parts) (care : CareSet) (limit : ℕ) (what : Observe) (other : Parts) (made : Result Built AigFault) (end : Told) → IsToldOfGraph encoding other made end
     → IsNetlist net → Accepts net care what → rewritten_size net care ≤ 4000000 → IsRewriting net care other
     → IfOk made (λ graph. graph ≡ built other) → IfOk made (λ graph. length graph.aig.ands ≤ most_ands)
-    → IfOk made (λ graph. (net : Parts) (care : CareSet) (what : Observe) → IsNetlist net → Accepts net care what → IsRewriting net care other → IsGraphing net care graph)
+    → IfOk made (λ graph. (net : Parts) (care : CareSet) (what : Observe) → IsNetlist net → Accepts net care what → IsLoopFreeForm net care other → IsGraphIn net care other graph)
     → IfErr made (λ fault. fault ≡ ManyAnds → most_ands < length (built other).aig.ands)
-    → IsAccepted (decision_of net care limit what) (WritesGraph encoding) (outcome_of end)
+    → IsAccepted (decision_of net care limit what) (WritesGraph encoding None) (outcome_of end)
 was_graphed encoding net care limit what other (Ok graph) end same valid accepts small rewriting is few graphing many =
     let own : graph ≡ graph_of net care = is ∙ ap built rewriting.is in
     record {
       is = same ∙ sym (graph_fits encoding other graph few) ∙ ap₂ (λ (n : Parts) (g : Built). told (aiger_told encoding n g)) rewriting.is own
           ∙ sym (told_where encoding net care limit what true (is_within (rewritten_size net care) small));
-      made = λ within fits. subst (IsGraphing net care) own (graphing net care what valid accepts rewriting);
+      made = λ within fits.
+          subst (λ (g : Built). IsGraphing net care g) own
+          (subst (λ (n : Parts). IsGraphIn net care n graph) rewriting.is (graphing net care what valid accepts rewriting.form));
     }
 was_graphed encoding net care limit what other (Err ManyAnds) end same valid accepts small rewriting is few graphing many =
     let over : most_ands < length (graph_of net care).aig.ands = subst (λ (n : Parts). most_ands < length (built n).aig.ands) rewriting.is (many refl) in
@@ -255,9 +257,55 @@ was_graphed encoding net care limit what other (Err NoRoom) end same valid accep
 
 -- and of a netlist that is too large itself
 pub outgrown_graph : (encoding : Encoding) (net : Parts) (care : CareSet) (limit : ℕ) (what : Observe) (fault : UnrollFault) (end : Told) → IsOutgrown fault end
-    → IsUnrollFault (rewritten_size net care) fault → IsAccepted (decision_of net care limit what) (WritesGraph encoding) (outcome_of end)
+    → IsUnrollFault (rewritten_size net care) fault → IsAccepted (decision_of net care limit what) (WritesGraph encoding None) (outcome_of end)
 outgrown_graph encoding net care limit what (TooLarge size) end same is = record {
   is = same ∙ ap (λ (n : ℕ). told (Outgrows n)) is.1 ∙ sym (told_where encoding net care limit what false (is_over (rewritten_size net care) is.0));
   made = λ within fits. absurd (let over = is.0 in omega (arith, over, within));
 }
 outgrown_graph encoding net care limit what Memory end same is = absurd same
+
+-- ---- by cases
+
+-- the text of a netlist that was made by cases, or its size without them
+pub was_split : (net : Parts) (care : CareSet) (limit : ℕ) (what : Observe) (cases : ℕ) (made : Result Parts UnrollFault) (end : Told) → IsToldOf made end
+    → IfOk made (λ other. IsLoopFreeForm net care other) → IfErr made (λ fault. IsCaseFault (rewritten_size net care) fault)
+    → IsAccepted (decision_of net care limit what) (Rewrites (Some cases)) (outcome_of end)
+was_split net care limit what cases (Ok other) end same form fault = record { is = inl (record { other = other; form = form; is = same }); made = tt }
+was_split net care limit what cases (Err (TooLarge size)) end same form fault =
+    record { is = inr (record { over = fault.0; is = same ∙ ap (λ (n : ℕ). told (Outgrows n)) fault.1 }); made = tt }
+was_split net care limit what cases (Err Memory) end same form fault = absurd same
+
+-- the same of its graph
+pub split_was_graphed : (encoding : Encoding) (net : Parts) (care : CareSet) (limit : ℕ) (what : Observe) (cases : ℕ) (other : Parts) (made : Result Built AigFault) (end : Told) → IsToldOfGraph encoding other made end
+    → IsNetlist net → Accepts net care what → IsLoopFreeForm net care other
+    → IfOk made (λ graph. graph ≡ built other) → IfOk made (λ graph. length graph.aig.ands ≤ most_ands)
+    → IfOk made (λ graph. (net : Parts) (care : CareSet) (what : Observe) → IsNetlist net → Accepts net care what → IsLoopFreeForm net care other → IsGraphIn net care other graph)
+    → IfErr made (λ fault. fault ≡ ManyAnds → most_ands < length (built other).aig.ands)
+    → IsAccepted (decision_of net care limit what) (WritesGraph encoding (Some cases)) (outcome_of end)
+split_was_graphed encoding net care limit what cases other (Ok graph) end same valid accepts form is few graphing many =
+    record {
+      is = inl (record {
+        other = other;
+        form = form;
+        graph = λ fits. subst (λ (g : Built). IsGraphIn net care other g) is (graphing net care what valid accepts form);
+        is = same ∙ sym (graph_fits encoding other graph few) ∙ ap (λ (g : Built). told (aiger_told encoding other g)) is;
+      });
+      made = tt;
+    }
+split_was_graphed encoding net care limit what cases other (Err ManyAnds) end same valid accepts form is few graphing many =
+    record {
+      is = inl (record {
+        other = other;
+        form = form;
+        graph = λ fits. absurd (let over = many refl in omega (arith, over, fits));
+        is = same ∙ sym (graph_outgrows encoding other (built other) (many refl));
+      });
+      made = tt;
+    }
+split_was_graphed encoding net care limit what cases other (Err NoRoom) end same valid accepts form is few graphing many = absurd same
+
+pub split_outgrown : (encoding : Encoding) (net : Parts) (care : CareSet) (limit : ℕ) (what : Observe) (cases : ℕ) (fault : UnrollFault) (end : Told) → IsOutgrown fault end
+    → IsCaseFault (rewritten_size net care) fault → IsAccepted (decision_of net care limit what) (WritesGraph encoding (Some cases)) (outcome_of end)
+split_outgrown encoding net care limit what cases (TooLarge size) end same fault =
+    record { is = inr (record { over = fault.0; is = same ∙ ap (λ (n : ℕ). told (Outgrows n)) fault.1 }); made = tt }
+split_outgrown encoding net care limit what cases Memory end same fault = absurd same

@@ -1,6 +1,10 @@
--- The answers to a request, by its files. There is one, but for a wire that is to be explained and for an assumption.
-use Rattle.std.specs.Prelude.{◌≡◌, ◌+◌, ◌-◌, Bool, List, length, Some, None, MatchOption}
+-- The answers to a request, by its files. There is one, but for a wire that is to be explained, for an assumption, and for a
+-- netlist that is split by cases.
+use Rattle.std.specs.Prelude.{◌≡◌, ◌<◌, ◌≤◌, ◌⊎◌, ◌+◌, ◌-◌, Bool, List, length, Some, None, MatchOption}
 use Rattle.std.specs.declared.option.Option.{Option}
+use Rattle.aig_core.specs.Building.{built}
+use Rattle.blif_write.specs.Written.{written}
+use Rattle.cyc_base.specs.declared.limits.TheConstants.{MAX_REWRITTEN_ITEMS}
 use Rattle.cyc_base.specs.declared.sig.Sig.{Sig}
 use Rattle.cyc_io.specs.Files.{Files}
 use Rattle.netlist.specs.declared.parts.Parts.{Parts}
@@ -11,10 +15,13 @@ use Rattle.explanations.specs.declared.explanation.Explanation.{Explanation}
 use Rattle.refusals.specs.Refusals.{refusal}
 use Rattle.refusals.specs.declared.refusal.Refusal.{Refusal}
 use Rattle.refusals.specs.declared.refusal.Refusal.TheVariants.{Undetermined}
+use Rattle.rewriting.specs.Graphs.{most_ands, IsGraphIn}
+use Rattle.rewriting.specs.Rewriting.{rewritten_size, IsLoopFreeForm}
 use Rattle.report.specs.Messages.{too_large_text, too_many_rows_text}
-use Rattle.commands.specs.Words.{command_of, Purpose, Explains}
+use Rattle.commands.specs.Words.{command_of, Purpose, Rewrites, WritesGraph, Explains}
+use Rattle.commands.specs.declared.encoding.Encoding.{Encoding}
 use Rattle.commands.specs.declared.form.Form.{Form}
-use Rattle.cyc_tool.specs.Endings.{accepted_told, refused_told, wire_explained, assumption_told, comparison_told}
+use Rattle.cyc_tool.specs.Endings.{accepted_told, aiger_told, refused_told, wire_explained, assumption_told, comparison_told}
 use Rattle.cyc_tool.specs.Plans.{Ending, Prints, PrintsBeside, Refuses, Declines, Outgrows, WantsRows, Decision, Comparison, Plan, Reads, Faulty, WantsMemory, Ends, Decides, Assumes, Compares, plan_of}
 use Rattle.cyc_tool.specs.Requests.{Request}
 use Rattle.cyc_tool.specs.Texts.{Outcome, on_out, on_both, on_err, usage, has_fault, no_memory, read_failed}
@@ -45,9 +52,34 @@ abbrev pub IsRefusalOutcome : Parts → Purpose → Refusal → Outcome → Type
 IsRefusalOutcome net (Explains form) (Undetermined v wire) end = IsWireExplained form net v wire end
 IsRefusalOutcome net purpose refused end = end ≡ told (refused_told net purpose refused)
 
+-- The text of a netlist without loops is told that stands in the place of the decision's. It isn't the only one: other
+-- columns may be picked for the cases.
+pub record IsWrittenByCases (decision : Decision) (end : Outcome) : Type 0 where
+  pub other : Parts
+  pub form : IsLoopFreeForm decision.net decision.care other
+  pub is : end ≡ told (Prints (written other))
+
+-- The same of its graph.
+pub record IsGraphedByCases (encoding : Encoding) (decision : Decision) (end : Outcome) : Type 0 where
+  pub other : Parts
+  pub form : IsLoopFreeForm decision.net decision.care other
+  pub graph : length (built other).aig.ands ≤ most_ands → IsGraphIn decision.net decision.care other (built other)
+  pub is : end ≡ told (aiger_told encoding other (built other))
+
+-- The netlist without loops is too large, also where it isn't split, and its size is told.
+pub record IsTooLarge (decision : Decision) (end : Outcome) : Type 0 where
+  pub over : MAX_REWRITTEN_ITEMS < rewritten_size decision.net decision.care
+  pub is : end ≡ told (Outgrows (rewritten_size decision.net decision.care))
+
+-- an outcome of a decision that accepts
+abbrev pub IsAcceptedOutcome : Decision → Purpose → Outcome → Type 0
+IsAcceptedOutcome decision (Rewrites (Some cases)) end = IsWrittenByCases decision end ⊎ IsTooLarge decision end
+IsAcceptedOutcome decision (WritesGraph encoding (Some cases)) end = IsGraphedByCases encoding decision end ⊎ IsTooLarge decision end
+IsAcceptedOutcome decision purpose end = end ≡ told (accepted_told decision purpose)
+
 -- an outcome of a decision with this verdict
 abbrev pub IsVerdictOutcome : Decision → Purpose → Option Refusal → Outcome → Type 0
-IsVerdictOutcome decision purpose None end = end ≡ told (accepted_told decision purpose)
+IsVerdictOutcome decision purpose None end = IsAcceptedOutcome decision purpose end
 IsVerdictOutcome decision purpose (Some refused) end = IsRefusalOutcome decision.net purpose refused end
 
 -- What is found where an assumption is looked for is told. It isn't the only one: an assumption may be found by other rows.

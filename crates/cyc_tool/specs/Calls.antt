@@ -27,8 +27,8 @@ use Rattle.equal.specs.Rebound.{IsLimited as IsComparisonLimited}
 use Rattle.equality.specs.Shown.{ShowsItself}
 use Rattle.rewriting.specs.Graphs.{graph_of, most_ands, IsGraphing}
 use Rattle.rewriting.specs.Rewriting.{rewritten, rewritten_size, IsRewriting}
-use Rattle.cyc_tool.specs.Answer.{told, verdict_of, IsVerdictOutcome, IsAssumed, compared}
-use Rattle.cyc_tool.specs.Endings.{accepted_told, care_text}
+use Rattle.cyc_tool.specs.Answer.{told, verdict_of, IsAcceptedOutcome, IsVerdictOutcome, IsAssumed, compared}
+use Rattle.cyc_tool.specs.Endings.{care_text}
 use Rattle.cyc_tool.specs.Plans.{Role, Netlist, Care, Vectors, Recorded, Decision, Comparison, Plan, Reads, Faulty, WantsMemory, Ends, Decides, Assumes, Compares, plan_of}
 use Rattle.cyc_tool.specs.Requests.{Request, Shows}
 use Rattle.cyc_tool.specs.Texts.{Outcome, usage, has_fault, read_failed, limit_reached, no_memory}
@@ -97,12 +97,14 @@ pub record IsLimited (decision : Decision) (nodes : Arena) : Type 0 where
   pub below : IsBelowEnough decision.net decision.care decision.limit
 
 -- What is made for the purpose of a decision whose netlist is accepted, unless it would be too large: to rewrite, a netlist
--- without loops that shows the same in all runs; to write a graph, one whose machine does.
+-- without loops that shows the same in all runs; to write a graph, one whose machine does. What is made by cases is told so.
 abbrev pub IsMade : Decision → Purpose → Type 0
-IsMade decision Rewrites =
+IsMade decision (Rewrites None) =
     rewritten_size decision.net decision.care ≤ MAX_REWRITTEN_ITEMS
     → IsRewriting decision.net decision.care (rewritten decision.net decision.care)
-IsMade decision (WritesGraph encoding) =
+IsMade decision (Rewrites (Some cases)) = Unit {0}
+IsMade decision (WritesGraph encoding (Some cases)) = Unit {0}
+IsMade decision (WritesGraph encoding None) =
     rewritten_size decision.net decision.care ≤ MAX_REWRITTEN_ITEMS
     → length (graph_of decision.net decision.care).aig.ands ≤ most_ands
     → IsGraphing decision.net decision.care (graph_of decision.net decision.care)
@@ -118,7 +120,7 @@ IsMadeFor decision purpose (Some refused) = Unit {0}
 
 -- an accepted netlist is told so
 pub record IsAccepted (decision : Decision) (purpose : Purpose) (end : Outcome) : Type 0 where
-  pub is : end ≡ told (accepted_told decision purpose)
+  pub is : IsAcceptedOutcome decision purpose end
   pub made : IsMade decision purpose
 
 -- A decision came to its verdict, of which this is told, or met its limit of nodes.

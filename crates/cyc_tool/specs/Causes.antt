@@ -12,7 +12,10 @@ use Rattle.refusals.specs.Refusals.{IsUnknownAt, Proves}
 use Rattle.refusals.specs.declared.refusal.Refusal.{Refusal}
 use Rattle.refusals.specs.declared.refusal.Refusal.TheVariants.{EmptyCare, Undetermined}
 use Rattle.verdict.specs.Enough.{IsEnough}
+use Rattle.aig_core.specs.Building.{built}
 use Rattle.blif_write.specs.Written.{written}
+use Rattle.commands.specs.declared.encoding.Encoding.{Encoding}
+use Rattle.netlist.specs.declared.parts.Parts.{Parts}
 use Rattle.commands.specs.Words.{Command, Help, HelpOn, Version, command_of, Purpose, Rewrites, WritesGraph, Storms}
 use Rattle.cyc_base.specs.declared.sig.Sig.{Sig}
 use Rattle.storm.specs.Laws.{PlaysAsStorm}
@@ -22,8 +25,8 @@ use Rattle.equal.specs.Matching.{unmatched}
 use Rattle.equal.specs.Rebound.{IsEnoughForBoth, IsLimited as IsComparisonLimited}
 use Rattle.equality.specs.Runs.{RunAlike}
 use Rattle.equality.specs.Shown.{ShowsItself}
-use Rattle.rewriting.specs.Graphs.{graph_of, IsGraphing}
-use Rattle.rewriting.specs.Rewriting.{rewritten, IsRewriting}
+use Rattle.rewriting.specs.Graphs.{graph_of, IsGraphIn, IsGraphing}
+use Rattle.rewriting.specs.Rewriting.{rewritten, IsLoopFreeForm, IsRewriting}
 use Rattle.cyc_tool.specs.Answer.{told, verdict_of, IsVerdictOutcome, IsAssumed, compared, IsAnswer}
 use Rattle.cyc_tool.specs.Calls.{ShelfCall, SinkCall, ReadFailed, WriteFailed, Takes, AreGiven, rest_of, IsLimited, IsSearchLimited, IsCareFile, IsTold}
 use Rattle.cyc_tool.specs.Endings.{accepted_told, care_text, graph_text}
@@ -100,15 +103,30 @@ pub record IsStormed (decision : Decision) (rounds : ℕ) (out : SinkCall) : Typ
   pub storm : PlaysAsStorm decision.net vector (storm_of decision.net vector rounds)
   pub text : Takes out (storm_text decision.net vector rounds)
 
+-- By cases, the text of some netlist without loops is on out, which reads back and shows the same in all runs.
+pub record HasFormByCases (decision : Decision) (out : SinkCall) : Type 0 where
+  pub other : Parts
+  pub form : IsLoopFreeForm decision.net decision.care other
+  pub text : Takes out (written other)
+
+-- Or that of its graph.
+pub record HasGraphByCases (encoding : Encoding) (decision : Decision) (out : SinkCall) : Type 0 where
+  pub other : Parts
+  pub form : IsLoopFreeForm decision.net decision.care other
+  pub graph : IsGraphIn decision.net decision.care other (built other)
+  pub text : Takes out (graph_text encoding other (built other))
+
 -- What is on out for a decision whose status is 0, and what a user has of it: to rewrite, the text of a netlist without
 -- loops, which reads back and shows the same in all runs; to write a graph, the AIGER text of the rewritten netlist's, whose
 -- machine has the outputs and the latches of each run within care at each tick; for a storm, one; else that the netlist is
 -- accepted.
 abbrev pub HasMade : Decision → Purpose → SinkCall → Type 0
-HasMade decision Rewrites out =
+HasMade decision (Rewrites None) out =
     IsRewriting decision.net decision.care (rewritten decision.net decision.care)
     × Takes out (written (rewritten decision.net decision.care))
-HasMade decision (WritesGraph encoding) out =
+HasMade decision (Rewrites (Some cases)) out = HasFormByCases decision out
+HasMade decision (WritesGraph encoding (Some cases)) out = HasGraphByCases encoding decision out
+HasMade decision (WritesGraph encoding None) out =
     IsGraphing decision.net decision.care (graph_of decision.net decision.care)
     × Takes out (graph_text encoding (rewritten decision.net decision.care) (graph_of decision.net decision.care))
 HasMade decision (Storms rounds) out = IsStormed decision rounds out

@@ -102,10 +102,11 @@ abbrev pub wire_explained : Form → Parts → List Bool → Sig → Explanation
 wire_explained Lines net v wire why = refusal_text net (Undetermined v wire) ++ explanation_text net why
 wire_explained Dot net v wire why = explanation_graph net wire (fix net (bits v)) why
 
+-- what is told of an accepted netlist that isn't split by cases
 abbrev pub accepted_told : Decision → Purpose → Ending
 accepted_told decision Judges = Prints (accepted_text decision.net (count_of_loops decision.net) (loose_told decision))
-accepted_told decision Rewrites = rewritten_told decision
-accepted_told decision (WritesGraph encoding) = graph_told encoding decision
+accepted_told decision (Rewrites cases) = rewritten_told decision
+accepted_told decision (WritesGraph encoding cases) = graph_told encoding decision
 accepted_told decision (Explains form) = Prints (loops_explained form decision.net decision.care (loose_told decision))
 accepted_told decision (Demonstrates cells) =
     Prints (ring_line cells decision.net (count_of_loops decision.net) (length (rewritten decision.net decision.care).gates))
@@ -113,8 +114,8 @@ accepted_told decision (Storms rounds) = Declines (accepted_text decision.net (c
 
 abbrev pub refused_told : Parts → Purpose → Refusal → Ending
 refused_told net Judges refused = Refuses (refusal_text net refused)
-refused_told net Rewrites refused = Declines (refusal_text net refused)
-refused_told net (WritesGraph encoding) refused = Declines (refusal_text net refused)
+refused_told net (Rewrites cases) refused = Declines (refusal_text net refused)
+refused_told net (WritesGraph encoding cases) refused = Declines (refusal_text net refused)
 refused_told net (Explains form) refused = Refuses (refusal_shown form net refused)
 refused_told net (Demonstrates cells) refused = Refuses (refusal_text net refused)
 refused_told net (Storms rounds) refused = storm_or_refusal net rounds refused

@@ -25,6 +25,7 @@ ghost use Rattle.cyc_tool.specs.Seen.{IsLimitOf, IsOutgrown, IsOverfull, IsRefus
 
 use crate::explained::{tell_explained, tell_loops_explained};
 use crate::outcome::Outcome;
+use crate::split::{tell_graphed_in, tell_rewritten_in};
 use crate::status;
 use crate::storms::tell_storm;
 use crate::texts::{
@@ -90,7 +91,7 @@ fn tell_no_storm(
 }
 
 // That the rewritten netlist is too large.
-fn tell_outgrown(alloc: Global, fault: &UnrollFault) -> Result<Outcome, AllocError>
+pub(crate) fn tell_outgrown(alloc: Global, fault: &UnrollFault) -> Result<Outcome, AllocError>
     ensures { IfOk result (λ told. IsOutgrown fault.now told) }
 {
     match fault {
@@ -100,7 +101,7 @@ fn tell_outgrown(alloc: Global, fault: &UnrollFault) -> Result<Outcome, AllocErr
 }
 
 // What rewriting comes to: the text of the rewritten netlist, or that it is too large.
-fn tell_rewriting(
+pub(crate) fn tell_rewriting(
     alloc: Global,
     rewriting: &Result<Netlist, UnrollFault>,
 ) -> Result<Outcome, AllocError>
@@ -113,7 +114,7 @@ fn tell_rewriting(
 }
 
 // Rewrites an accepted netlist, and tells what comes of it.
-fn tell_rewritten(
+pub(crate) fn tell_rewritten(
     alloc: Global,
     looped: &LoopedNetlist<'_>,
     sweeps: &SweepCounts,
@@ -122,7 +123,7 @@ fn tell_rewritten(
     requires columns { columns looped.now.net ≤ 1000000000 }
     ensures { IfOk result (λ told. (care : CareSet) (observe : Observed) (limit : ℕ) → Accepts looped.now.net care observe →
         AreSweepsOnCare looped.now.net looped.now.blocks looped.now.cut care sweeps.now →
-        IsAccepted record { net = looped.now.net; care = care; limit = limit; observe = observe } Rewrites (outcome_of told)) }
+        IsAccepted record { net = looped.now.net; care = care; limit = limit; observe = observe } (Rewrites None) (outcome_of told)) }
 {
     let rewriting = rewrite(alloc, looped, sweeps);
     tell_rewriting(alloc, &rewriting)
@@ -139,7 +140,7 @@ fn tell_overfull(alloc: Global, fault: &AigFault) -> Result<Outcome, AllocError>
 }
 
 // What comes of the graph of a netlist: its text, or that it has too many ANDs.
-fn tell_graph(
+pub(crate) fn tell_graph(
     alloc: Global,
     other: &Netlist,
     graph: &Result<Built, AigFault>,
@@ -160,14 +161,14 @@ fn tell_graph_of(alloc: Global, other: &Netlist, encoding: Encoding) -> Result<O
     requires columns { columns other.now ≤ 1000000000 }
     ensures { IfOk result (λ told. (net : Parts) (care : CareSet) (observe : Observed) (limit : ℕ) → IsNetlist net → Accepts net care observe →
         rewritten_size_of net care ≤ 4000000 → IsRewriting net care other.now →
-        IsAccepted record { net = net; care = care; limit = limit; observe = observe } (WritesGraph encoding) (outcome_of told)) }
+        IsAccepted record { net = net; care = care; limit = limit; observe = observe } (WritesGraph encoding None) (outcome_of told)) }
 {
     let made = graph(alloc, other);
     tell_graph(alloc, other, &made, encoding)
 }
 
 // Rewrites an accepted netlist, and tells what comes of its graph.
-fn tell_graphed(
+pub(crate) fn tell_graphed(
     alloc: Global,
     looped: &LoopedNetlist<'_>,
     sweeps: &SweepCounts,
@@ -178,7 +179,7 @@ fn tell_graphed(
     requires columns { columns looped.now.net ≤ 1000000000 }
     ensures { IfOk result (λ told. (care : CareSet) (observe : Observed) (limit : ℕ) → Accepts looped.now.net care observe →
         AreSweepsOnCare looped.now.net looped.now.blocks looped.now.cut care sweeps.now →
-        IsAccepted record { net = looped.now.net; care = care; limit = limit; observe = observe } (WritesGraph encoding) (outcome_of told)) }
+        IsAccepted record { net = looped.now.net; care = care; limit = limit; observe = observe } (WritesGraph encoding None) (outcome_of told)) }
 {
     let rewriting = rewrite(alloc, looped, sweeps);
     match &rewriting {
@@ -284,22 +285,30 @@ fn tell_judgement(
 fn tell_acceptance(
     alloc: Global,
     looped: &LoopedNetlist<'_>,
-    observe: Observe,
+    care: &Care,
+    task: Task,
     making: Making,
     sweeps: &SweepCounts,
     loose: u32,
+    d: &mut Diagrams,
 ) -> Result<Outcome, AllocError>
     requires valid { IsNetlist looped.now.net }
     requires sweeps { length sweeps.now.per_block ≡ length looped.now.blocks.list }
     requires columns { columns looped.now.net ≤ 1000000000 }
-    ensures { IfOk result (λ told. (care : CareSet) → IsAcceptance looped.now.net looped.now.blocks looped.now.cut care observe sweeps.now loose → (limit : ℕ) →
-        IsAccepted record { net = looped.now.net; care = care; limit = limit; observe = observe } (making_seen making) (outcome_of told)) }
+    requires care { IsCareOf looped.now.net care.now }
+    requires limit { task.limit ≤ most_nodes }
+    ensures { IfOk result (λ told. IsAcceptance looped.now.net looped.now.blocks looped.now.cut care.now task.observe sweeps.now loose → (limit : ℕ) →
+        IsAccepted record { net = looped.now.net; care = care.now; limit = limit; observe = task.observe } (making_seen making) (outcome_of told)) }
 {
     match making {
-        Making::Rewrite => tell_rewritten(alloc, looped, sweeps),
-        Making::Aiger(encoding) => tell_graphed(alloc, looped, sweeps, encoding),
+        Making::Rewrite(split) => {
+            tell_rewritten_in(alloc, looped, care, task.limit, split, sweeps, d)
+        }
+        Making::Aiger(encoding, split) => {
+            tell_graphed_in(alloc, looped, care, task.limit, split, sweeps, encoding, d)
+        }
         Making::Explain(form) => {
-            let number = loose_told(observe, loose);
+            let number = loose_told(task.observe, loose);
             tell_loops_explained(alloc, looped, sweeps, number, form)
         }
         Making::Demonstrate(cells) => {
@@ -322,7 +331,7 @@ fn tell_refusal(
 {
     let net = looped.net();
     match making {
-        Making::Rewrite | Making::Aiger(_) => tell_declined(alloc, net, refusal),
+        Making::Rewrite(_) | Making::Aiger(_, _) => tell_declined(alloc, net, refusal),
         Making::Explain(form) => tell_explained(alloc, looped, refusal, form),
         Making::Demonstrate(_) => tell_refused(alloc, net, refusal),
     }
@@ -332,19 +341,23 @@ fn tell_refusal(
 fn tell_verdict(
     alloc: Global,
     looped: &LoopedNetlist<'_>,
-    observe: Observe,
+    care: &Care,
+    task: Task,
     making: Making,
     verdict: &Verdict,
+    d: &mut Diagrams,
 ) -> Result<Outcome, AllocError>
     requires valid { IsNetlist looped.now.net }
     requires columns { columns looped.now.net ≤ 1000000000 }
+    requires care { IsCareOf looped.now.net care.now }
+    requires limit { task.limit ≤ most_nodes }
     requires fits { IsTellable looped.now.net looped.now.blocks verdict.now }
-    ensures { IfOk result (λ told. (care : CareSet) → IsVerdict looped.now.net looped.now.blocks looped.now.cut care observe verdict.now → (limit : ℕ) (nodes : Arena) →
-        IsDecided record { net = looped.now.net; care = care; limit = limit; observe = observe } (making_seen making) nodes (outcome_of told)) }
+    ensures { IfOk result (λ told. IsVerdict looped.now.net looped.now.blocks looped.now.cut care.now task.observe verdict.now → (limit : ℕ) (nodes : Arena) →
+        IsDecided record { net = looped.now.net; care = care.now; limit = limit; observe = task.observe } (making_seen making) nodes (outcome_of told)) }
 {
     match verdict {
         Verdict::Accepted { sweeps, loose } => {
-            tell_acceptance(alloc, looped, observe, making, sweeps, *loose)
+            tell_acceptance(alloc, looped, care, task, making, sweeps, *loose, d)
         }
         Verdict::Refused(refusal) => tell_refusal(alloc, looped, making, refusal),
     }
@@ -406,7 +419,7 @@ fn tell_decided(
     let cut = looped.cut();
     let decision = decide(alloc, d, net, blocks, cut, care, task.limit, task.observe);
     match &decision {
-        Ok(verdict) => tell_verdict(alloc, looped, task.observe, making, verdict),
+        Ok(verdict) => tell_verdict(alloc, looped, care, task, making, verdict, d),
         Err(fault) => tell_limited(alloc, fault),
     }
 }

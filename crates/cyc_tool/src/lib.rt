@@ -14,6 +14,7 @@ mod plays;
 mod reading;
 mod ring;
 mod sim_lines;
+mod split;
 pub mod status;
 mod storms;
 mod texts;

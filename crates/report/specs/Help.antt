@@ -15,8 +15,8 @@ topics = Check ∷ Rewrite ∷ Aiger ∷ Explain ∷ Assume ∷ Equal ∷ Flat �
 -- a command's name, its files and its options
 abbrev pub words_of : Topic → List ℕ
 words_of Check = codes "check FILE [--care CARE] [--nodes N] [--observe all|outputs]"
-words_of Rewrite = codes "rewrite FILE [--care CARE] [--nodes N] [--observe all|outputs]"
-words_of Aiger = codes "aiger FILE [--care CARE] [--nodes N] [--observe all|outputs] [--binary]"
+words_of Rewrite = codes "rewrite FILE [--care CARE] [--nodes N] [--observe all|outputs] [--cases N]"
+words_of Aiger = codes "aiger FILE [--care CARE] [--nodes N] [--observe all|outputs] [--binary] [--cases N]"
 words_of Explain = codes "explain FILE [--care CARE] [--nodes N] [--observe all|outputs] [--dot]"
 words_of Assume = codes "assume FILE [--care CARE] [--nodes N] [--observe all|outputs]"
 words_of Equal = codes "equal FILE FILE [--care CARE] [--nodes N]"
@@ -73,6 +73,7 @@ help_tail = lines (
     ∷ codes "  --care CARE         a BLIF file with a model assume, a model invariant, or both: which vectors count"
     ∷ codes "  --nodes N           the most nodes of the decision diagrams, from 1 to 50000000; else 8000000"
     ∷ codes "  --observe outputs   that the outputs and what latches load are determined is enough"
+    ∷ codes "  --cases N           the most cases, from 1 to 4096, into which loops are split; else 1"
     ∷ codes "  --probe KIND        what is shown of the changes of a run"
     ∷ codes ""
     ∷ codes "Statuses:"

@@ -59,6 +59,7 @@ A file that is - is standard input. Options stand behind the files, in any order
   --care CARE         a BLIF file with a model assume, a model invariant, or both: which vectors count
   --nodes N           the most nodes of the decision diagrams, from 1 to 50000000; else 8000000
   --observe outputs   that the outputs and what latches load are determined is enough
+  --cases N           the most cases, from 1 to 4096, into which loops are split; else 1
   --probe KIND        what is shown of the changes of a run
 
 Statuses:
@@ -82,8 +83,10 @@ fn words(topic: Topic) -> &'static [u8]
 {
     match topic {
         Topic::Check => b"check FILE [--care CARE] [--nodes N] [--observe all|outputs]",
-        Topic::Rewrite => b"rewrite FILE [--care CARE] [--nodes N] [--observe all|outputs]",
-        Topic::Aiger => b"aiger FILE [--care CARE] [--nodes N] [--observe all|outputs] [--binary]",
+        Topic::Rewrite =>
+            b"rewrite FILE [--care CARE] [--nodes N] [--observe all|outputs] [--cases N]",
+        Topic::Aiger =>
+            b"aiger FILE [--care CARE] [--nodes N] [--observe all|outputs] [--binary] [--cases N]",
         Topic::Explain => b"explain FILE [--care CARE] [--nodes N] [--observe all|outputs] [--dot]",
         Topic::Assume => b"assume FILE [--care CARE] [--nodes N] [--observe all|outputs]",
         Topic::Equal => b"equal FILE FILE [--care CARE] [--nodes N]",

@@ -5,7 +5,6 @@ use Rattle.cyc_base.specs.declared.trit.Trit.{Trit}
 use Rattle.cyc_base.specs.Values.{bits}
 use Rattle.netlist.specs.declared.parts.Parts.{Parts}
 use Rattle.netlist.specs.Netlists.{IsNetlist}
-use Rattle.netlist.specs.Walks.{IsLoopFree}
 use Rattle.loops.specs.declared.structure.Blocks.{Blocks}
 use Rattle.loops.specs.declared.structure.Cut.{Cut}
 use Rattle.loops.specs.declared.structure.SweepCounts.{SweepCounts}
@@ -19,12 +18,12 @@ use Rattle.loops.proofs.Told.{told_parts}
 use Rattle.isolation.proofs.SettlingLemmas.{loops-are}
 use Rattle.care_sets.specs.Care.{CareSet, IsCareVector}
 use Rattle.refusals.proofs.RefusalLemmas.{length-bits}
-use Rattle.schedules.specs.Settling.{HasSameInterface, Same}
+use Rattle.schedules.specs.Settling.{HasSameInterface}
 use Rattle.schedules.specs.Accepted.{TellsAsMuch}
 use Rattle.schedules.proofs.SameLemmas.{same_by_fixpoints}
 use Rattle.refusals.specs.declared.observe.Observe.{Observe}
 use Rattle.refusals.specs.Acceptance.{Accepts}
-use Rattle.blif_write.specs.Laws.{HasCovers, ReadsBack}
+use Rattle.blif_write.specs.Laws.{HasCovers}
 use Rattle.blif_write.proofs.ReadingBack.{reads_back}
 use Rattle.unroll.specs.Laws.{AreEnough}
 use Rattle.unroll.specs.Unrolled.{sweeps_of, unrolled, unrolled_size, shift, kept_latch, IsOfLoops}
@@ -65,8 +64,18 @@ rewritten_shows_the_same net care what valid accepts = grind (arith, same_by_fix
 -- what a user has of it
 pub is_rewriting : (net : Parts) (care : CareSet) (what : Observe) (other : Parts) → IsNetlist net → HasCovers net → Accepts net care what →
     other ≡ rewritten net care → IsNetlist other → rewritten_size net care ≤ 4000000 → IsRewriting net care other
-is_rewriting net care what other valid have accepts is other_valid small =
-    grind (arith, rewritten_is_loop_free net care, reads_back, reads_back (rewritten net care), unrolled_has_covers net (loops_of net) (sweeps_needed net care) have, rewritten_shows_the_same net care what valid accepts, rewritten_has_its_size net care)
+is_rewriting net care what other valid have accepts is other_valid small = record {
+  is = is;
+  form = record {
+    loop_free = rw is (rewritten_is_loop_free net care);
+    reads_back = reads_back other other_valid (rw is (unrolled_has_covers net (loops_of net) (sweeps_needed net care) have)) fits;
+    tells = rw is (tells_as_much net care);
+    same = rw is (rewritten_shows_the_same net care what valid accepts);
+  };
+}
+  where
+    fits : length other.latches + length other.gates ≤ 4000000
+    fits = rw is (omega (arith, small, rewritten_has_its_size net care))
 
 -- ---- by blocks, a cut and counted sweeps
 

@@ -33,12 +33,16 @@ RunsAs net care machine = (run : Run) → IsRun net run → IsWithinCare net car
     (outputs_of net run ≡ shown_over machine run.latches (inputs_of run))
     × (latches_of net run ≡ states_over machine run.latches (inputs_of run))
 
--- what a user has of the graph
-pub record IsGraphing (net : Parts) (care : CareSet) (graph : Built) : Type 0 where
-  pub is : graph ≡ graph_of net care
+-- what a user has of the graph of a netlist that stands in the place of this one
+pub record IsGraphIn (net : Parts) (care : CareSet) (other : Parts) (graph : Built) : Type 0 where
+  pub is : graph ≡ built other
   -- it has the netlist's inputs and latches, and an edge for each output and for each latch
   pub fits : FitsNetlist net graph
   -- the names and inits that its text tells are the netlist's
-  pub interface : HasSameInterface net (rewritten net care)
+  pub interface : HasSameInterface net other
   -- and its machine is what the netlist does
   pub runs : RunsAs net care (machine_of graph)
+
+-- what a user has of the graph of the rewritten netlist
+abbrev pub IsGraphing : Parts → CareSet → Built → Type 0
+IsGraphing net care graph = IsGraphIn net care (rewritten net care) graph

@@ -2,3 +2,5 @@
 pub mod Rewriting
 pub mod Graphs
 pub mod Laws
+-- The code's own: what its parts say to each other.
+pub mod Splits

@@ -1,5 +1,5 @@
 -- The netlist without loops that an accepted netlist is rewritten into, on its care set, and what a user has of it.
-use Rattle.std.specs.Prelude.{◌≡◌, ℕ, Bool, true, false, List, length}
+use Rattle.std.specs.Prelude.{◌≡◌, ◌<◌, ℕ, Bool, true, false, List, length}
 use Rattle.std.specs.List.{list_all, position_or_len, range_with_len}
 use Rattle.cyc_base.specs.declared.trit.Trit.{Trit}
 use Rattle.cyc_base.specs.declared.trit.Trit.TheVariants.{Zero, One, X}
@@ -11,8 +11,11 @@ use Rattle.loops.specs.Found.{loops_of}
 use Rattle.loops.specs.Sweeps.{value_in, sweeps, cuts_of}
 use Rattle.care_sets.specs.Care.{CareSet}
 use Rattle.refusals.specs.Refusals.{care_vectors}
+use Rattle.schedules.specs.Accepted.{TellsAsMuch}
 use Rattle.schedules.specs.Settling.{Same}
 use Rattle.unroll.specs.Unrolled.{unrolled, unrolled_size}
+use Rattle.unroll.specs.declared.fault.UnrollFault.{UnrollFault}
+use Rattle.unroll.specs.declared.fault.UnrollFault.TheVariants.{TooLarge, Memory}
 use Rattle.blif_write.specs.Laws.{ReadsBack}
 
 -- two values are one
@@ -48,12 +51,23 @@ rewritten net care = unrolled net (loops_of net) (sweeps_needed net care)
 abbrev pub rewritten_size : Parts → CareSet → ℕ
 rewritten_size net care = unrolled_size net (loops_of net).same (sweeps_needed net care)
 
--- what a user has of it
-pub record IsRewriting (net : Parts) (care : CareSet) (other : Parts) : Type 0 where
-  pub is : other ≡ rewritten net care
+-- a netlist without loops that stands in the place of this one within care
+pub record IsLoopFreeForm (net : Parts) (care : CareSet) (other : Parts) : Type 0 where
   -- no walk along pins leads from a gate back to it
   pub loop_free : IsLoopFree other
   -- its text is read as one model, which flattens to it
   pub reads_back : ReadsBack other
+  -- on each care vector its fixpoint tells of the outputs and of what latches load at least what the netlist's does
+  pub tells : TellsAsMuch net other care
   -- each run of the netlist within care shows what each run of this one does, whatever their windows, pasts and schedules
   pub same : Same net other care
+
+-- what a user has of the rewritten netlist
+pub record IsRewriting (net : Parts) (care : CareSet) (other : Parts) : Type 0 where
+  pub is : other ≡ rewritten net care
+  pub form : IsLoopFreeForm net care other
+
+-- a fault of rewriting by cases, where the rewritten netlist has this size: it is too large, or memory ran out
+abbrev pub IsCaseFault : ℕ → UnrollFault → Type 0
+IsCaseFault size (TooLarge answered) = (4000000 < size) × (answered ≡ size)
+IsCaseFault size Memory = Unit {0}

@@ -9,8 +9,8 @@ ghost use Rattle.netlist.specs.Walks.{IsLoopFree};
 ghost use Rattle.netlist.specs.declared.parts.Parts.{Parts};
 ghost use Rattle.refusals.specs.Acceptance.{Accepts};
 ghost use Rattle.refusals.specs.declared.observe.Observe.{Observe};
-ghost use Rattle.rewriting.specs.Graphs.{most_ands, IsGraphing};
-ghost use Rattle.rewriting.specs.Rewriting.{IsRewriting};
+ghost use Rattle.rewriting.specs.Graphs.{most_ands, IsGraphIn};
+ghost use Rattle.rewriting.specs.Rewriting.{IsLoopFreeForm};
 
 use aig_core::{AigFault, Built, build};
 use netlist::Netlist;
@@ -18,8 +18,8 @@ use std::alloc::Global;
 
 /// The and-inverter graph of a netlist without loops, in which equal ANDs are one (Kuehlmann and Krohm 1997).
 ///
-/// Of the rewritten netlist of an accepted one it is a machine that does at each tick what the accepted one does in each
-/// run within care, whatever the window, the past and the fair schedules are.
+/// Of a netlist that stands in the place of an accepted one, as the rewritten one does, it is a machine that does at each
+/// tick what the accepted one does in each run within care, whatever the window, the past and the fair schedules are.
 ///
 /// The condition is that the netlist has no loop, and that it has at most 1,000,000,000 inputs and latches.
 ///
@@ -33,7 +33,7 @@ pub fn graph(alloc: Global, other: &Netlist) -> Result<Built, AigFault>
     ensures few { IfOk result (λ graph. length graph.aig.ands ≤ most_ands) }
     ensures fits { IfOk result (FitsNetlist other.now) }
     ensures graphing { IfOk result (λ graph. (net : Parts) (care : CareSet) (what : Observe) → IsNetlist net → Accepts net care what →
-        IsRewriting net care other.now → IsGraphing net care graph) }
+        IsLoopFreeForm net care other.now → IsGraphIn net care other.now graph) }
     ensures too_large { IfErr result (λ fault. fault ≡ AigFault.TooLarge → most_ands < length (built other.now).aig.ands) }
 {
     match build(alloc, other)? {

@@ -2,10 +2,13 @@
 //! Edwards 2003).
 //!
 //! It stands on `unroll`, for the netlist that is made, on `schedules`, for sameness over all runs, on `blif_write`,
-//! for reading back, and on `aig_core`, for its graph. The layer above uses that `rewrite` and `graph` give all that a
-//! user has of the netlist (`IsRewriting`) and of the graph (`IsGraphing`), and that `rewritten_gates` counts its gates.
+//! for reading back, on `aig_core`, for its graph, and on `case_split`, for the netlist split by cases. The layer above uses
+//! that `rewrite`, `rewrite_by_cases` and `graph` give all that a user has of the netlist (`IsRewriting`, `IsLoopFreeForm`)
+//! and of the graph (`IsGraphIn`), and that `rewritten_gates` counts its gates.
 #![tactic(auto)]
 
+mod allowed_cases;
+mod by_cases;
 mod covers;
 mod graphs;
 pub mod laws;
@@ -13,6 +16,7 @@ mod rewriting;
 mod sizes;
 
 pub use aig_core::{AigFault, Built};
+pub use by_cases::rewrite_by_cases;
 pub use graphs::graph;
 pub use rewriting::rewrite;
 pub use sizes::rewritten_gates;

@@ -12,7 +12,7 @@ tell_verdict-requires-clause-fits c =
 pub returns-in-Ok : goal.returns-in-Ok
 returns-in-Ok c =
     let is = rw (c.net-net.ensures.net, c.blocks-blocks.ensures.blocks, c.cut-cut.ensures.cut) at (rw c.in-Ok.is at c.decide-decision.ensures.verdict) in
-    IfOk-weaker c.tell_verdict.result _ _ (λ told decided. decided c.args.care.now is c.args.task.limit c.decide-decision.new.d) c.tell_verdict.ensures
+    IfOk-weaker c.tell_verdict.result _ _ (λ told decided. decided is c.args.task.limit c.tell_verdict.new.d) c.tell_verdict.ensures
 
 pub returns : goal.returns
 returns c =

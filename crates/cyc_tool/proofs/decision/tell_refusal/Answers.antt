@@ -4,7 +4,7 @@ use Rattle.cyc_tool.proofs.decision.tell_refusal.Goals as goal
 pub returns-in-Rewrite : goal.returns-in-Rewrite
 returns-in-Rewrite c =
     let told = rw c.net-net.ensures.net at c.tell_declined.ensures in
-    elim c.in-Rewrite.is [ inl is ↦ rw is told | inr is ↦ rw is.1 told ]
+    elim c.in-Rewrite.is [ inl is ↦ rw is.1 told | inr is ↦ rw is.2 told ]
 
 pub returns-in-Explain : goal.returns-in-Explain
 returns-in-Explain c = rw c.in-Explain.is c.tell_explained.ensures

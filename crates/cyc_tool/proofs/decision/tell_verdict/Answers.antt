@@ -5,16 +5,16 @@ use Rattle.cyc_tool.proofs.decision.tell_verdict.Goals as goal
 
 pub returns-in-Accepted : goal.returns-in-Accepted
 returns-in-Accepted c =
-    IfOk-weaker c.tell_acceptance.result _ _ (λ told accepted care is limit nodes.
+    IfOk-weaker c.tell_acceptance.result _ _ (λ told accepted is limit nodes.
     let acceptance = rw c.in-Accepted.is at is in
-    accepted_decides c.args.looped.now.net care limit c.args.observe (making_seen c.args.making) nodes (outcome_of told) c.requires.valid acceptance.accepts
-    (accepted care acceptance limit))
+    accepted_decides c.args.looped.now.net c.args.care.now limit c.args.task.observe (making_seen c.args.making) nodes (outcome_of told) c.requires.valid acceptance.accepts
+    (accepted acceptance limit))
     c.tell_acceptance.ensures
 
 pub returns-in-Refused : goal.returns-in-Refused
 returns-in-Refused c =
-    IfOk-weaker c.tell_refusal.result _ _ (λ told same care is limit nodes.
-    refused_decides c.args.looped.now.net care limit c.args.observe (making_seen c.args.making) nodes (outcome_of told) c.in-Refused.refusal c.requires.valid
+    IfOk-weaker c.tell_refusal.result _ _ (λ told same is limit nodes.
+    refused_decides c.args.looped.now.net c.args.care.now limit c.args.task.observe (making_seen c.args.making) nodes (outcome_of told) c.in-Refused.refusal c.requires.valid
     (rw c.in-Refused.is at is) same)
     c.tell_refusal.ensures
 

@@ -1,0 +1,232 @@
+//! Rewriting by cases.
+
+ghost use Rattle.std.specs.Prelude.{◌≡◌, ◌<◌, ◌≤◌, ◌^◌, length, All, IfOk, IfErr, IfSome};
+ghost use Rattle.care_sets.specs.Binding.{IsCareOf};
+ghost use Rattle.care_sets.specs.Care.{columns};
+ghost use Rattle.cyc_base.specs.declared.limits.TheConstants.{MAX_NODES as most_nodes};
+ghost use Rattle.netlist.specs.Netlists.{IsNetlist};
+ghost use Rattle.netlist.specs.Walks.{IsLoopFree};
+ghost use Rattle.refusals.specs.declared.observe.Observe.{Observe as Observed};
+ghost use Rattle.refusals.specs.Acceptance.{Accepts};
+ghost use Rattle.unroll.specs.Laws.{KeepsInterface};
+ghost use Rattle.verdict.specs.Verdicts.{AreSweepsOnCare, IsVerdict};
+ghost use Rattle.rewriting.specs.Rewriting.{rewritten_size as size_of, IsCaseFault, IsLoopFreeForm};
+ghost use Rattle.rewriting.specs.Splits.{IsSplitOf};
+
+use crate::allowed_cases::allowed_cases;
+use crate::rewriting::rewrite;
+use bdd_ops::Diagrams;
+use care_sets::Care;
+use case_split::{SplitFault, copied_marks, pick, split};
+use loops::{LoopedNetlist, SweepCounts, find_blocks, find_cut};
+use netlist::Netlist;
+use refusals::Observe;
+use std::alloc::{AllocError, Global};
+use unroll::UnrollFault;
+use verdict::{DecideFault, Verdict, decide};
+
+/// What was made, or nothing where it would be too large.
+fn rewritten_if_small(made: Result<Netlist, UnrollFault>) -> Result<Option<Netlist>, AllocError>
+    ensures { IfOk result (λ small. IfSome small (λ other. made ≡ Ok other)) }
+{
+    match made {
+        Ok(other) => Ok(Some(other)),
+        Err(UnrollFault::TooLarge { size: _ }) => Ok(None),
+        Err(UnrollFault::Memory) => Err(AllocError),
+    }
+}
+
+/// What was split, or nothing where it might be too large.
+fn split_if_small(made: Result<Netlist, SplitFault>) -> Result<Option<Netlist>, AllocError>
+    ensures { IfOk result (λ small. IfSome small (λ other. made ≡ Ok other)) }
+{
+    match made {
+        Ok(other) => Ok(Some(other)),
+        Err(SplitFault::TooLarge { size: _ }) => Ok(None),
+        Err(SplitFault::Memory) => Err(AllocError),
+    }
+}
+
+/// The netlist split by the cases of these columns that a care vector may have.
+fn split_by(
+    alloc: Global,
+    net: &Netlist,
+    care: &Care,
+    copied: &[bool],
+    picked: &[u32],
+) -> Result<Option<Netlist>, AllocError>
+    requires care { IsCareOf net.now care.now }
+    requires copied { length copied.now ≡ length net.now.gates }
+    requires columns { All (λ column. column < columns net.now) picked.now }
+    requires few { 2 ^ length picked.now ≤ 4096 }
+    requires inputs { length net.now.inputs ≤ 4000000000 }
+    ensures { IfOk result (λ made. IfSome made (IsSplitOf net.now care.now)) }
+{
+    let allowed = allowed_cases(alloc, net, care, picked)?;
+    split_if_small(split(alloc, net, copied, picked, &allowed))
+}
+
+/// The netlist split by at most so many cases, in which these gates are copied, or nothing where no case breaks a loop.
+fn split_marked(
+    alloc: Global,
+    net: &Netlist,
+    care: &Care,
+    copied: &[bool],
+    cases: u32,
+) -> Result<Option<Netlist>, AllocError>
+    requires care { IsCareOf net.now care.now }
+    requires copied { length copied.now ≡ length net.now.gates }
+    requires some { 1 ≤ cases }
+    requires few { cases ≤ 4096 }
+    requires inputs { length net.now.inputs ≤ 4000000000 }
+    ensures { IfOk result (λ made. IfSome made (IsSplitOf net.now care.now)) }
+{
+    let picked = pick(alloc, net, copied, cases)?;
+    if picked.is_empty() {
+        return Ok(None);
+    }
+    split_by(alloc, net, care, copied, &picked)
+}
+
+/// The same, in which the gates of loops are copied, and those between loops.
+fn split_netlist(
+    alloc: Global,
+    looped: &LoopedNetlist<'_>,
+    care: &Care,
+    cases: u32,
+) -> Result<Option<Netlist>, AllocError>
+    requires care { IsCareOf looped.now.net care.now }
+    requires some { 1 ≤ cases }
+    requires few { cases ≤ 4096 }
+    requires inputs { length looped.now.net.inputs ≤ 4000000000 }
+    ensures { IfOk result (λ made. IfSome made (IsSplitOf looped.now.net care.now)) }
+{
+    let copied = copied_marks(alloc, looped)?;
+    let net = looped.net();
+    split_marked(alloc, net, care, &copied, cases)
+}
+
+/// The rewritten netlist of a split one whose blocks and cut wires are found. Where the decision gives up, there is none.
+fn rewrite_looped(
+    alloc: Global,
+    d: &mut Diagrams,
+    looped: &LoopedNetlist<'_>,
+    care: &Care,
+    nodes: u32,
+) -> Result<Option<Netlist>, AllocError>
+    requires inputs { length looped.now.net.inputs ≤ 4000000000 }
+    requires care { IsCareOf looped.now.net care.now }
+    requires nodes { nodes ≤ most_nodes }
+    ensures form { IfOk result (λ made. IfSome made (IsLoopFreeForm looped.now.net care.now)) }
+    ensures interface { IfOk result (λ made. IfSome made (KeepsInterface looped.now.net)) }
+{
+    let net = looped.net();
+    let blocks = looped.blocks();
+    let cut = looped.cut();
+    let decision = decide(alloc, d, net, blocks, cut, care, nodes, Observe::Outputs);
+    match &decision {
+        Ok(verdict) => match verdict {
+            Verdict::Accepted { sweeps, loose: _ } => {
+                rewritten_if_small(rewrite(alloc, looped, sweeps))
+            }
+            Verdict::Refused(_) => Ok(None),
+        },
+        Err(DecideFault::NodeLimit { nodes: _ }) => Ok(None),
+        Err(DecideFault::Memory) => Err(AllocError),
+    }
+}
+
+/// The rewritten netlist of a split one.
+fn rewrite_split(
+    alloc: Global,
+    d: &mut Diagrams,
+    split: &Netlist,
+    care: &Care,
+    nodes: u32,
+) -> Result<Option<Netlist>, AllocError>
+    requires inputs { length split.now.inputs ≤ 4000000000 }
+    requires care { IsCareOf split.now care.now }
+    requires nodes { nodes ≤ most_nodes }
+    ensures form { IfOk result (λ made. IfSome made (IsLoopFreeForm split.now care.now)) }
+    ensures interface { IfOk result (λ made. IfSome made (KeepsInterface split.now)) }
+{
+    let blocks = find_blocks(alloc, split)?;
+    let cut = find_cut(alloc, split, &blocks)?;
+    let looped = LoopedNetlist::new(split, &blocks, &cut);
+    rewrite_looped(alloc, d, &looped, care, nodes)
+}
+
+/// A netlist without loops that is made by cases, where that is done.
+fn rewrite_in_cases(
+    alloc: Global,
+    d: &mut Diagrams,
+    looped: &LoopedNetlist<'_>,
+    care: &Care,
+    nodes: u32,
+    cases: u32,
+) -> Result<Option<Netlist>, AllocError>
+    requires valid { IsNetlist looped.now.net }
+    requires some { 1 ≤ cases }
+    requires few { cases ≤ 4096 }
+    requires inputs { length looped.now.net.inputs ≤ 4000000000 }
+    requires care { IsCareOf looped.now.net care.now }
+    requires nodes { nodes ≤ most_nodes }
+    ensures form { IfOk result (λ made. IfSome made (λ other. (what : Observed) → Accepts looped.now.net care.now what →
+        IsLoopFreeForm looped.now.net care.now other)) }
+    ensures loop_free { IfOk result (λ made. IfSome made IsLoopFree) }
+    ensures interface { IfOk result (λ made. IfSome made (KeepsInterface looped.now.net)) }
+{
+    match split_netlist(alloc, looped, care, cases)? {
+        Some(split) => rewrite_split(alloc, d, &split, care, nodes),
+        None => Ok(None),
+    }
+}
+
+/// A netlist without loops in the place of an accepted one, made by at most so many cases.
+///
+/// Columns are picked whose values break loops; for each assignment of them the gates of loops and between loops are
+/// copied with these values put in, and the columns select among the copies (Shannon 1949). Assignments that the care
+/// models rule out alone, by ternary simulation, are left out. Loops that are left are unrolled by the sweeps that they
+/// need on the care set (Malik 1994). Paths are mostly shorter than those of the rewritten netlist, whose sweeps stand in
+/// series. Where no column breaks a loop, where the netlist so made would be too large, or where the decision about its
+/// loops meets the limit of nodes, it is the rewritten netlist, which needs the given sweeps.
+///
+/// It has no loop, and the names of inputs, latches and outputs, the inits and the clock of the netlist. Each run of the
+/// netlist within care and each run of the new one over the same inputs and from the same latches show the same at each
+/// tick, whatever their windows, pasts and fair schedules. Its text reads back as it.
+///
+/// The condition is that the care is the netlist's, that there is a number for each block, that there are at most
+/// 4,000,000,000 inputs, from 1 to 4,096 cases, and at most 50,000,000 nodes.
+///
+/// # Errors
+///
+/// `TooLarge` only where the rewritten netlist has over 4,000,000 gates and latches, with their number; `Memory` where
+/// memory runs out.
+pub fn rewrite_by_cases(
+    alloc: Global,
+    d: &mut Diagrams,
+    looped: &LoopedNetlist<'_>,
+    sweeps: &SweepCounts,
+    care: &Care,
+    nodes: u32,
+    cases: u32,
+) -> Result<Netlist, UnrollFault>
+    requires sweeps { length sweeps.now.per_block ≡ length looped.now.blocks.list }
+    requires valid { IsNetlist looped.now.net }
+    requires some { 1 ≤ cases }
+    requires few { cases ≤ 4096 }
+    requires inputs { length looped.now.net.inputs ≤ 4000000000 }
+    requires care { IsCareOf looped.now.net care.now }
+    requires nodes { nodes ≤ most_nodes }
+    ensures form { IfOk result (λ other. (what : Observed) → Accepts looped.now.net care.now what →
+        AreSweepsOnCare looped.now.net looped.now.blocks looped.now.cut care.now sweeps.now → IsLoopFreeForm looped.now.net care.now other) }
+    ensures fault { IfErr result (λ fault. AreSweepsOnCare looped.now.net looped.now.blocks looped.now.cut care.now sweeps.now →
+        IsCaseFault (size_of looped.now.net care.now) fault) }
+    ensures loop_free { IfOk result IsLoopFree }
+    ensures interface { IfOk result (KeepsInterface looped.now.net) }
+{
+    match rewrite_in_cases(alloc, d, looped, care, nodes, cases)? {
+        Some(other) => Ok(other),
+        None => rewrite(alloc, looped, sweeps),
+    }
+}
