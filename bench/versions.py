@@ -14,6 +14,9 @@
   matching N           one round of iSLIP of N by N: grants and accepts, each a ring of priorities; beside lines of twice N
   bus N                a bus of N stations around a ring, eight bits; beside an OR of what the station with the token says
   two_way N            a line of N stations that hands data right or left; beside one line for each direction
+  carry N              a carry over N cells that runs up or down by one wire; beside two carries
+  systolic N           N by N cells that add their data, of four bits, to what comes in from one of four sides; beside an
+                       array for each side
   adder N              no loop: a ripple carry beside carries in groups of four
   itself N             no loop: N multipliers of eight bits beside themselves
   latches N            N latches, each loading a word's bit or keeping its own, beside the other order of rows
@@ -255,6 +258,62 @@ def two_way(n, bits=4):
         ways[1].insert(0, back)
     for i in range(n):
         choose(m, f"w{i}_", "c", ways[0][i], ways[1][i])
+    return shared, m, None
+
+
+def add_cell(m, a, b, carry, total, out):
+    m.gate(["100 1", "010 1", "001 1", "111 1"], total, a, b, carry)
+    return m.gate(["11- 1", "1-1 1", "-11 1"], out, a, b, carry)
+
+
+@family(100)
+def carry(n):
+    def begin():
+        return Model("carry", ["up", "x", *numbered("a", n), *numbered("b", n)], numbered("s", n))
+
+    shared, m = begin(), begin()
+    for i in range(n):
+        below, above = f"k{i - 1}" if i else "x", f"k{i + 1}" if i < n - 1 else "x"
+        add_cell(shared, f"a{i}", f"b{i}", shared.gate(CHOOSE, f"c{i}", "up", below, above), f"s{i}", f"k{i}")
+    there, back = "x", "x"
+    for i in range(n):
+        there = add_cell(m, f"a{i}", f"b{i}", there, f"u{i}", f"ku{i}")
+    for i in reversed(range(n)):
+        back = add_cell(m, f"a{i}", f"b{i}", back, f"d{i}", f"kd{i}")
+    for i in range(n):
+        m.gate(CHOOSE, f"s{i}", "up", f"u{i}", f"d{i}")
+    return shared, m, None
+
+
+@family(4)
+def systolic(n, bits=4):
+    cells = [(i, j) for i in range(n) for j in range(n)]
+
+    def begin():
+        data = [f"a{i}_{j}_{b}" for i, j in cells for b in range(bits)]
+        m = Model("systolic", ["p0", "p1", *numbered("x", bits), *data], [f"w{i}_{j}_{b}" for i, j in cells for b in range(bits)])
+        return m, {(i, j): [f"a{i}_{j}_{b}" for b in range(bits)] for i, j in cells}
+
+    def choose_side(m, word, sides):
+        low = choose(m, f"{word}l", "p0", sides[1], sides[0])
+        high = choose(m, f"{word}h", "p0", sides[3], sides[2])
+        return choose(m, word, "p1", high, low)
+
+    steps = [(0, -1), (0, 1), (-1, 0), (1, 0)]
+    shared, a = begin()
+    x = numbered("x", bits)
+    for i, j in cells:
+        sides = [[f"w{i + di}_{j + dj}_{b}" for b in range(bits)] if (i + di, j + dj) in a else x for di, dj in steps]
+        copied_to(shared, f"w{i}_{j}_", ripple(shared, f"u{i}_{j}_", choose_side(shared, f"in{i}_{j}_", sides), a[i, j]))
+    m, a = begin()
+    ways = []
+    for side, (di, dj) in enumerate(steps):
+        out = {}
+        for i, j in sorted(cells, key=lambda cell: -(di * cell[0] + dj * cell[1])):
+            out[i, j] = ripple(m, f"r{side}_{i}_{j}_", out.get((i + di, j + dj), x), a[i, j])
+        ways.append(out)
+    for i, j in cells:
+        copied_to(m, f"w{i}_{j}_", choose_side(m, f"in{i}_{j}_", [way[i, j] for way in ways]))
     return shared, m, None
 
 
