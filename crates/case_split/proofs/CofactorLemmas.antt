@@ -10,7 +10,7 @@ use Rattle.cyc_base.specs.declared.trit.Trit.{Trit}
 use Rattle.cyc_base.specs.declared.trit.Trit.TheVariants.{Zero, One, X}
 use Rattle.cyc_base.specs.Values.{bit, Below, Completes}
 use Rattle.cyc_base.proofs.ListLemmas.{all_map}
-use Rattle.cyc_base.proofs.OrderLemmas.{Below-refl, Below-from, EachBelow-map, EachBelow-trans}
+use Rattle.cyc_base.proofs.OrderLemmas.{Below-refl, Below-from, Below-trans, EachBelow-map, EachBelow-trans}
 use Rattle.cover_logic.specs.Covers.{Cover, IsCover, allows, cover_of, first_fault, has_width, matches, some_row_matches, value, value_of_rows}
 use Rattle.cover_logic.specs.Extensions.{ext}
 use Rattle.cover_logic.specs.Partial.{may_allow, may_match}
@@ -428,3 +428,21 @@ rest_fits cover os known rows live rest left wires count proper pins ek er el ar
     no_fault count rest (omega arith)
     (subst (λ (n : ℕ). All (λ row. length row.lits ≡ n) rest) (sym counted)
     (subst (λ (r : List Row). All (λ row. length row.lits ≡ length (wires_of left)) r) (ap (map (left_row left)) (sym live_is) ∙ sym em) fits))
+
+-- ---- a cover of one pin that is the same as it
+
+same_below : (cover : Cover) (x : Trit) → value cover (false ∷ []) ≡ false → value cover (true ∷ []) ≡ true → Below (ext cover (x ∷ [])) x
+same_below cover Zero low high = Below-from (ext cover (Zero ∷ [])) Zero (λ b e. ap bit (sym low ∙ exact_says (value cover) (Zero ∷ []) b e (false ∷ []) (refl, tt)))
+same_below cover One low high = Below-from (ext cover (One ∷ [])) One (λ b e. ap bit (sym high ∙ exact_says (value cover) (One ∷ []) b e (true ∷ []) (refl, tt)))
+same_below cover X low high =
+    Below-from (ext cover (X ∷ [])) X (λ b e.
+    absurd (true≢false
+    (sym high ∙ exact_says (value cover) (X ∷ []) b e (true ∷ []) (tt, tt) ∙ sym (exact_says (value cover) (X ∷ []) b e (false ∷ []) (tt, tt)) ∙ low)))
+
+pub same_folded : (cover : Cover) (os : List Operand) (rest : Cover) (wires : List Sig) (d : Sig) → length wires ≡ 1 → value rest (false ∷ []) ≡ false → value rest (true ∷ []) ≡ true → IsLeft cover os rest wires → IsFolded cover os (Wire (get_or wires 0 d))
+same_folded cover os rest [] d e low high is = absurd (omega arith)
+same_folded cover os rest (w ∷ x ∷ wires) d e low high is = absurd (omega arith)
+same_folded cover os rest (w ∷ []) d e low high is = record {
+  tells = λ f. Below-trans (ext cover (map (value_by f) os)) (ext rest (f w ∷ [])) (f w) (is.tells f) (same_below rest (f w) low high);
+  within = λ bound all. is.within bound all 0 w (omega arith);
+}

@@ -1,9 +1,9 @@
 //! A cover with known values put in.
 
-ghost use Rattle.std.specs.Prelude.{◌≡◌, length, map, IfOk, None, slice_index_or};
-ghost use Rattle.cover_logic.specs.Covers.{cover_of, first_fault};
+ghost use Rattle.std.specs.Prelude.{◌≡◌, true, false, List, [], ◌∷◌, length, map, IfOk, None, slice_index_or};
+ghost use Rattle.cover_logic.specs.Covers.{Cover as Rows, cover_of, first_fault, value};
 ghost use Rattle.cover_logic.specs.Partial.{may_allow, may_match};
-ghost use Rattle.case_split.specs.Cofactors.{live_rows as live_rows_of, is_literal as is_literal_of, is_asked as is_asked_in, left_at as left_at_pin, AreLeft, wires_of as wires_of_left, left_lits as left_lits_of, left_row, IsCofactor};
+ghost use Rattle.case_split.specs.Cofactors.{live_rows as live_rows_of, is_literal as is_literal_of, is_asked as is_asked_in, left_at as left_at_pin, AreLeft, wires_of as wires_of_left, left_lits as left_lits_of, left_row, IsLeft, IsCofactor};
 
 use crate::operands::{Operand, known_values};
 use cover_logic::{Cover, Lit, Row};
@@ -183,5 +183,28 @@ pub(crate) fn cofactor_of(
     }
     let rows = left_rows(alloc, &live, &left)?;
     let rest = cover_by(wires.len(), plane, rows);
-    Ok(Cofactor::Left(rest, wires))
+    Ok(folded(rest, wires))
+}
+
+/// Whether a cover of one pin has its value.
+fn is_same(cover: &Cover) -> bool
+    requires { cover.now.pins ≡ 1 }
+    ensures low { result ≡ true → value cover.now (false ∷ []) ≡ false }
+    ensures high { result ≡ true → value cover.now (true ∷ []) ≡ true }
+{
+    !cover.value(&[false]) && cover.value(&[true])
+}
+
+/// A cover of wires, or the one wire that it is the same as.
+fn folded(rest: Cover, wires: Vec<Sig>) -> Cofactor
+    requires { length wires.items ≡ rest.pins }
+    ensures { (cover : Rows) (operands : List Operand) → IsLeft cover operands rest wires.items → IsCofactor cover operands result }
+{
+    if wires.len() != 1 {
+        return Cofactor::Left(rest, wires);
+    }
+    if !is_same(&rest) {
+        return Cofactor::Left(rest, wires);
+    }
+    Cofactor::Folded(Operand::Wire(wires[0]))
 }

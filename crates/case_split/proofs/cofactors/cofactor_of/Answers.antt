@@ -25,7 +25,8 @@ cover_by-rest-requires c =
 
 pub returns : goal.returns
 returns c =
-    left_answer c.args.cover.now c.args.operands.now c.deref.result.now c.rows.result.now c.deref-2.result.now c.in_ok-rows.rows.items c.plane-plane.result c.in_ok-left.left.items c.in_ok-wires.wires.items c.len.result c.cover_by-rest.result
+    c.folded.ensures c.args.cover.now c.args.operands.now
+    (left_answer c.args.cover.now c.args.operands.now c.deref.result.now c.rows.result.now c.deref-2.result.now c.in_ok-rows.rows.items c.plane-plane.result c.in_ok-left.left.items c.in_ok-wires.wires.items c.len.result c.cover_by-rest.result
     c.plane-plane.ensures.proper c.requires (c.deref.ensures.value ∙ c.in_ok-known.ensures) c.rows.ensures.rows (c.deref-2.ensures.value ∙ c.in_ok-live.ensures) c.plane-plane.ensures.plane
     (λ e. grind (arith, e, c.is_empty.ensures, c.if-is_empty.false, c.deref-2.ensures.value)) c.in_ok-left.ensures (c.in_ok-wires.ensures ∙ ap wires_of c.deref-3.ensures.value)
-    (grind (arith, c.in_ok-rows.ensures, c.deref-2.ensures.value, c.deref-4.ensures.value, c.deref-5.ensures.value)) (grind (arith, c.len.ensures)) c.cover_by-rest.ensures
+    (grind (arith, c.in_ok-rows.ensures, c.deref-2.ensures.value, c.deref-4.ensures.value, c.deref-5.ensures.value)) (grind (arith, c.len.ensures)) c.cover_by-rest.ensures)

@@ -1,0 +1,13 @@
+use Rattle.std.proofs.Common.{◌≡◌, ℕ, sym, subst, length, true, arith}
+use Rattle.cyc_base.specs.declared.sig.Sig.{Sig}
+use Rattle.case_split.specs.declared.operands.Operand.TheVariants.{Wire}
+use Rattle.case_split.specs.Cofactors.{IsFolded}
+use Rattle.case_split.proofs.CofactorLemmas.{same_folded}
+use Rattle.case_split.proofs.cofactors.folded.Goals as goal
+
+pub returns : goal.returns
+returns c cover os is =
+    let one : length c.args.wires.items ≡ 1 = grind (arith, c.len.ensures, c.if-len-ne1.false) in
+    let so : c.is_same.result ≡ true = grind (arith, c.if-not-is_same.false) in
+    subst (λ (w : Sig). IsFolded cover os (Wire w)) (sym c.index.ensures)
+    (same_folded cover os c.args.rest c.args.wires.items c.index.result.now one (c.is_same.ensures.low so) (c.is_same.ensures.high so) is)
