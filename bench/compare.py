@@ -4,17 +4,18 @@
   bench/compare.py [CASES] [SEED]      1,000 cases of seed 1, if nothing else is said
 
 Each case is a netlist of at most eight gates, three inputs and two latches, with or without a care file, and observed
-in one of the two ways. It is decided here by simulation with 0, 1 and unknown at each vector alone. What `check` prints
-must be the same text. Of an accepted netlist `explain` must show each loop's gates, cut wires, sweeps and columns, as
-they are defined. What `rewrite` writes of an accepted netlist must have no loop, and that netlist and the graph of
-`aiger` must have the same outputs and next states at each care vector. What `explain` shows of an undetermined wire
-must be a shortest cycle that leads to it and the shortest way from there, by pins that matter, and the wires beside the
-cycle and the columns that hold these gates open, all of them needed. What `assume` writes must have the same invariant,
-and within it let a vector through exactly where the given assumption does and each observed wire is determined; `check`
-must accept it; and where no such file is accepted, `assume` must tell what refuses the netlist on these vectors. And
-`equal` must tell of the netlist and a version of it, with all in another order and perhaps one thing changed, what is
-found of them here: the first name that isn't matched, the refusal of one, the least vector of a difference with its
-output or latch, or that they are equal. A case that differs is printed with its files, and the status is then 1.
+in one of the two ways. It is decided here by simulation with 0, 1 and unknown at each vector alone. What `check`
+prints must be the same text. Of an accepted netlist `explain` must show each loop's gates, cut wires, sweeps and
+columns, as they are defined. What `rewrite` writes of an accepted netlist, as it is and split into at most 2 to 8
+cases, must have no loop, and that netlist and the graph of `aiger` must have the same outputs and next states at each
+care vector. What `explain` shows of an undetermined wire must be a shortest cycle that leads to it and the shortest
+way from there, by pins that matter, and the wires beside the cycle and the columns that hold these gates open, all of
+them needed. What `assume` writes must have the same invariant, and within it let a vector through exactly where the
+given assumption does and each observed wire is determined; `check` must accept it; and where no such file is
+accepted, `assume` must tell what refuses the netlist on these vectors. And `equal` must tell of the netlist and a
+version of it, with all in another order and perhaps one thing changed, what is found of them here: the first name
+that isn't matched, the refusal of one, the least vector of a difference with its output or latch, or that they are
+equal. A case that differs is printed with its files, and the status is then 1.
 
 CYC=PROGRAM in the environment compares that program in place of ./cyc.
 """
@@ -561,6 +562,13 @@ def cyc(folder, *words):
     return ran.stdout if ran.returncode == 0 else ran.stdout + ran.stderr
 
 
+def why_made_wrong(net, folder, words, care):
+    """What is wrong in what is written of an accepted netlist without loops, if something is."""
+    return differs(net, netlist_of(cyc(folder, "rewrite", *words)), care) or graph_differs(
+        net, cyc(folder, "aiger", *words), care
+    )
+
+
 def why_decided_wrong(net, folder, words, want, care):
     """What is wrong in what the commands that decide one netlist tell, if something is."""
     got = cyc(folder, "check", *words).strip()
@@ -571,9 +579,8 @@ def why_decided_wrong(net, folder, words, want, care):
         lines = [want, *told_of_loops(net, care)]
         if shown.split("\n") != [*lines, ""]:
             return f"explain says {shown!r}, not {lines}"
-        return differs(net, netlist_of(cyc(folder, "rewrite", *words)), care) or graph_differs(
-            net, cyc(folder, "aiger", *words), care
-        )
+        cases = ["--cases", str(random.randint(2, 8))]
+        return why_made_wrong(net, folder, words, care) or why_made_wrong(net, folder, [*words, *cases], care)
     if shown.split("\n")[0] != want:
         return f"explain says {shown!r}"
     return why_explained_wrong(net, shown) if want.startswith("refused undetermined") else ""
