@@ -59,6 +59,6 @@ unfoldable pub use Rattle.std.specs.List.{IsDistinct}
 pub use Rattle.std.specs.Option.{option_map_or, option_or}
 pub use Rattle.std.specs.Prelude.{Err, IfOk, Ok, Result, find, is_none, option_map}
 pub use Rattle.std.specs.Str.{bytes_eq}
-pub use Rattle.unroll.proofs.Kept.{taken}
+pub use Rattle.netlist.proofs.CopyLemmas.{taken}
 pub use Rattle.unroll.specs.Marks.{mark}
 pub use Rattle.verdict.specs.Causes.{IsOutOfNodes}

@@ -8,7 +8,7 @@ use Rattle.cyc_base.proofs.NameLemmas.{bytes_eq-true}
 use Rattle.netlist.specs.declared.parts.Init.TheVariants.{Either}
 use Rattle.netlist.specs.Fixpoint.{outs}
 use Rattle.netlist.proofs.Decisions.{none_found}
-use Rattle.unroll.proofs.Kept.{taken_first}
+use Rattle.netlist.proofs.CopyLemmas.{taken_first}
 use Rattle.equal.proofs.NameLemmas.{nowhere_find}
 
 -- ---- all names match

@@ -1,6 +1,6 @@
 use Rattle.std.proofs.Common.{◌++◌, ◌∷◌, [], ap, ap₂, sym, ◌∙◌}
 use Rattle.equal.proofs.Common.{Latch, pair_of, source_named}
-use Rattle.unroll.proofs.Kept.{taken_mapped}
+use Rattle.netlist.proofs.CopyLemmas.{taken_mapped}
 use Rattle.equal.proofs.pairs.latch_pairs.Goals as goal
 
 pub loop-number-preserved : goal.loop-number-preserved
