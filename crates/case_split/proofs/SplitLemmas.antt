@@ -28,7 +28,7 @@ use Rattle.netlist.specs.declared.parts.Gate.{Gate}
 use Rattle.netlist.specs.declared.parts.Latch.{Latch}
 use Rattle.netlist.specs.declared.parts.Parts.{Parts}
 use Rattle.netlist.specs.Fixpoint.{wire, fix}
-use Rattle.netlist.specs.Netlists.{count, driven_names, gate_at, gate_sig, is_driven, no_gate, signal, signal_names, IsClockName, IsNetlist, IsSignal}
+use Rattle.netlist.specs.Netlists.{count, driven_names, gate_at, gate_sig, is_driven, no_gate, signal, signal_names, with_gates, IsClockName, IsNetlist, IsSignal}
 use Rattle.netlist.proofs.FixpointLemmas.{fix_is_monotone}
 use Rattle.netlist.proofs.NameLemmas.{length-signal_names}
 use Rattle.loops.specs.Cones.{is_marked}
@@ -42,7 +42,7 @@ use Rattle.case_split.specs.Cases.{IsInOneCase, IsUsable}
 use Rattle.case_split.specs.Operands.{value_by}
 use Rattle.case_split.specs.Added.{AreNew, IsNewName}
 use Rattle.case_split.specs.Sizes.{copied_gates}
-use Rattle.case_split.specs.Splits.{split_by, with_gates}
+use Rattle.case_split.specs.Splits.{split_by}
 use Rattle.case_split.specs.Tables.{operand_at}
 use Rattle.case_split.specs.CaseTables.{IsPossible, IsCaseTable}
 use Rattle.case_split.specs.Choices.{IsOnlyBy}
@@ -314,7 +314,7 @@ module _ (net : Parts) (valid : IsNetlist net) (marks : List Bool) (cases : List
   }
 
 pub split_is : (net : Parts) → IsNetlist net → (marks : List Bool) (cases : List Case) (gates : List Gate) → IsSplit net marks cases gates → All (IsUsable (first_gate net)) cases → length net.inputs ≤ 4000000000 →
-    length net.gates + length net.latches + 2 * (length cases * length (copied_gates net marks)) ≤ 4000000 → IsSplitNetlist net marks cases (with_gates net gates)
+    length net.gates + length net.latches + 2 * (length cases * length (copied_gates net marks)) ≤ 4000000 → IsSplitNetlist net marks cases (with_gates net gates net.outputs)
 split_is net valid marks cases gates h usable inputs small =
-    subst (λ (gs : List Gate). IsSplitNetlist net marks cases (with_gates net gs)) (sym h.is)
+    subst (λ (gs : List Gate). IsSplitNetlist net marks cases (with_gates net gs net.outputs)) (sym h.is)
     (made_is_split net valid marks cases h.heads h.more h.parts usable inputs small)

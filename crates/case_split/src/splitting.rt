@@ -2,12 +2,11 @@
 
 ghost use Rattle.std.specs.Prelude.{◌≡◌, ◌+◌, ◌*◌, ◌<◌, ◌≤◌, List, [], length, All, IfOk, IfErr, OnOk};
 ghost use Rattle.cyc_base.specs.declared.trit.Trit.{Trit};
-ghost use Rattle.netlist.specs.Netlists.{count, IsNetlist};
+ghost use Rattle.netlist.specs.Netlists.{count, with_gates, IsNetlist};
 ghost use Rattle.loops.specs.Sweeps.{first_gate};
 ghost use Rattle.unroll.specs.Laws.{KeepsInterface, TellsAsMuchAt};
 ghost use Rattle.case_split.specs.Cases.{IsInOneCase, IsUsable};
 ghost use Rattle.case_split.specs.Sizes.{copied_gates, most_items, IsSplitFault};
-ghost use Rattle.case_split.specs.Splits.{with_gates};
 ghost use Rattle.case_split.specs.Made.{AreSplitParts, IsSplit, IsSplitNetlist};
 
 use crate::added::{Added, Base};
@@ -15,10 +14,10 @@ use crate::case_tables::tables_of;
 use crate::cases::Case;
 use crate::fault::SplitFault;
 use crate::heads::{heads_of, roots_of};
-use cyc_base::{Items, MAX_REWRITTEN_ITEMS};
-use netlist::{Gate, Latch, Netlist, Parts, PartsFault};
+use cyc_base::MAX_REWRITTEN_ITEMS;
+use netlist::{Gate, Netlist, netlist_of, parts_with};
 use std::alloc::{AllocError, Global};
-use unroll::{copy_clock, copy_inputs, mark};
+use unroll::mark;
 
 /// The gates that are marked.
 ///
@@ -111,64 +110,14 @@ fn split_heads(
     Ok(heads)
 }
 
-/// An equal latch.
-fn copy_latch(latch: &Latch) -> Result<Latch, AllocError>
-    ensures { IfOk result (λ copy. copy ≡ latch.now) }
-{
-    Ok(Latch {
-        name: latch.name.copy()?,
-        from: latch.from,
-        init: latch.init,
-        clocked: latch.clocked,
-    })
-}
-
-fn copy_latches(alloc: Global, net: &Netlist) -> Result<Vec<Latch>, AllocError>
-    ensures { IfOk result (λ latches. latches.items ≡ net.now.latches) }
-{
-    let mut latches = Vec::with_capacity(alloc, net.latches() as usize)?;
-    for number in 0..net.latches() {
-        latches.push(copy_latch(net.latch(number))?)?;
-    }
-    Ok(latches)
-}
-
-/// The parts of a netlist with other gates.
-fn parts_with(alloc: Global, net: &Netlist, gates: Vec<Gate>) -> Result<Parts, AllocError>
-    ensures { IfOk result (λ parts. parts ≡ with_gates net.now gates.items) }
-{
-    let name = net.name().copy()?;
-    let clock = copy_clock(net)?;
-    let inputs = Items::of(copy_inputs(alloc, net)?);
-    let latches = Items::of(copy_latches(alloc, net)?);
-    let outputs = Items::of(net.outputs().to_vec(alloc)?);
-    Ok(Parts {
-        name,
-        inputs,
-        clock,
-        latches,
-        gates: Items::of(gates),
-        outputs,
-    })
-}
-
-/// The parts of the netlist that is split are refused for want of memory alone.
-fn want_of_memory(_fault: PartsFault) -> AllocError
-    requires { _fault ≡ PartsFault.Memory }
-{
-    AllocError
-}
-
 /// The netlist of these gates.
 fn netlist_by(alloc: Global, net: &Netlist, gates: Vec<Gate>) -> Result<Netlist, AllocError>
-    requires { IsNetlist (with_gates net.now gates.items) }
-    ensures { IfOk result (λ other. other ≡ with_gates net.now gates.items) }
+    requires { IsNetlist (with_gates net.now gates.items net.now.outputs) }
+    ensures { IfOk result (λ other. other ≡ with_gates net.now gates.items net.now.outputs) }
 {
-    let parts = parts_with(alloc, net, gates)?;
-    match Netlist::new(alloc, parts) {
-        Ok(other) => Ok(other),
-        Err(fault) => Err(want_of_memory(fault)),
-    }
+    let outputs = net.outputs().to_vec(alloc)?;
+    let parts = parts_with(alloc, net, gates, outputs)?;
+    netlist_of(alloc, parts)
 }
 
 /// The netlist split by cases, where it can't become too large.
