@@ -20,7 +20,6 @@ pub use Rattle.loops.specs.Searching.{Connects, InRow, IsFree, IsMarked, IsReady
 pub use Rattle.loops.specs.Sweeps.{first_gate, gate_of, in_loop_of, pin_in, sweep}
 pub use Rattle.loops.specs.Walks.{AnyGate, Leads, SameLoop}
 pub use Rattle.loops.specs.declared.landmarks.Landmark.{Landmark}
-pub use Rattle.loops.specs.declared.search.Limit.TheVariants.{AtLeast, AtMost}
 pub use Rattle.loops.specs.declared.search.Search.{Search}
 pub use Rattle.loops.specs.declared.structure.Block.{Block}
 pub use Rattle.loops.specs.declared.structure.Blocks.{Blocks}

@@ -2,7 +2,7 @@
 use Rattle.std.proofs.Common.{◌≡◌, ℕ, true, List, arith}
 use Rattle.std.proofs.lemmas.List.Elements.{filter_agree}
 use Rattle.loops.proofs.Common.{Trit, same_truth, Parts, Loops, AreLoopsOf}
-use Rattle.loops.specs.Sweeps.{sweeps, cuts_of, CutsAreFixed}
+use Rattle.loops.specs.Sweeps.{cuts_of, CutsAreFixed}
 use Rattle.loops.specs.Laws.{CountIsOfLoops}
 use Rattle.loops.proofs.Sweeps.{same-sym, same-trans}
 

@@ -1,13 +1,12 @@
 -- Paths through gates that are kept are the walks that make a gate a cut wire, and levels show where there are none.
-use Rattle.std.proofs.Common.{◌≡◌, ◌⊎◌, ◌↔◌, inl, inr, ℕ, ◌<◌, ◌≤◌, ◌+◌, ◌-◌, Bool, true, false, List, [], ◌∷◌, ◌++◌, length, set, replicate, ap, sym, ◌∙◌, subst, arith, Contains, true≢false}
+use Rattle.std.proofs.Common.{◌≡◌, ◌⊎◌, ◌↔◌, inl, inr, ℕ, ◌<◌, ◌≤◌, ◌+◌, Bool, true, false, List, [], ◌∷◌, ◌++◌, length, set, replicate, ap, sym, ◌∙◌, subst, arith, Contains, true≢false}
 use borrow.Author.Count.{below_more}
-use Rattle.loops.proofs.Common.{cases_eq, cases_lt, get_or-set_same, get_or-set_other, length-set, length-replicate, get_or_past, AllByRecursion, all_weaker, all_append, Parts, Feeds, Walk, Blocks, Cut, AreBlocksOf, MayPass, is_cut, HasParted, HaveGained, IsCutSearch, IsKept, Meeting, ReadsBack, IsLoopPin, Connects, InRow, IsFree, Path, level_at, row_at, AnyGate, Leads, SameLoop}
+use Rattle.loops.proofs.Common.{cases_eq, cases_lt, get_or-set_same, get_or-set_other, length-set, length-replicate, get_or_past, AllByRecursion, all_weaker, all_append, Parts, Feeds, Walk, Blocks, Cut, AreBlocksOf, MayPass, is_cut, HaveGained, IsCutSearch, IsKept, Meeting, ReadsBack, IsLoopPin, Connects, InRow, IsFree, Path, level_at, row_at, AnyGate, Leads, SameLoop}
 use Rattle.std.proofs.lemmas.List.{get_or-replicate}
-use Rattle.std.specs.List.{All}
 use Rattle.loops.specs.declared.cuts.CutSearch.{CutSearch}
 use Rattle.loops.specs.Cuts.{IsCutOf}
-use Rattle.loops.specs.Keeping.{AreNear, IsAhead, IsBehind, IsFresh, IsNear, IsPlaced}
-use Rattle.loops.proofs.KeptLemmas.{of_within, ready_as}
+use Rattle.loops.specs.Keeping.{AreLow, IsAhead, IsFresh, IsPlaced}
+use Rattle.loops.proofs.KeptLemmas.{ready_as}
 use Rattle.loops.proofs.SearchLemmas.{joined, one_step, path-append}
 use Rattle.loops.proofs.Told.{told_from}
 use Rattle.loops.proofs.Walks.{all_both, begins_at, leads-any, on_closed_walk, same_loop-sym, same_loop-trans}
@@ -95,7 +94,7 @@ empty : List ℕ
 empty = []
 
 -- nothing is kept at first
-pub nothing_kept : (R : ℕ → ℕ → Type 0) (cut : List Bool) (readers sources : List (List ℕ)) (levels : List ℕ) (gates : ℕ) → length cut ≡ gates → readers ≡ replicate gates [] → sources ≡ replicate gates [] → levels ≡ replicate gates 4294967296 → IsKept R cut 0 readers sources levels
+pub nothing_kept : (R : ℕ → ℕ → Type 0) (cut : List Bool) (readers sources : List (List ℕ)) (levels : List ℕ) (gates : ℕ) → length cut ≡ gates → readers ≡ replicate gates [] → sources ≡ replicate gates [] → levels ≡ replicate gates 0 → IsKept R cut 0 readers sources levels
 unfolding empty
 nothing_kept R cut readers sources levels gates width r s v = grind (arith, length-replicate, get_or-replicate, empty, cases_lt, get_or_past)
 
@@ -103,8 +102,7 @@ nothing_kept R cut readers sources levels gates width r s v = grind (arith, leng
 pub fresh_search : (R : ℕ → ℕ → Type 0) (cut : List Bool) (gates : ℕ) (search : CutSearch) → length cut ≡ gates → IsFresh gates search → IsCutSearch R cut 0 search
 fresh_search R cut gates search width f = record {
   kept = nothing_kept R cut search.kept.readers.items search.kept.sources.items search.kept.levels.items gates width f.readers f.sources f.levels;
-  forth = ready_as gates (length cut) 0 search.searches.forth.marks.items width f.forth;
-  back = ready_as gates (length cut) 0 search.searches.back.marks.items width f.back;
+  ready = ready_as gates (length cut) 0 search.search.marks.items width f.ready;
   landmarks = f.landmarks search.kept.readers.items (length cut);
 }
 
@@ -141,7 +139,7 @@ module _ (R : ℕ → ℕ → Type 0) (cut : List Bool) (n : ℕ) (l : n < lengt
       );
       reads_within = λ x y c. within x y c;
       rise = k.rise;
-      near = k.near;
+      low = k.low;
     },
     λ x. (
       λ c. (own x).0 (subst (λ (r : List ℕ). Contains r x) here c),
@@ -187,9 +185,9 @@ module _ (R : ℕ → ℕ → Type 0) (cut : List Bool) (n : ℕ) (l : n < lengt
           rest.1,
         )
 
-    -- what is found back from the gate is kept
-    pub found_free : (x : ℕ) → Connects (InRow sources) AnyGate n x → IsFree cut n x
-    found_free x w = (let f = aft n x w.via (λ y c. (own y).0 c) w.path in f.1)
+    -- what is found from the gate on is kept
+    pub found_free : (x : ℕ) → Connects (InRow readers) AnyGate n x → IsFree cut n x
+    found_free x w = (let f = fore n x w.via w.path in f.2)
 
     pub closes : Meeting readers sources n → Connects R (IsFree cut n) n n
     closes m =
@@ -202,10 +200,10 @@ module _ (R : ℕ → ℕ → Type 0) (cut : List Bool) (n : ℕ) (l : n < lengt
       pub size : length new ≡ length levels
       pub rise : (x y : ℕ) → R x y → IsFree cut n x → IsFree cut n y → level_at new x ≤ level_at new y
       pub apart : (p s : ℕ) → InRow sources n p → InRow readers n s → level_at new p < level_at new s
-      pub near : AreNear (n + 1) new
+      pub low : AreLow (n + 1) new
 
-    ahead_parted : (new : List ℕ) → IsAhead readers sources n levels new → IsParted new
-    ahead_parted new a = record {
+    pub parted : (new : List ℕ) → IsAhead readers sources n levels new → IsParted new
+    parted new a = record {
       size = a.raised.size;
       rise = λ x y h fx fy.
           (let up = a.raised.rises y in
@@ -222,67 +220,24 @@ module _ (R : ℕ → ℕ → Type 0) (cut : List Bool) (n : ℕ) (l : n < lengt
                 ]
           ]);
       apart = λ p s ip rs.
-          (let r = reached s (a.ended.begins s rs) in
-          let below = a.above p ip in
-          elim (a.raised.moved p) [ inl same ↦ omega arith | inr w ↦ absurd (a.ended.apart p w.0 ip) ]);
-      near = λ x xl.
-          (let size = a.raised.size in
-          let was = k.near x (omega arith) in
-          let h1 = was.high in
-          let l1 = was.low in
-          let h2 = a.near.high in
-          let l2 = a.near.low in
-          elim (a.raised.moved x) [
-            | inl same ↦ record { high = omega arith; low = omega arith }
-            | inr w ↦ let at = w.1 in record { high = omega arith; low = omega arith }
+          (let below = a.above p ip in
+          let up = a.raised.rises s in
+          elim (a.raised.moved p) [
+            | inr w ↦ absurd (a.ended.apart p w.0 ip)
+            | inl same ↦
+                elim (cases_lt a.high (level_at levels s)) [
+                  | inl above ↦ omega arith
+                  | inr not_above ↦ let r = reached s (a.ended.begins s rs (omega arith)) in omega arith
+                ]
           ]);
+      low = λ x.
+          (let was = k.low x in
+          let most = a.low in
+          elim (a.raised.moved x) [ inl same ↦ omega arith | inr w ↦ let at = w.1 in omega arith ]);
     }
       where
         reached : (y : ℕ) → Contains a.found y → a.high + 1 ≤ level_at new y
         reached y c = subst (λ (z : ℕ). a.high + 1 ≤ level_at new z) c.2 (a.raised.reached c.0 y c.1)
-
-    behind_parted : (new : List ℕ) → IsBehind readers sources n levels new → IsParted new
-    behind_parted new b = record {
-      size = b.lowered.size;
-      rise = λ x y h fx fy.
-          (let down = b.lowered.falls x in
-          let was = k.rise x y h fx fy in
-          let next = b.next in
-          elim (b.lowered.moved y) [
-            | inl same ↦ omega arith
-            | inr w ↦
-                let at = w.1 in
-                elim (cases_lt (level_at levels x) b.low) [
-                  | inl below ↦ omega arith
-                  | inr not_below ↦
-                      let r = reached x (b.ended.closed y x w.0 ((k.reads x y fy).1 (h, fx)) (omega arith)) in
-                      omega arith
-                ]
-          ]);
-      apart = λ p s ip rs.
-          (let r = reached p (b.ended.begins p ip) in
-          let above = b.below s rs in
-          let next = b.next in
-          elim (b.lowered.moved s) [ inl same ↦ omega arith | inr w ↦ absurd (b.ended.apart s w.0 rs) ]);
-      near = λ x xl.
-          (let size = b.lowered.size in
-          let was = k.near x (omega arith) in
-          let h1 = was.high in
-          let l1 = was.low in
-          let h2 = b.near.high in
-          let l2 = b.near.low in
-          let next = b.next in
-          elim (b.lowered.moved x) [
-            | inl same ↦ record { high = omega arith; low = omega arith }
-            | inr w ↦ let at = w.1 in record { high = omega arith; low = omega arith }
-          ]);
-    }
-      where
-        reached : (y : ℕ) → Contains b.found y → level_at new y ≤ b.most
-        reached y c = subst (λ (z : ℕ). level_at new z ≤ b.most) c.2 (b.lowered.reached c.0 y c.1)
-
-    pub parted : (new : List ℕ) → HasParted readers sources n levels new false → IsParted new
-    parted new h = elim h [ inl a ↦ ahead_parted new a | inr b ↦ behind_parted new b ]
 
     -- no path leads back where levels are parted
     module _ (new : List ℕ) (p : IsParted new) where
@@ -329,7 +284,7 @@ module _ (R : ℕ → ℕ → Type 0) (cut : List Bool) (n : ℕ) (l : n < lengt
               | inr w ↦ let e = w.1 in omega arith
             ]);
         rise = λ x y h fx fy. rise x y h fx fy;
-        near = λ x xl. near x xl;
+        low = low;
       }
         where
           free_here : IsFree (set cut n false) (n + 1) n
@@ -399,21 +354,11 @@ module _ (R : ℕ → ℕ → Type 0) (cut : List Bool) (n : ℕ) (l : n < lengt
                     ]
               ]
 
-          near : AreNear (n + 1) placed
-          near x xl =
+          low : AreLow (n + 1) placed
+          low x =
               elim (cases_eq x n) [
-                | inl e ↦
-                    let m = at.near (n + 1) p.near in
-                    let h1 = m.high in
-                    let l1 = m.low in
-                    subst (λ (z : ℕ). IsNear (n + 1) (level_at placed z)) (sym e) (record { high = omega (arith, here); low = omega (arith, here) })
-                | inr ne ↦
-                    let o = other x ne in
-                    let size = ap (λ (xs : List ℕ). length xs) at.is ∙ length-set new n at.level in
-                    let m = p.near x (omega arith) in
-                    let h1 = m.high in
-                    let l1 = m.low in
-                    record { high = omega arith; low = omega arith }
+                | inl e ↦ let m = at.low (n + 1) p.low in rw e (omega (arith, here))
+                | inr ne ↦ let o = other x ne in let m = p.low x in omega arith
               ]
 
 -- a gate that is cut leaves all as it is
@@ -432,7 +377,7 @@ left_out R cut n l readers sources levels k = record {
   );
   reads_within = λ x y c. (let size = length-set cut n true in let b = k.reads_within x y c in omega arith);
   rise = λ x y h fx fy. k.rise x y h (still_free x fx) (still_free y fy);
-  near = λ x xl. (let m = k.near x xl in let h1 = m.high in let l1 = m.low in record { high = omega arith; low = omega arith });
+  low = λ x. (let m = k.low x in omega arith);
 }
   where
     still_free : (y : ℕ) → IsFree (set cut n true) (n + 1) y → IsFree cut n y
@@ -440,18 +385,5 @@ left_out R cut n l readers sources levels k = record {
 
 -- a search that leaves a gate out
 pub search_left_out : (R : ℕ → ℕ → Type 0) (cut : List Bool) (n : ℕ) → n < length cut → (old new : CutSearch) → IsCutSearch R cut n old →
-    IsKept R cut n new.kept.readers.items new.kept.sources.items new.kept.levels.items → new.kept.readers.items ≡ old.kept.readers.items → new.searches ≡ old.searches → new.landmarks ≡ old.landmarks → IsCutSearch R (set cut n true) (n + 1) new
-search_left_out R cut n l old new s kept readers searches landmarks = grind (arith, left_out R cut n l new.kept.readers.items new.kept.sources.items new.kept.levels.items kept, length-set cut n true)
-
--- the highest level of what a gate reads, and the lowest of what reads it, are near the middle
-pub high_is_near : (levels : List ℕ) (goal : ℕ) (row : List ℕ) (high floor : ℕ) → AreNear goal levels → All (λ x. x < length levels) row → floor ≡ 4294967296 - goal → goal < 4294967296 → floor ≤ high → ((bound : ℕ) → floor ≤ bound → ((n : ℕ) → Contains row n → level_at levels n ≤ bound) → high ≤ bound) → IsNear goal high
-high_is_near levels goal row high floor near within is fits up least = record {
-  high = least (4294967296 + goal) (omega arith) (λ n c. (let m = near n (of_within row (length levels) within n c) in m.high));
-  low = omega arith;
-}
-
-pub low_is_near : (levels : List ℕ) (goal : ℕ) (row : List ℕ) (low ceiling : ℕ) → AreNear goal levels → All (λ x. x < length levels) row → ceiling ≡ 4294967296 + goal → goal < 4294967296 → low ≤ ceiling → ((bound : ℕ) → bound ≤ ceiling → ((n : ℕ) → Contains row n → bound ≤ level_at levels n) → bound ≤ low) → IsNear goal low
-low_is_near levels goal row low ceiling near within is fits down greatest = record {
-  high = omega arith;
-  low = (let g = greatest (4294967296 - goal) (omega arith) (λ n c. (let m = near n (of_within row (length levels) within n c) in let l = m.low in omega arith)) in omega arith);
-}
+    IsKept R cut n new.kept.readers.items new.kept.sources.items new.kept.levels.items → new.kept.readers.items ≡ old.kept.readers.items → new.search ≡ old.search → new.landmarks ≡ old.landmarks → IsCutSearch R (set cut n true) (n + 1) new
+search_left_out R cut n l old new s kept readers search landmarks = grind (arith, left_out R cut n l new.kept.readers.items new.kept.sources.items new.kept.levels.items kept, length-set cut n true)

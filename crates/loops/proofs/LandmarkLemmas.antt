@@ -1,17 +1,14 @@
 -- Ways along rows are joined, and landmarks go on from a gate that is entered.
-use Rattle.std.proofs.Common.{◌≡◌, ◌⊎◌, inl, inr, ℕ, List, [], ◌∷◌, length, sym, ◌∙◌, arith}
-use Rattle.loops.proofs.Common.{Landmark, Search, Meeting, ReadsBack, Connects, InRow, IsMarked, Meets, Path, row_at, AnyGate}
+use Rattle.std.proofs.Common.{◌≡◌, ◌⊎◌, ◌<◌, ◌+◌, ◌^◌, inl, inr, ℕ, Bool, List, [], ◌∷◌, length, sym, ◌∙◌, arith}
+use Rattle.loops.proofs.Common.{Landmark, Search, Meeting, ReadsBack, InRow, IsMarked, IsReady, Meets, Path, row_at}
 use Rattle.loops.specs.Landmarks.{IsLandmark, Passes}
-use Rattle.loops.specs.Searching.{Reaches}
-use Rattle.loops.proofs.SearchLemmas.{joined, one_step}
+use Rattle.loops.specs.Searching.{HasSearched, Reaches}
+use Rattle.loops.proofs.SearchLemmas.{joined_reach, marked_within, one_step, spreads}
 
 module _ (rows : List (List ℕ)) (a b c : ℕ) where
-  pub joined_reach : Connects (InRow rows) AnyGate a b → Reaches rows b c → Connects (InRow rows) AnyGate a c
-  joined_reach v r = grind (arith, joined rows a b c v)
-
   pub reaches_join : Reaches rows a b → Reaches rows b c → Reaches rows a c
   reaches_join r s =
-      elim r [ inl e ↦ rw e s | inr v ↦ inr (joined_reach v s) ]
+      elim r [ inl e ↦ rw e s | inr v ↦ inr (joined_reach rows a b c v s) ]
 
 -- rows that keep their gates keep their ways
 module _ (rows more : List (List ℕ)) (keeps : (x y : ℕ) → InRow rows x y → InRow more x y) where
@@ -53,6 +50,25 @@ gone_on readers sources gate gates h ahead behind more_ahead more_behind back is
 
     from_gate : Meets h (row_at readers gate) behind.marks.items → Reaches readers gate h
     from_gate m = inr (joined_reach readers gate m.gate h (one_step readers gate m.gate m.listed) (is.behind m.gate m.marked))
+
+-- a landmark at a gate
+pub at_gate : (readers sources : List (List ℕ)) (levels : List ℕ) (high gate gates : ℕ) (ahead more_ahead behind more_behind : Search) (met met_behind : Bool) → gate + 1 < 2 ^ 32 → ReadsBack readers sources gate → IsReady gates 0 ahead.marks.items → IsReady gates 0 behind.marks.items →
+    HasSearched readers levels high gate (gate ∷ []) [] ahead more_ahead met → HasSearched sources levels high gate (gate ∷ []) [] behind more_behind met_behind → IsLandmark readers gates (record { gate = gate; ahead = more_ahead; behind = more_behind })
+at_gate readers sources levels high gate gates ahead more_ahead behind more_behind met met_behind fits back ready ready_behind forth aft = record {
+  fits = fits;
+  ahead_size = forth.searching.size ∙ ready.size;
+  behind_size = aft.searching.size ∙ ready_behind.size;
+  ahead = λ x m.
+      elim (spreads readers levels high gate gate [] ahead more_ahead met forth x m) [ inl old ↦ absurd (unmarked gate gates ahead.marks.items x ready old) | inr r ↦ r ];
+  behind = λ x m.
+      elim (spreads sources levels high gate gate [] behind more_behind met_behind aft x m) [
+        | inl old ↦ absurd (unmarked gate gates behind.marks.items x ready_behind old)
+        | inr r ↦ elim r [ inl e ↦ inl (sym e) | inr w ↦ inr (back x w) ]
+      ];
+}
+  where
+    unmarked : (goal width : ℕ) (marks : List ℕ) (x : ℕ) → IsReady width 0 marks → ¬ IsMarked goal marks x
+    unmarked goal width marks x fresh m = (let b = fresh.bound x 0 (marked_within goal marks x m) in omega (arith, m))
 
 -- both rows of a gate meet where a landmark is passed
 pub passed_meet : (readers sources : List (List ℕ)) (n : ℕ) → Passes readers (row_at readers n) (row_at sources n) → Meeting readers sources n

@@ -4,15 +4,11 @@ use Rattle.std.specs.List.{All}
 use Rattle.cyc_base.specs.declared.sig.Sig.{Sig}
 use Rattle.netlist.specs.declared.parts.Parts.{Parts}
 use Rattle.netlist.specs.Netlists.{gate_at}
-use Rattle.loops.specs.declared.search.Limit.{Limit}
-use Rattle.loops.specs.declared.search.Limit.TheVariants.{AtMost, AtLeast}
 use Rattle.loops.specs.declared.structure.Blocks.{Blocks}
 use Rattle.loops.specs.declared.cuts.CutSearch.{CutSearch}
-use Rattle.loops.specs.declared.cuts.Outcome.{Outcome}
-use Rattle.loops.specs.declared.cuts.Outcome.TheVariants.{Met, Ahead, Behind}
 use Rattle.loops.specs.Landmarks.{AreLandmarks}
 use Rattle.loops.specs.Links.{IsLoopPin, IsLoopSource}
-use Rattle.loops.specs.Searching.{Admits, Connects, InRow, IsFree, IsReady, level_at, row_at}
+use Rattle.loops.specs.Searching.{Connects, InRow, IsFree, IsReady, level_at, row_at}
 use Rattle.loops.specs.Walks.{AnyGate}
 
 -- the first k of these gates are raised to a level at least
@@ -22,65 +18,35 @@ pub record IsRaised (gates : List ℕ) (k least : ℕ) (old new : List ℕ) : Ty
   pub moved : (x : ℕ) → (level_at new x ≡ level_at old x) ⊎ (Contains gates x × (level_at new x ≡ least))
   pub reached : (j d : ℕ) → j < k → least ≤ level_at new (slice_index_or gates j d)
 
--- the first k of these gates are lowered to a level at most
-pub record IsLowered (gates : List ℕ) (k most : ℕ) (old new : List ℕ) : Type 0 where
-  pub size : length new ≡ length old
-  pub falls : (x : ℕ) → level_at new x ≤ level_at old x
-  pub moved : (x : ℕ) → (level_at new x ≡ level_at old x) ⊎ (Contains gates x × (level_at new x ≡ most))
-  pub reached : (j d : ℕ) → j < k → level_at new (slice_index_or gates j d) ≤ most
-
 -- a gate to which the goal leads by both rows
 pub record Meeting (readers sources : List (List ℕ)) (goal : ℕ) : Type 0 where
   pub gate : ℕ
   pub forth : Connects (InRow readers) AnyGate goal gate
   pub back : Connects (InRow sources) AnyGate goal gate
 
--- a search that has found all that is admitted, and none of the other row
-pub record HasEnded (rows : List (List ℕ)) (levels : List ℕ) (limit : Limit) (goal : ℕ) (others found : List ℕ) : Type 0 where
-  pub begins : (x : ℕ) → InRow rows goal x → Contains found x
-  pub closed : (x y : ℕ) → Contains found x → InRow rows x y → Admits limit (level_at levels y) → Contains found y
+-- a search up to a level that has found all, and none of the other row
+pub record HasEnded (rows : List (List ℕ)) (levels : List ℕ) (high goal : ℕ) (others found : List ℕ) : Type 0 where
+  pub begins : (x : ℕ) → InRow rows goal x → level_at levels x ≤ high → Contains found x
+  pub closed : (x y : ℕ) → Contains found x → InRow rows x y → level_at levels y ≤ high → Contains found y
   pub apart : (x : ℕ) → Contains found x → ¬ Contains others x
-  pub within : (x : ℕ) → Contains found x → x < length levels
 
--- how two searches from the goal ended
-abbrev pub HasOutcome : List (List ℕ) → List (List ℕ) → List ℕ → ℕ → ℕ → ℕ → List ℕ → List ℕ → Outcome → Type 0
-HasOutcome readers sources levels high low goal forth back Met = Meeting readers sources goal
-HasOutcome readers sources levels high low goal forth back Ahead = HasEnded readers levels (AtMost high) goal (row_at sources goal) forth
-HasOutcome readers sources levels high low goal forth back Behind = HasEnded sources levels (AtLeast low) goal (row_at readers goal) back
-
--- levels within so many of the middle
-pub record IsNear (n : ℕ) (level : ℕ) : Type 0 where
-  pub high : level ≤ 4294967296 + n
-  pub low : 4294967296 ≤ level + n
-
-abbrev pub AreNear : ℕ → List ℕ → Type 0
-AreNear n levels = (x : ℕ) → x < length levels → IsNear n (level_at levels x)
+-- no level is above so many
+abbrev pub AreLow : ℕ → List ℕ → Type 0
+AreLow n levels = (x : ℕ) → level_at levels x ≤ n
 
 -- what the goal reaches is raised over all that it reads
 pub record IsAhead (readers sources : List (List ℕ)) (goal : ℕ) (old new : List ℕ) : Type 0 where
   pub high : ℕ
   pub found : List ℕ
-  pub near : IsNear goal high
+  pub low : high ≤ goal
   pub above : (p : ℕ) → InRow sources goal p → level_at old p ≤ high
-  pub ended : HasEnded readers old (AtMost high) goal (row_at sources goal) found
+  pub ended : HasEnded readers old high goal (row_at sources goal) found
   pub raised : IsRaised found (length found) (high + 1) old new
 
--- what reaches the goal is lowered under all that reads it
-pub record IsBehind (readers sources : List (List ℕ)) (goal : ℕ) (old new : List ℕ) : Type 0 where
-  pub low : ℕ
-  pub most : ℕ
-  pub found : List ℕ
-  pub near : IsNear goal low
-  pub next : most + 1 ≡ low
-  pub below : (s : ℕ) → InRow readers goal s → low ≤ level_at old s
-  pub ended : HasEnded sources old (AtLeast low) goal (row_at readers goal) found
-  pub lowered : IsLowered found (length found) most old new
-
--- whether both rows of the goal meet: where they don't, levels are moved so that what it reads is below what reads it
+-- whether both rows of the goal meet: where they don't, levels are raised so that what it reads is below what reads it
 abbrev pub HasParted : List (List ℕ) → List (List ℕ) → ℕ → List ℕ → List ℕ → Bool → Type 0
 HasParted readers sources goal old new true = Meeting readers sources goal × (new ≡ old)
-HasParted readers sources goal old new false =
-    IsAhead readers sources goal old new ⊎ IsBehind readers sources goal old new
+HasParted readers sources goal old new false = IsAhead readers sources goal old new
 
 -- the rows of the first k readers have gained the gate
 pub record HaveGained (readers : List ℕ) (gate k : ℕ) (old new : List (List ℕ)) : Type 0 where
@@ -112,7 +78,7 @@ pub record IsKept (R : ℕ → ℕ → Type 0) (cut : List Bool) (n : ℕ) (read
   pub reads : (x y : ℕ) → IsFree cut n y → InRow sources y x ↔ (R x y × IsFree cut n x)
   pub reads_within : (x y : ℕ) → InRow sources y x → x < length cut
   pub rise : (x y : ℕ) → R x y → IsFree cut n x → IsFree cut n y → level_at levels x ≤ level_at levels y
-  pub near : AreNear n levels
+  pub low : AreLow n levels
 
 -- a row and a level for each gate, and rows that name gates alone
 pub record AreLinks (readers sources : List (List ℕ)) (levels : List ℕ) : Type 0 where
@@ -125,16 +91,14 @@ pub record AreLinks (readers sources : List (List ℕ)) (levels : List ℕ) : Ty
 pub record IsFresh (gates : ℕ) (search : CutSearch) : Type 0 where
   pub readers : search.kept.readers.items ≡ replicate gates []
   pub sources : search.kept.sources.items ≡ replicate gates []
-  pub levels : search.kept.levels.items ≡ replicate gates 4294967296
-  pub forth : IsReady gates 0 search.searches.forth.marks.items
-  pub back : IsReady gates 0 search.searches.back.marks.items
+  pub levels : search.kept.levels.items ≡ replicate gates 0
+  pub ready : IsReady gates 0 search.search.marks.items
   pub landmarks : (rows : List (List ℕ)) (width : ℕ) → AreLandmarks rows width search.landmarks.list.items
 
 -- and one that has gone through the gates before n
 pub record IsCutSearch (R : ℕ → ℕ → Type 0) (cut : List Bool) (n : ℕ) (search : CutSearch) : Type 0 where
   pub kept : IsKept R cut n search.kept.readers.items search.kept.sources.items search.kept.levels.items
-  pub forth : IsReady (length cut) n search.searches.forth.marks.items
-  pub back : IsReady (length cut) n search.searches.back.marks.items
+  pub ready : IsReady (length cut) n search.search.marks.items
   pub landmarks : AreLandmarks search.kept.readers.items (length cut) search.landmarks.list.items
 
 -- a gate's level is between those of the gates behind it and of those ahead of it
@@ -143,4 +107,4 @@ pub record IsPlaced (behind ahead : List ℕ) (gate : ℕ) (old new : List ℕ) 
   pub is : new ≡ set old gate level
   pub above : (p : ℕ) → Contains behind p → level_at old p ≤ level
   pub below : (s : ℕ) → Contains ahead s → level ≤ level_at old s
-  pub near : (n : ℕ) → AreNear n old → IsNear n level
+  pub low : (n : ℕ) → AreLow n old → level ≤ n

@@ -1,9 +1,6 @@
--- A search along rows of gates, from one gate, the goal, on.
-use Rattle.std.specs.Prelude.{◌≡◌, ◌⊎◌, ◌<◌, ◌≤◌, ◌+◌, ◌-◌, ◌==◌, ℕ, suc, Bool, true, false, Some, None, if◌then◌else◌, List, [], ◌∷◌, length, slice_index_or, All, Contains}
+-- A search along rows of gates. Its goal is a number that its marks have.
+use Rattle.std.specs.Prelude.{◌≡◌, ◌⊎◌, ◌<◌, ◌≤◌, ◌+◌, ◌-◌, ◌==◌, ℕ, suc, Bool, true, false, if◌then◌else◌, List, [], ◌∷◌, length, slice_index_or, All, Contains}
 use Rattle.std.specs.List.{AllByRecursion}
-use Rattle.loops.specs.declared.search.Limit.{Limit}
-use Rattle.loops.specs.declared.search.Limit.TheVariants.{AtMost, AtLeast}
-use Rattle.std.specs.declared.option.Option.{Option}
 use Rattle.loops.specs.declared.search.Search.{Search}
 use Rattle.loops.specs.Cuts.{is_cut}
 use Rattle.loops.specs.Walks.{AnyGate}
@@ -34,16 +31,13 @@ level_at levels n = slice_index_or levels n 0
 abbrev pub InRow : List (List ℕ) → ℕ → ℕ → Type 0
 InRow rows a b = Contains (row_at rows a) b
 
-abbrev pub Admits : Limit → ℕ → Type 0
-Admits (AtMost bound) level = level ≤ bound
-Admits (AtLeast bound) level = bound ≤ level
-
 -- a mark says in which search a gate was found
 abbrev pub IsMarked : ℕ → List ℕ → ℕ → Type 0
 IsMarked goal marks n = slice_index_or marks n 0 ≡ goal + 1
 
-pub record IsNew (levels : List ℕ) (limit : Limit) (goal : ℕ) (marks : List ℕ) (n : ℕ) : Type 0 where
-  pub admitted : Admits limit (level_at levels n)
+-- a gate that a search up to a level enters
+pub record IsNew (levels : List ℕ) (high goal : ℕ) (marks : List ℕ) (n : ℕ) : Type 0 where
+  pub admitted : level_at levels n ≤ high
   pub unmarked : ¬ IsMarked goal marks n
 
 -- how many gates this search hasn't found
@@ -63,63 +57,53 @@ pub record Meets (goal : ℕ) (row marks : List ℕ) : Type 0 where
   pub marked : IsMarked goal marks gate
 
 -- what following the first k gates of a row did to the marks and to what was found
-pub record Follows (levels : List ℕ) (limit : Limit) (goal : ℕ) (row : List ℕ) (k : ℕ) (marks after found more : List ℕ) : Type 0 where
+pub record Follows (levels : List ℕ) (high goal : ℕ) (row : List ℕ) (k : ℕ) (marks after found more : List ℕ) : Type 0 where
   pub size : length after ≡ length marks
   pub bound : All (λ m. m ≤ goal + 1) marks → All (λ m. m ≤ goal + 1) after
   pub longer : length found ≤ length more
   pub same : (j d : ℕ) → j < length found → slice_index_or more j d ≡ slice_index_or found j d
   pub keeps : (x : ℕ) → IsMarked goal marks x → IsMarked goal after x
   pub marked : (x : ℕ) → IsMarked goal after x → IsMarked goal marks x ⊎ Contains more x
-  pub each : (j d : ℕ) → j < k → Admits limit (level_at levels (slice_index_or row j d)) → IsMarked goal after (slice_index_or row j d)
+  pub each : (j d : ℕ) → j < k → level_at levels (slice_index_or row j d) ≤ high → IsMarked goal after (slice_index_or row j d)
   pub only : (x : ℕ) → Contains more x → Contains found x ⊎ (Contains row x × IsMarked goal after x)
   pub falls : unmarked_count goal after + length more ≤ unmarked_count goal marks + length found
 
--- each gate to which this one leads, and which is admitted, was found
-abbrev pub IsPassed : List (List ℕ) → List ℕ → Limit → ℕ → List ℕ → ℕ → Type 0
-IsPassed rows levels limit goal marks n = (y : ℕ) → InRow rows n y → Admits limit (level_at levels y) → IsMarked goal marks y
-
--- a gate that was found
-pub record IsReached (rows : List (List ℕ)) (goal : ℕ) (marks : List ℕ) (n : ℕ) : Type 0 where
-  pub marked : IsMarked goal marks n
-  pub path : Connects (InRow rows) AnyGate goal n
-
--- a search underway
-pub record IsSearching (rows : List (List ℕ)) (levels : List ℕ) (limit : Limit) (goal : ℕ) (search : Search) : Type 0 where
-  pub ready : IsReady (length levels) (goal + 1) search.marks.items
-  pub begins : (x : ℕ) → InRow rows goal x → IsMarked goal search.marks.items x
-  pub found : (x : ℕ) → IsMarked goal search.marks.items x → Contains search.found.items x
-  pub reached : (x : ℕ) → Contains search.found.items x → IsReached rows goal search.marks.items x
-  pub within : search.passed ≤ length search.found.items
-  pub passed : (k d : ℕ) → k < search.passed → IsPassed rows levels limit goal search.marks.items (slice_index_or search.found.items k d)
-
--- how many gates are still to be passed at most
-abbrev pub work_left : ℕ → Search → ℕ
-work_left goal search = unmarked_count goal search.marks.items + length search.found.items - search.passed
-
--- a gate to which the goal leads and that the other search marked
-pub record MeetsAt (rows : List (List ℕ)) (goal : ℕ) (others : List ℕ) : Type 0 where
-  pub gate : ℕ
-  pub path : Connects (InRow rows) AnyGate goal gate
-  pub marked : IsMarked goal others gate
-
--- a search that has passed one more gate
-pub record GoesOn (rows : List (List ℕ)) (levels : List ℕ) (limit : Limit) (goal : ℕ) (others : List ℕ) (old new : Search) : Type 0 where
-  pub searching : IsSearching rows levels limit goal new
-  pub apart : (x : ℕ) → Contains new.found.items x → Contains old.found.items x ⊎ (¬ IsMarked goal others x)
-  pub keeps : (x : ℕ) → IsMarked goal old.marks.items x → IsMarked goal new.marks.items x
-  pub less : work_left goal new < work_left goal old
-
--- what one more gate showed
-abbrev pub HasAdvanced : List (List ℕ) → List ℕ → Limit → ℕ → List ℕ → Search → Search → Option Bool → Type 0
-HasAdvanced rows levels limit goal others old new (Some true) = MeetsAt rows goal others × (new ≡ old)
-HasAdvanced rows levels limit goal others old new (Some false) = (old.passed ≡ length old.found.items) × (new ≡ old)
-HasAdvanced rows levels limit goal others old new None = GoesOn rows levels limit goal others old new
+-- each gate to which this one leads, up to a level, was found
+abbrev pub IsPassed : List (List ℕ) → List ℕ → ℕ → ℕ → List ℕ → ℕ → Type 0
+IsPassed rows levels high goal marks n = (y : ℕ) → InRow rows n y → level_at levels y ≤ high → IsMarked goal marks y
 
 -- the gate itself, or one to which rows lead from it
 abbrev pub Reaches : List (List ℕ) → ℕ → ℕ → Type 0
 Reaches rows a b = (a ≡ b) ⊎ Connects (InRow rows) AnyGate a b
 
--- what a search marks that goes on from a gate is what that gate reaches
-pub record HasSpread (rows : List (List ℕ)) (goal gate : ℕ) (marks after : List ℕ) : Type 0 where
+-- a gate that was found from a row on
+pub record IsFound (rows : List (List ℕ)) (width goal : ℕ) (row marks : List ℕ) (n : ℕ) : Type 0 where
+  pub within : n < width
+  pub marked : IsMarked goal marks n
+  pub start : ℕ
+  pub listed : Contains row start
+  pub reach : Reaches rows start n
+
+-- a search underway, which has passed k of the gates that it found
+pub record IsSearching (rows : List (List ℕ)) (levels : List ℕ) (high goal : ℕ) (row marks after found : List ℕ) (k : ℕ) : Type 0 where
   pub size : length after ≡ length marks
-  pub marked : (x : ℕ) → IsMarked goal after x → IsMarked goal marks x ⊎ Reaches rows gate x
+  pub bound : All (λ m. m ≤ goal + 1) marks → All (λ m. m ≤ goal + 1) after
+  pub marked : (x : ℕ) → IsMarked goal after x → IsMarked goal marks x ⊎ Contains found x
+  pub reached : (x : ℕ) → Contains found x → IsFound rows (length levels) goal row after x
+  pub begins : (x : ℕ) → Contains row x → level_at levels x ≤ high → IsMarked goal after x
+  pub within : k ≤ length found
+  pub passed : (j d : ℕ) → j < k → IsPassed rows levels high goal after (slice_index_or found j d)
+
+-- how many gates are still to be passed at most
+abbrev pub work_left : ℕ → List ℕ → List ℕ → ℕ → ℕ
+work_left goal marks found k = unmarked_count goal marks + length found - k
+
+-- how it ends: one of the others is marked, or none is and all that it found was passed
+abbrev pub EndsAt : ℕ → List ℕ → List ℕ → List ℕ → ℕ → Bool → Type 0
+EndsAt goal others marks found k true = Meets goal others marks
+EndsAt goal others marks found k false = (k ≡ length found) × ((n : ℕ) → Contains others n → ¬ IsMarked goal marks n)
+
+pub record HasSearched (rows : List (List ℕ)) (levels : List ℕ) (high goal : ℕ) (row others : List ℕ) (old new : Search) (met : Bool) : Type 0 where
+  pub passed : ℕ
+  pub searching : IsSearching rows levels high goal row old.marks.items new.marks.items new.found.items passed
+  pub ends : EndsAt goal others new.marks.items new.found.items passed met

@@ -6,15 +6,24 @@ ghost use Rattle.std.specs.List.{All};
 use crate::gate_list::{GateList, empty_lists};
 use crate::grouped_netlist::GroupedNetlist;
 use crate::kept::{add_reader, add_source};
-use crate::levels::{MIDDLE, place};
+use crate::levels::highest;
 use std::alloc::{AllocError, Global};
 
 /// For each gate those that read it, those that it reads, and its level.
-#[derive(Drop)]
 pub(crate) struct KeptGates {
     pub readers: Vec<GateList>,
     pub sources: Vec<GateList>,
-    pub levels: Vec<u64>,
+    pub levels: Vec<u32>,
+}
+
+impl Drop for KeptGates {
+    fn drop(self) {
+        let KeptGates {
+            readers: _,
+            sources: _,
+            levels: _,
+        } = self;
+    }
 }
 
 /// The same, to be read: there is a row and a level for each gate, and rows name gates alone.
@@ -22,7 +31,7 @@ pub(crate) struct KeptGates {
 pub(crate) struct KeptLinks<'a> {
     pub readers: &'a [GateList],
     pub sources: &'a [GateList],
-    pub levels: &'a [u64],
+    pub levels: &'a [u32],
     ghost readers_size: { length readers.now ≡ length levels.now },
     ghost sources_size: { length sources.now ≡ length levels.now },
     ghost readers_within: { All (All (λ gate. gate < length levels.now)) readers.now },
@@ -38,11 +47,11 @@ impl KeptGates {
     pub fn new(alloc: Global, gates: u32) -> Result<KeptGates, AllocError>
         ensures readers { IfOk result (λ kept. kept.readers.items ≡ replicate gates []) }
         ensures sources { IfOk result (λ kept. kept.sources.items ≡ replicate gates []) }
-        ensures levels { IfOk result (λ kept. kept.levels.items ≡ replicate gates 4294967296) }
+        ensures levels { IfOk result (λ kept. kept.levels.items ≡ replicate gates 0) }
     {
         let readers = empty_lists(alloc, gates)?;
         let sources = empty_lists(alloc, gates)?;
-        let levels = vec![in alloc; MIDDLE; gates as usize]?;
+        let levels = vec![in alloc; 0; gates as usize]?;
         Ok(KeptGates {
             readers,
             sources,
@@ -63,8 +72,8 @@ impl KeptGates {
         }
     }
 
-    /// Enters a gate whose sources are there: it gets a level between those and its readers', and a place in the rows
-    /// of both.
+    /// Enters a gate whose sources are there: it gets the highest of their levels, and a place in the rows of those and of
+    /// its readers.
     pub fn insert(&mut self, grouped: &GroupedNetlist<'_>, gate: u32) -> Result<(), AllocError>
         requires gate { gate < length grouped.now.net.gates }
         requires size { length self.old.levels.items ≡ length grouped.now.net.gates }
@@ -76,7 +85,7 @@ impl KeptGates {
     {
         let behind = self.sources[gate as usize].gates();
         let ahead = self.readers[gate as usize].gates();
-        place(&mut self.levels, behind, ahead, gate);
+        self.levels[gate as usize] = highest(&self.levels, behind);
         add_source(&mut self.sources, ahead, gate)?;
         add_reader(&mut self.readers, grouped, gate)
     }

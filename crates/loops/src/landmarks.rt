@@ -15,13 +15,23 @@ use std::alloc::{AllocError, Global};
 const MOST: usize = 4;
 
 /// A gate, and two searches from it that go on as gates are entered.
-#[derive(Debug, Drop)]
+#[derive(Debug)]
 pub(crate) struct Landmark {
     pub gate: u32,
     /// It has marked gates to which the landmark leads.
     pub ahead: Search,
     /// It has marked gates that lead to the landmark.
     pub behind: Search,
+}
+
+impl Drop for Landmark {
+    fn drop(self) {
+        let Landmark {
+            gate: _,
+            ahead: _,
+            behind: _,
+        } = self;
+    }
 }
 
 /// The landmarks, the oldest of which make place for others.
@@ -47,9 +57,9 @@ fn landmark_at(
     ensures { IfOk result (IsLandmark links.entry.readers.now (length links.entry.levels.now)) }
 {
     let mut ahead = Search::new(alloc, gates)?;
-    ahead.spread(links.readers, links.levels, gate, gate)?;
+    ahead.spread(links.readers, links.levels, u32::MAX, gate, &[gate], &[])?;
     let mut behind = Search::new(alloc, gates)?;
-    behind.spread(links.sources, links.levels, gate, gate)?;
+    behind.spread(links.sources, links.levels, u32::MAX, gate, &[gate], &[])?;
     Ok(Landmark {
         gate,
         ahead,
@@ -141,26 +151,27 @@ impl Landmarks {
         Ok(())
     }
 
-    /// Learns from a search whose walk was closed: its gate becomes a landmark once searches have found as many gates
-    /// as there are, which pays for the landmark's two searches.
+    /// Learns from a search whose walk was closed: one of the gates that it found becomes a landmark once searches
+    /// have found as many as there are, which pays for the landmark's two searches.
     pub fn learn(
         &mut self,
         alloc: Global,
         links: KeptLinks<'_>,
         gates: u32,
-        back: &Search,
+        search: &Search,
     ) -> Result<(), AllocError>
         requires gates { gates ≡ length links.levels.now }
-        requires within { (n : ℕ) → Contains back.now.found.items n → n < length links.levels.now }
-        requires back { (n : ℕ) → Contains back.now.found.items n → ReadsBack links.readers.now links.sources.now n }
+        requires within { (n : ℕ) → Contains search.now.found.items n → n < length links.levels.now }
+        requires back { (n : ℕ) → Contains search.now.found.items n → ReadsBack links.readers.now links.sources.now n }
         requires landmarks { AreLandmarks links.readers.now (length links.levels.now) self.old.list.items }
         ensures { OnOk result (AreLandmarks links.entry.readers.now (length links.entry.levels.now) self.new.list.items) }
     {
-        self.found = self.found.saturating_add(back.found.len());
-        if self.found < gates as usize || back.passed >= back.found.len() {
+        let found = &search.found;
+        self.found = self.found.saturating_add(found.len());
+        if self.found < gates as usize || found.is_empty() {
             return Ok(());
         }
-        let landmark = landmark_at(alloc, links, gates, back.found[back.passed])?;
+        let landmark = landmark_at(alloc, links, gates, found[found.len() / 2])?;
         self.found = 0;
         self.put(landmark)
     }

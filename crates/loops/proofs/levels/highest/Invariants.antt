@@ -4,7 +4,6 @@ use Rattle.loops.proofs.levels.highest.Given as goal
 
 abbrev pub invariant-loop-gate : goal.invariant-loop-gate
 invariant-loop-gate l = record {
-  floor : l.floor ≤ l.level;
   above : (j d : ℕ) → j < l.gate-index → level_at l.levels (get_or l.gates j d) ≤ l.level;
-  least : (bound : ℕ) → l.floor ≤ bound → ((n : ℕ) → Contains l.gates n → level_at l.levels n ≤ bound) → l.level ≤ bound;
+  least : (bound : ℕ) → ((n : ℕ) → Contains l.gates n → level_at l.levels n ≤ bound) → l.level ≤ bound;
 }

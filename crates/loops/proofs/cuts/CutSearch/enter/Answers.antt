@@ -69,7 +69,7 @@ learn-requires-clause-within c =
     let same = ap (λ (xs : List ℕ). length xs) (c.links-then-branch.ensures.levels ∙ met.1) in
     let kept = laid.0 in
     λ x found.
-    (let free = found_free (IsLoopPin c.args.grouped.now.net c.args.grouped.now.blocks) c.args.cut.now c.args.gate l c.args.self.now.kept.readers.items sources c.args.self.now.kept.levels.items laid.0 laid.1 x (c.in_ok-part.ensures.reached x found) in
+    (let free = found_free (IsLoopPin c.args.grouped.now.net c.args.grouped.now.blocks) c.args.cut.now c.args.gate l c.args.self.now.kept.readers.items sources c.args.self.now.kept.levels.items laid.0 laid.1 x (c.in_ok-part.ensures.found x found) in
     let before = free.before in
     omega (arith, l, same, kept.levels_size))
 
@@ -81,7 +81,7 @@ learn-requires-clause-back c =
     λ x found.
     rw (c.links-then-branch.ensures.readers, c.links-then-branch.ensures.sources, c.in_ok-part.ensures.readers, c.in_ok-part.ensures.sources)
     (reads_back (IsLoopPin c.args.grouped.now.net c.args.grouped.now.blocks) c.args.cut.now c.args.gate c.args.self.now.kept.readers.items sources c.args.self.now.kept.levels.items laid.0 x
-    (found_free (IsLoopPin c.args.grouped.now.net c.args.grouped.now.blocks) c.args.cut.now c.args.gate l c.args.self.now.kept.readers.items sources c.args.self.now.kept.levels.items laid.0 laid.1 x (c.in_ok-part.ensures.reached x found)))
+    (found_free (IsLoopPin c.args.grouped.now.net c.args.grouped.now.blocks) c.args.cut.now c.args.gate l c.args.self.now.kept.readers.items sources c.args.self.now.kept.levels.items laid.0 laid.1 x (c.in_ok-part.ensures.found x found)))
 
 pub returns-then-branch-clause-leads : goal.returns-then-branch-clause-leads
 returns-then-branch-clause-leads c =
@@ -104,8 +104,7 @@ returns-then-branch-clause-search c =
     record {
       kept = rw (c.in_ok-part.ensures.readers, c.in_ok-part.ensures.sources, met.1)
           (left_out (IsLoopPin c.args.grouped.now.net c.args.grouped.now.blocks) c.args.cut.now c.args.gate l c.args.self.now.kept.readers.items sources c.args.self.now.kept.levels.items laid.0);
-      forth = ready_as (length c.args.self.now.kept.levels.items) (length (set c.args.cut.now c.args.gate true)) (c.args.gate + 1) c.part.new.self.forth.marks.items (omega (arith, width, kept.levels_size)) c.in_ok-part.ensures.forth;
-      back = ready_as (length c.args.self.now.kept.levels.items) (length (set c.args.cut.now c.args.gate true)) (c.args.gate + 1) c.part.new.self.back.marks.items (omega (arith, width, kept.levels_size)) c.in_ok-part.ensures.back;
+      ready = ready_as (length c.args.self.now.kept.levels.items) (length (set c.args.cut.now c.args.gate true)) (c.args.gate + 1) c.part.new.search.marks.items (omega (arith, width, kept.levels_size)) c.in_ok-part.ensures.ready;
       landmarks = landmarks_as links.readers.now c.part.new.kept.readers.items (length links.levels.now) (length (set c.args.cut.now c.args.gate true)) c.learn.new.self.list.items
           (sym c.links-then-branch.ensures.readers) (omega (arith, width, same, kept.levels_size)) c.in_ok-learn.ensures;
     }
@@ -164,8 +163,7 @@ returns-clause-search c =
     let same = ap (λ (xs : List ℕ). length xs) c.links-2.ensures.levels in
     record {
       kept = kept;
-      forth = ready_as (length c.args.self.now.kept.levels.items) (length (set c.args.cut.now n false)) (n + 1) c.part.new.self.forth.marks.items (omega (arith, width, before.levels_size)) c.in_ok-part.ensures.forth;
-      back = ready_as (length c.args.self.now.kept.levels.items) (length (set c.args.cut.now n false)) (n + 1) c.part.new.self.back.marks.items (omega (arith, width, before.levels_size)) c.in_ok-part.ensures.back;
+      ready = ready_as (length c.args.self.now.kept.levels.items) (length (set c.args.cut.now n false)) (n + 1) c.part.new.search.marks.items (omega (arith, width, before.levels_size)) c.in_ok-part.ensures.ready;
       landmarks = landmarks_as c.links-2.result.readers.now c.insert.new.self.readers.items (length c.links-2.result.levels.now) (length (set c.args.cut.now n false)) c.extend.new.self.list.items
           (sym c.links-2.ensures.readers) (omega (arith, width, same, kept.levels_size)) c.in_ok-extend.ensures;
     }

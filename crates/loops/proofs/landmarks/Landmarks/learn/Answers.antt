@@ -3,7 +3,7 @@ use Rattle.std.proofs.Common.{arith, Contains}
 use Rattle.loops.proofs.landmarks.Landmarks.learn.Goals as goal
 use Rattle.loops.proofs.landmarks.Landmarks.learn.Goals.{After-index}
 
-is_found : (c : After-index) → Contains c.args.back.now.found.items c.index.result.now
+is_found : (c : After-index) → Contains c.args.search.now.found.items c.index.result.now
 is_found c = grind arith
 
 pub landmark_at-requires-clause-gate : goal.landmark_at-requires-clause-gate
