@@ -7,7 +7,6 @@
 #![tactic(auto)]
 
 mod assumption;
-mod copying;
 mod implied;
 pub mod laws;
 mod rows;

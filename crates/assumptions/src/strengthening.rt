@@ -6,11 +6,10 @@ ghost use Rattle.care_rows.specs.Rows.{AreSteadyRows};
 ghost use Rattle.care_rows.specs.Restricted.{IsRestrictFault};
 ghost use Rattle.assumptions.specs.Making.{Excludes, IsBeside};
 
-use crate::copying::copy_model;
 use care_rows::{RestrictFault, Row, restricted};
 use care_sets::{Care, CareFault, bind};
 use loops::LoopedNetlist;
-use netlist::Netlist;
+use netlist::{Netlist, copy_netlist};
 use std::alloc::{AllocError, Global};
 
 fn copy_invariant(alloc: Global, care: &Care) -> Result<Option<Netlist>, AllocError>
@@ -18,7 +17,7 @@ fn copy_invariant(alloc: Global, care: &Care) -> Result<Option<Netlist>, AllocEr
     ensures valid { IsCare care.now }
 {
     match care.invariant() {
-        Some(model) => Ok(Some(copy_model(alloc, model)?)),
+        Some(model) => Ok(Some(copy_netlist(alloc, model)?)),
         None => Ok(None),
     }
 }

@@ -1,11 +1,10 @@
 -- The tables of cases, what is chosen among them, and the heads.
-use Rattle.std.proofs.Common.{◌≡◌, inl, inr, ℕ, zero, suc, ◌+◌, ◌-◌, ◌*◌, ◌/◌, ◌%◌, ◌<◌, ◌≤◌, Bool, true, false, if◌then◌else◌, List, [], ◌∷◌, ◌++◌, length, get_or, set, take, drop, replicate, slice_get, Option, None, All, Contains, refl, sym, ap, ap₂, ◌∙◌, subst, arith}
-use Rattle.std.specs.Prelude.{◌==◌}
+use Rattle.std.proofs.Common.{◌≡◌, ◌⊎◌, inl, inr, ℕ, zero, suc, ◌+◌, ◌-◌, ◌*◌, ◌<◌, ◌≤◌, Bool, true, false, not, List, [], ◌∷◌, ◌++◌, length, map, get_or, set, take, replicate, Option, Some, None, All, Contains, refl, sym, ap, ◌∙◌, subst, arith}
 use Rattle.std.specs.List.{range_with_len}
 use Rattle.std.specs.List.Sorted.{IsPermutation}
-use Rattle.std.proofs.lemmas.Bool.{cases_eq, cases_lt, eq-eqb, ne_eqb}
-use Rattle.std.proofs.lemmas.List.{get_or-append_right, get_or-set_other, get_or-set_same, get_or_append_left, get_or_default, length-append, length-replicate, length-set, take_more}
-use Rattle.std.proofs.lemmas.List.Elements.{All-append, All-cons, All-contains, All-from_recursion, All-map, All-nil, recursion_from_All}
+use Rattle.std.proofs.lemmas.Bool.{cases_eq, cases_lt}
+use Rattle.std.proofs.lemmas.List.{get_or-append_right, get_or-map, get_or-set_other, get_or-set_same, get_or_append_left, get_or_default, length-append, length-map, length-replicate, length-set, take_more}
+use Rattle.std.proofs.lemmas.List.Elements.{All-append, All-cons, All-contains, All-from_recursion, All-get_or, All-map, All-nil, All-push, All-replicate, All-same, recursion_from_All}
 use Rattle.std.proofs.lemmas.List.FromFn.{get_or-range_with_len, length-range_with_len}
 use Rattle.std.proofs.lemmas.List.Sorted.{Contains-permutation, length_permutation}
 use Rattle.cyc_base.proofs.ListLemmas.{Contains-filter, Contains-range}
@@ -17,71 +16,45 @@ use Rattle.cyc_base.proofs.OrderLemmas.{Below-refl, EachBelow-set}
 use Rattle.netlist.specs.declared.parts.Gate.{Gate}
 use Rattle.netlist.specs.declared.parts.Parts.{Parts}
 use Rattle.netlist.specs.Fixpoint.{wire, fix}
-use Rattle.netlist.specs.Netlists.{count, no_gate, signal}
+use Rattle.netlist.specs.Netlists.{count, gate_sig, no_gate, signal}
 use Rattle.netlist.proofs.FixpointLemmas.{unknown_below_state}
 use Rattle.loops.specs.Cones.{is_marked}
 use Rattle.loops.specs.Sweeps.{first_gate}
+use Rattle.case_split.specs.declared.cases.Case.{Case}
+use Rattle.case_split.specs.declared.cases.ColumnValue.{ColumnValue}
 use Rattle.case_split.specs.declared.operands.Operand.{Operand}
-use Rattle.case_split.specs.declared.operands.Operand.TheVariants.{Wire}
-use Rattle.case_split.specs.Cases.{case_number}
-use Rattle.case_split.specs.Operands.{IsWithin}
+use Rattle.case_split.specs.declared.operands.Operand.TheVariants.{Constant, Wire}
+use Rattle.case_split.specs.Cases.{Holds, IsInCase}
+use Rattle.case_split.specs.Operands.{value_by, IsWithin}
 use Rattle.case_split.specs.Added.{AreNew, IsMore}
 use Rattle.case_split.specs.Sizes.{copied_gates}
 use Rattle.case_split.specs.Tables.{operand_at, plain_of, ArePlain, IsPlain, IsMade, IsTable, AreStanding, AreCopySteps}
-use Rattle.case_split.specs.CaseTables.{IsBelowCase, IsCaseTable, IsTableStep, IsEntry, AreTables, IsKnowing, ReadsCase}
-use Rattle.case_split.specs.Choices.{IsWithinAny}
-use Rattle.case_split.specs.Heads.{leaves_of, IsRoot, IsRootStep, AreRoots, IsHead, AreHeads}
-use Rattle.case_split.proofs.AddedLemmas.{agrees_before, all_within_more, more_length, more_none, more_trans, more_weaker}
-use Rattle.case_split.proofs.ChoiceLemmas.{all_any_more, at_zip, case_from, within_any_more, zip_width}
+use Rattle.case_split.specs.CaseTables.{IsBelowCase, IsPossible, IsImpossible, IsCaseTable, IsTableStep, IsEntry, AreTables}
+use Rattle.case_split.specs.Choices.{IsCube, AreLeavesOf, IsChosen}
+use Rattle.case_split.specs.Heads.{leaves_of, AreStandingIn, IsWithinAny, IsRoot, IsRootStep, AreRoots, IsHead, AreHeads}
+use Rattle.case_split.proofs.AddedLemmas.{agrees_before, all_within_more, more_length, more_none, more_trans, more_weaker, within_more}
 use Rattle.case_split.proofs.CofactorLemmas.{all_filtered}
 use Rattle.case_split.proofs.TableLemmas.{made_more, standing_more}
 
--- ---- the values of a case
+-- ---- what is known in a case
 
-half_of : (b : Bool) (r rest : ℕ) → (if b then 1 else 0) + 2 * r ≡ rest → ((rest % 2 == 1) ≡ b) × (rest / 2 ≡ r)
-half_of true r rest e = (eq-eqb (rest % 2) 1 (omega arith), omega arith)
-half_of false r rest e = (ne_eqb (rest % 2) 1 (λ x. absurd (omega (arith, x))), omega arith)
+all_front : {A : Type 0} (P : A → Type 0) (xs ys : List A) → All P (xs ++ ys) → All P xs
+all_front P xs ys h i d l = subst P (get_or_append_left xs ys d i l) (h i d (let e = length-append xs ys in omega arith))
 
-pub reads_none : (number : ℕ) → ReadsCase number 0 [] number
-reads_none number = record { width = refl; read = λ bs l e. (refl, e) }
+pub knows_none : (v : List Trit) (columns : ℕ) (given : List Trit) → given ≡ replicate columns X → length v ≡ columns → EachBelow given v
+knows_none v columns given is wide = subst (λ (g : List Trit). EachBelow g v) (sym is) (unknown_below_state columns v wide)
 
-pub reads_next : (number n : ℕ) (values : List Bool) (rest : ℕ) → ReadsCase number n values rest → ReadsCase number (n + 1) (values ++ (rest % 2 == 1) ∷ []) (rest / 2)
-reads_next number n values rest h = record {
-  width = (let e = length-append values ((rest % 2 == 1) ∷ []) in let w = h.width in omega arith);
-  read = λ bs l e.
-      let before = h.read bs (omega arith) e in
-      let b = get_or bs n false in
-      let here = half_of b (case_number (drop (suc n) bs)) rest (sym (case_from bs n (omega arith)) ∙ before.1) in (
-        ap₂ (λ xs x. xs ++ x ∷ []) before.0 here.0 ∙ sym (take_more bs n false (omega arith)),
-        ap (λ (k : ℕ). case_number (drop k bs)) (let s : n + 1 ≡ suc n = omega arith in s) ∙ sym here.1,
-      );
-}
-
-pub reads_all : (number n : ℕ) (values : List Bool) (rest : ℕ) (bs : List Bool) → ReadsCase number n values rest → length bs ≡ n → case_number bs ≡ number → values ≡ bs
-reads_all number n values rest bs h e k = (h.read bs (omega arith) k).0 ∙ take_all bs n e
+pub knows_next : (v : List Trit) (values : List ColumnValue) (i : ℕ) (d : ColumnValue) (given : List Trit) (value : Trit) → EachBelow given v → i < length values → All (Holds v) (take (i + 1) values) → value ≡ bit (get_or values i d).value → EachBelow (set given (get_or values i d).column value) v
+knows_next v values i d given value h l all is =
+    EachBelow-set given v (get_or values i d).column value h
+    (subst (Below value) (is ∙ sym (at (take i values) (subst (All (Holds v)) (take_more values i d l) all))) (Below-refl value))
   where
-    take_all : (xs : List Bool) (m : ℕ) → length xs ≡ m → take m xs ≡ xs
-    take_all [] zero e = refl
-    take_all [] (suc m) e = absurd (omega arith)
-    take_all (x ∷ xs) zero e = absurd (omega arith)
-    take_all (x ∷ xs) (suc m) e = ap (λ ys. x ∷ ys) (take_all xs m (omega arith))
+    at : (xs : List ColumnValue) → All (Holds v) (xs ++ get_or values i d ∷ []) → get_or v (get_or values i d).column X ≡ bit (get_or values i d).value
+    at [] k = k 0 d (omega arith)
+    at (x ∷ xs) k = at xs (λ j e m. k (suc j) e (omega arith))
 
-pub knows_none : (net : Parts) (picked : List ℕ) (number columns : ℕ) (given : List Trit) → columns ≡ first_gate net → given ≡ replicate columns X → IsKnowing net picked number given
-knows_none net picked number columns given e is = record {
-  width = ap length is ∙ length-replicate columns X ∙ e;
-  below = λ v bs wide have k. subst (λ (g : List Trit). EachBelow g v) (sym is) (unknown_below_state columns v (wide ∙ sym e));
-}
-
-pub knows_next : (net : Parts) (picked : List ℕ) (number j column : ℕ) (given : List Trit) (values : List Bool) (value : Trit) → ((bs : List Bool) → length bs ≡ length picked → case_number bs ≡ number → values ≡ bs) → IsKnowing net picked number given → j < length picked → get_or picked j 0 ≡ column → value ≡ bit (get_or values j false) →
-    IsKnowing net picked number (set given column value)
-knows_next net picked number j column given values value are h l at is = record {
-  width = length-set given column value ∙ h.width;
-  below = λ v bs wide have k.
-      let same = are bs (sym (zip_width (λ (c : ℕ) (b : Bool). get_or v c X ≡ bit b) picked bs have)) k in
-      let there = at_zip (λ (c : ℕ) (b : Bool). get_or v c X ≡ bit b) picked bs j 0 false have l in
-      let e : get_or v column X ≡ value = ap (λ (c : ℕ). get_or v c X) (sym at) ∙ there ∙ ap (λ (xs : List Bool). bit (get_or xs j false)) (sym same) ∙ sym is in
-      EachBelow-set given v column value (h.below v bs wide have k) (subst (Below value) (sym e) (Below-refl value));
-}
+pub knows_before : (v : List Trit) (values : List ColumnValue) (i : ℕ) (d : ColumnValue) → i < length values → All (Holds v) (take (i + 1) values) → All (Holds v) (take i values)
+knows_before v values i d l all = all_front (Holds v) (take i values) (get_or values i d ∷ []) (subst (All (Holds v)) (take_more values i d l) all)
 
 -- ---- the gates of loops
 
@@ -135,13 +108,29 @@ table_made net marks given values list order old new before after is ev wide pla
       are = steps.are;
     }
 
-pub case_table : (net : Parts) (marks : List Bool) (picked : List ℕ) (number : ℕ) (given : List Trit) (old new : List Gate) (table : List Operand) → IsBelowCase net picked number given → IsTableStep net marks given old new table → IsCaseTable net marks picked number new table
-case_table net marks picked number given old new table below step = record { given = given; below = below; is = step.is; within = step.within }
+pub possible_entry : (net : Parts) (marks : List Bool) (case : Case) (given : List Trit) (old new : List Gate) (table : List Operand) → IsCube case.cube.items → IsBelowCase net case given → IsTableStep net marks given old new table → IsEntry net marks case old new table
+possible_entry net marks case given old new table cube below step = record {
+  is = inl (record { cube = cube; given = given; below = below; is = step.is });
+  width = step.is.width;
+  within = step.within;
+  more = step.more;
+  are = step.are;
+}
+
+pub impossible_entry : (net : Parts) (marks : List Bool) (case : Case) (gates : List Gate) (table : List Operand) (many : ℕ) → (IsCube case.cube.items → ⊥) → many ≡ count net → table ≡ replicate many (Constant false) → AreNew net gates → IsEntry net marks case gates gates table
+impossible_entry net marks case gates table many never e is are = record {
+  is = inr (record { not_cube = never; all = All-same (λ operand. operand ≡ Constant false) table (replicate many (Constant false)) is (All-replicate (λ operand. operand ≡ Constant false) many (Constant false) refl) });
+  width = (let low = Constant false in ap length is ∙ length-replicate many low ∙ e);
+  within = All-same (IsWithin (count net + length gates)) table (replicate many (Constant false)) is (All-replicate (IsWithin (count net + length gates)) many (Constant false) tt);
+  more = more_weaker gates gates 0 (length (copied_gates net marks)) (omega arith) (more_none gates);
+  are = are;
+}
 
 -- ---- all tables
 
-pub case_more : (net : Parts) (marks : List Bool) (picked : List ℕ) (number : ℕ) (a b : List Gate) (m : ℕ) (table : List Operand) → IsMore a b m → IsCaseTable net marks picked number a table → IsCaseTable net marks picked number b table
-case_more net marks picked number a b m table h is = record {
+pub case_more : (net : Parts) (marks : List Bool) (case : Case) (a b : List Gate) (m : ℕ) (table : List Operand) → IsMore a b m → IsCaseTable net marks case a table → IsCaseTable net marks case b table
+case_more net marks case a b m table h (inl is) = inl (record {
+  cube = is.cube;
   given = is.given;
   below = is.below;
   is = record {
@@ -149,23 +138,35 @@ case_more net marks picked number a b m table h is = record {
     each = standing_more net (fix net is.given) a b m table h is.is.each;
     made = λ n l e. made_more net (fix net is.given) (count net) a b m table n h (is.is.made n l e);
   };
-  within = all_within_more (count net + length a) (count net + length b) table (let x = (more_length a b m h).0 in omega arith) is.within;
+})
+case_more net marks case a b m table h (inr is) = inr is
+
+pub tables_none : (net : Parts) (marks : List Bool) (cases : List Case) (gates : List Gate) → AreNew net gates → AreTables net marks cases 0 gates gates []
+tables_none net marks cases gates are = record {
+  width = refl;
+  each = λ i c d l. absurd (omega arith);
+  wide = All-nil (λ table. length table ≡ count net);
+  within = All-nil (All (IsWithin (count net + length gates)));
+  more = more_weaker gates gates 0 (0 * length (copied_gates net marks)) (omega arith) (more_none gates);
+  are = are;
 }
 
-pub tables_next : (net : Parts) (marks : List Bool) (picked : List ℕ) (allowed : List Bool) (n : ℕ) (old mid new : List Gate) (tables : List (List Operand)) (table : List Operand) → AreTables net marks picked allowed n old mid tables → IsEntry net marks picked allowed n mid new table → AreTables net marks picked allowed (n + 1) old new (tables ++ table ∷ [])
-tables_next net marks picked allowed n old mid new tables table h entry =
+pub tables_next : (net : Parts) (marks : List Bool) (cases : List Case) (n : ℕ) (case : Case) (old mid new : List Gate) (tables : List (List Operand)) (table : List Operand) → AreTables net marks cases n old mid tables → n < length cases → case ≡ get_or cases n case → IsEntry net marks case mid new table → AreTables net marks cases (n + 1) old new (tables ++ table ∷ [])
+tables_next net marks cases n case old mid new tables table h inside is entry =
     let width = h.width in
     record {
       width = (let e = length-append tables (table ∷ []) in omega arith);
-      each = λ i d l may. elim (cases_lt i n) [
+      each = λ i c d l. elim (cases_lt i n) [
         | inl before ↦
-            subst (IsCaseTable net marks picked i new) (sym (get_or_append_left tables (table ∷ []) d i (omega arith)))
-            (case_more net marks picked i mid new (length (copied_gates net marks)) (get_or tables i d) entry.more (h.each i d before may))
+            subst (IsCaseTable net marks (get_or cases i c) new) (sym (get_or_append_left tables (table ∷ []) d i (omega arith)))
+            (case_more net marks (get_or cases i c) mid new (length (copied_gates net marks)) (get_or tables i d) entry.more (h.each i c d before))
         | inr here ↦
             let same : i ≡ n = omega arith in
             let at : get_or (tables ++ table ∷ []) i d ≡ table = get_or-append_right tables (table ∷ []) n i d width here ∙ ap (λ k. get_or (table ∷ []) k d) (let z : i - n ≡ 0 = omega arith in z) in
-            subst (IsCaseTable net marks picked i new) (sym at) (subst (λ (k : ℕ). IsCaseTable net marks picked k new table) (sym same) (entry.is (ap (λ k. get_or allowed k false) (sym same) ∙ may)))
+            let of : case ≡ get_or cases i c = is ∙ get_or_default cases n case c inside ∙ ap (λ (k : ℕ). get_or cases k c) (sym same) in
+            subst (IsCaseTable net marks (get_or cases i c) new) (sym at) (subst (λ (x : Case). IsCaseTable net marks x new table) of entry.is)
       ];
+      wide = All-push (λ t. length t ≡ count net) tables table h.wide entry.width;
       within = All-append (All (IsWithin (count net + length new))) tables (table ∷ [])
           (λ i d k. all_within_more (count net + length mid) (count net + length new) (get_or tables i d) (let x = (more_length mid new (length (copied_gates net marks)) entry.more).0 in omega arith) (h.within i d k))
           (All-cons (All (IsWithin (count net + length new))) table [] entry.within (All-nil (All (IsWithin (count net + length new)))));
@@ -174,77 +175,106 @@ tables_next net marks picked allowed n old mid new tables table h entry =
       are = entry.are;
     }
 
--- ---- what is chosen
-
-found_within : (bound : ℕ) (table : List Operand) (i : ℕ) → All (IsWithin bound) table → IsWithinAny bound (slice_get table i)
-found_within bound [] i h = tt
-found_within bound (o ∷ table) zero h = h 0 o (omega arith)
-found_within bound (o ∷ table) (suc i) h = found_within bound table i (λ k d l. h (suc k) d (omega arith))
-
-pub leaves_within : (bound : ℕ) (tables : List (List Operand)) (s : Sig) → All (All (IsWithin bound)) tables → All (IsWithinAny bound) (leaves_of tables s)
-leaves_within bound tables s h = All-map (IsWithinAny bound) (λ table. slice_get table s.0) tables (λ i d l. found_within bound (get_or tables i d) s.0 (h i d l))
-
-root_more : (net : Parts) (picked : List ℕ) (tables : List (List Operand)) (a b : List Gate) (m n : ℕ) (root : Option Operand) → IsMore a b m → IsRoot net picked tables a n root → IsRoot net picked tables b n root
-root_more net picked tables a b m n root h is = record {
-  under = λ f agree. is.under f (agrees_before f (count net) a b m h agree);
-  within = within_any_more (count net + length a) (count net + length b) root (let x = (more_length a b m h).0 in omega arith) is.within;
-}
-
-pub roots_none : (net : Parts) (picked : List ℕ) (tables : List (List Operand)) (gates : List Gate) (roots : List (Option Operand)) (many : ℕ) → many ≡ length net.gates → roots ≡ replicate many None → AreNew net gates → AreRoots net picked tables [] gates gates roots
-roots_none net picked tables gates roots many e is are = record {
-  width = (let none : Option Operand = None in ap length is ∙ length-replicate many none ∙ e);
-  each = All-nil (λ n. IsRoot net picked tables gates n (get_or roots n None));
-  within = subst (All (IsWithinAny (count net + length gates))) (sym is) (nothing many);
-  more = more_weaker gates gates 0 (0 * length tables) (omega arith) (more_none gates);
-  are = are;
+pub tables_stand : (net : Parts) (marks : List Bool) (cases : List Case) (old new : List Gate) (tables : List (List Operand)) → AreTables net marks cases (length cases) old new tables → AreStandingIn net cases tables
+tables_stand net marks cases old new tables h = record {
+  width = h.width;
+  wide = h.wide;
+  each = λ i c d l. told (get_or cases i c) (get_or tables i d) (h.each i c d l);
 }
   where
-    nothing_at : (m i : ℕ) (d : Option Operand) → i < m → get_or (replicate m None) i d ≡ None
-    nothing_at zero i d l = absurd (omega arith)
-    nothing_at (suc m) zero d l = refl
-    nothing_at (suc m) (suc i) d l = nothing_at m i d (omega arith)
+    told : (case : Case) (table : List Operand) → IsCaseTable net marks case new table → IsCube case.cube.items ⊎ All (λ operand. operand ≡ Constant false) table
+    told case table (inl is) = inl is.cube
+    told case table (inr is) = inr is.all
 
-    nothing : (m : ℕ) → All (IsWithinAny (count net + length gates)) (replicate m None)
-    nothing m i d l = subst (IsWithinAny (count net + length gates)) (sym (nothing_at m i d (let none : Option Operand = None in let w = length-replicate m none in omega arith))) tt
+-- ---- what is chosen
 
-pub roots_next : (net : Parts) (picked : List ℕ) (tables : List (List Operand)) (list : List ℕ) (j n : ℕ) (old mid new : List Gate) (roots : List (Option Operand)) (root : Option Operand) → AreRoots net picked tables (take j list) old mid roots → All (λ m. m < length net.gates) list → j < length list → get_or list j 0 ≡ n →
-    IsRootStep net picked tables n mid new root → AreRoots net picked tables (take (j + 1) list) old new (set roots n root)
-roots_next net picked tables list j n old mid new roots root h all l at step =
+pub leaves_within : (bound : ℕ) (tables : List (List Operand)) (s : Sig) → All (λ table. s.0 < length table) tables → All (All (IsWithin bound)) tables → All (IsWithin bound) (leaves_of tables s)
+leaves_within bound tables s wide h = All-map (IsWithin bound) (λ table. operand_at table s) tables (λ i d l. h i d l s.0 (Wire s) (wide i d l))
+
+pub leaves_are : (net : Parts) (cases : List Case) (tables : List (List Operand)) (s : Sig) → AreStandingIn net cases tables → s.0 < count net → AreLeavesOf cases (leaves_of tables s)
+leaves_are net cases tables s h l i c d k =
+    elim (h.each i c [] k) [
+      | inl cube ↦ inl cube
+      | inr never ↦
+          let w = h.width in
+          let wide : length (get_or tables i []) ≡ count net = h.wide i [] (omega arith) in
+          inr (get_or-map (λ (t : List Operand). operand_at t s) tables i [] d (omega arith) ∙ never s.0 (Wire s) (omega arith))
+    ]
+
+pub root_made : (net : Parts) (cases : List Case) (tables : List (List Operand)) (n : ℕ) (leaves : List Operand) (s : Sig) (old new : List Gate) (operand : Operand) → leaves ≡ leaves_of tables s → s ≡ gate_sig net n → IsChosen net cases leaves old new operand → IsRootStep net cases tables n old new operand
+root_made net cases tables n leaves s old new operand is at h = record {
+  is = record {
+    operand = operand;
+    is = refl;
+    under = λ f agree i d l only. subst (λ (ls : List Operand). Below (value_by f (get_or ls i d)) (value_by f operand)) (is ∙ ap (leaves_of tables) at) (h.under f agree i d l only);
+  };
+  within = h.within;
+  more = h.more;
+  are = h.are;
+}
+
+within_any_more : (low high : ℕ) (o : Option Operand) → low ≤ high → IsWithinAny low o → IsWithinAny high o
+within_any_more low high None l h = tt
+within_any_more low high (Some o) l h = within_more low high o l h
+
+all_any_more : (low high : ℕ) (os : List (Option Operand)) → low ≤ high → All (IsWithinAny low) os → All (IsWithinAny high) os
+all_any_more low high os l h i d k = within_any_more low high (get_or os i d) l (h i d k)
+
+root_more : (net : Parts) (cases : List Case) (tables : List (List Operand)) (a b : List Gate) (m n : ℕ) (root : Option Operand) → IsMore a b m → IsRoot net cases tables a n root → IsRoot net cases tables b n root
+root_more net cases tables a b m n root h is = record {
+  operand = is.operand;
+  is = is.is;
+  under = λ f agree. is.under f (agrees_before f (count net) a b m h agree);
+}
+
+pub roots_none : (net : Parts) (cases : List Case) (tables : List (List Operand)) (gates : List Gate) (roots : List (Option Operand)) (many : ℕ) → many ≡ length net.gates → roots ≡ replicate many None → AreNew net gates → AreRoots net cases tables [] gates gates roots
+roots_none net cases tables gates roots many e is are = record {
+  width = (let none : Option Operand = None in ap length is ∙ length-replicate many none ∙ e);
+  each = All-nil (λ n. IsRoot net cases tables gates n (get_or roots n None));
+  within = All-same (IsWithinAny (count net + length gates)) roots (replicate many None) is (All-replicate (IsWithinAny (count net + length gates)) many None tt);
+  more = more_weaker gates gates 0 (0 * length cases) (omega arith) (more_none gates);
+  are = are;
+}
+
+pub roots_next : (net : Parts) (cases : List Case) (tables : List (List Operand)) (list : List ℕ) (j n : ℕ) (old mid new : List Gate) (roots : List (Option Operand)) (operand : Operand) → AreRoots net cases tables (take j list) old mid roots → All (λ m. m < length net.gates) list → j < length list → get_or list j 0 ≡ n →
+    IsRootStep net cases tables n mid new operand → AreRoots net cases tables (take (j + 1) list) old new (set roots n (Some operand))
+roots_next net cases tables list j n old mid new roots operand h all l at step =
+    let root : Option Operand = Some operand in
     let more : take (j + 1) list ≡ take j list ++ n ∷ [] = take_more list j 0 l ∙ ap (λ m. take j list ++ m ∷ []) at in
     let inside : n < length net.gates = subst (λ (m : ℕ). m < length net.gates) at (all j 0 l) in
     let wide = h.width in
-    let longer = (more_length mid new (length tables) step.more).0 in
+    let longer = (more_length mid new (length cases) step.more).0 in
     let sizes = length-append (take j list) (n ∷ []) in
-    subst (λ (ms : List ℕ). AreRoots net picked tables ms old new (set roots n root)) (sym more)
+    subst (λ (ms : List ℕ). AreRoots net cases tables ms old new (set roots n root)) (sym more)
     (record {
       width = length-set roots n root ∙ wide;
-      each = All-append (λ m. IsRoot net picked tables new m (get_or (set roots n root) m None)) (take j list) (n ∷ [])
-          (λ i d k. other (get_or (take j list) i d) (root_more net picked tables mid new (length tables) (get_or (take j list) i d) (get_or roots (get_or (take j list) i d) None) step.more (h.each i d k)))
-          (All-cons (λ m. IsRoot net picked tables new m (get_or (set roots n root) m None)) n []
-          (subst (IsRoot net picked tables new n) (sym (get_or-set_same roots n root None (omega arith))) step.is)
-          (All-nil (λ m. IsRoot net picked tables new m (get_or (set roots n root) m None))));
+      each = All-append (λ m. IsRoot net cases tables new m (get_or (set roots n root) m None)) (take j list) (n ∷ [])
+          (λ i d k. other (get_or (take j list) i d) (root_more net cases tables mid new (length cases) (get_or (take j list) i d) (get_or roots (get_or (take j list) i d) None) step.more (h.each i d k)))
+          (All-cons (λ m. IsRoot net cases tables new m (get_or (set roots n root) m None)) n []
+          (subst (IsRoot net cases tables new n) (sym (get_or-set_same roots n root None (omega arith))) step.is)
+          (All-nil (λ m. IsRoot net cases tables new m (get_or (set roots n root) m None))));
       within = λ i d k.
           let e = length-set roots n root in
           elim (cases_eq i n) [
-            | inl same ↦ subst (IsWithinAny (count net + length new)) (sym (ap (λ q. get_or (set roots n root) q d) same ∙ get_or-set_same roots n root d (omega arith))) step.is.within
+            | inl same ↦ subst (IsWithinAny (count net + length new)) (sym (ap (λ q. get_or (set roots n root) q d) same ∙ get_or-set_same roots n root d (omega arith))) step.within
             | inr apart ↦ subst (IsWithinAny (count net + length new)) (sym (get_or-set_other roots n i root d apart))
                 (all_any_more (count net + length mid) (count net + length new) roots (omega arith) h.within i d (omega arith))
           ];
-      more = more_weaker old new (length (take j list) * length tables + length tables) (length (take j list ++ n ∷ []) * length tables) (product (length (take j list ++ n ∷ [])) (length (take j list)) (length tables) sizes)
-          (more_trans old mid new (length (take j list) * length tables) (length tables) h.more step.more);
+      more = more_weaker old new (length (take j list) * length cases + length cases) (length (take j list ++ n ∷ []) * length cases) (product (length (take j list ++ n ∷ [])) (length (take j list)) (length cases) sizes)
+          (more_trans old mid new (length (take j list) * length cases) (length cases) h.more step.more);
       are = step.are;
     })
   where
     product : (a b t : ℕ) → a ≡ b + 1 → b * t + t ≤ a * t
     product a b t e = subst (λ (x : ℕ). b * t + t ≤ x * t) (sym e) (omega arith)
 
-    other : (m : ℕ) → IsRoot net picked tables new m (get_or roots m None) → IsRoot net picked tables new m (get_or (set roots n root) m None)
+    other : (m : ℕ) → IsRoot net cases tables new m (get_or roots m None) → IsRoot net cases tables new m (get_or (set roots n (Some operand)) m None)
     other m is = elim (cases_eq m n) [
       | inl same ↦
           let low : n < length net.gates = subst (λ (q : ℕ). q < length net.gates) at (all j 0 l) in let wide = h.width in let inside : n < length roots = omega arith in
-          subst (λ (q : ℕ). IsRoot net picked tables new q (get_or (set roots n root) q None)) (sym same)
-          (subst (IsRoot net picked tables new n) (sym (get_or-set_same roots n root None inside)) step.is)
-      | inr apart ↦ subst (IsRoot net picked tables new m) (sym (get_or-set_other roots n m root None apart)) is
+          subst (λ (q : ℕ). IsRoot net cases tables new q (get_or (set roots n (Some operand)) q None)) (sym same)
+          (subst (IsRoot net cases tables new n) (sym (get_or-set_same roots n (Some operand) None inside)) step.is)
+      | inr apart ↦ subst (IsRoot net cases tables new m) (sym (get_or-set_other roots n m (Some operand) None apart)) is
     ]
 
 -- ---- heads

@@ -1,5 +1,5 @@
 -- The netlist that is split by cases: it is a netlist, and tells as much.
-use Rattle.std.proofs.Common.{◌≡◌, inl, inr, ℕ, zero, suc, ◌+◌, ◌*◌, ◌<◌, ◌≤◌, Bool, true, false, List, [], ◌∷◌, ◌++◌, length, map, get_or, slice_get, Option, Some, None, IfSome, All, refl, sym, ap, ap₂, ◌∙◌, subst, arith, true≢false}
+use Rattle.std.proofs.Common.{◌≡◌, inl, inr, ℕ, zero, suc, ◌+◌, ◌*◌, ◌<◌, ◌≤◌, Bool, true, false, List, [], ◌∷◌, ◌++◌, length, map, get_or, Option, Some, None, IfSome, All, refl, sym, ap, ap₂, ◌∙◌, subst, arith, true≢false}
 use Rattle.std.proofs.Common.{cond}
 use Rattle.std.specs.Prelude.{if◌then◌else◌}
 use Rattle.std.specs.List.{AllByRecursion, filter, list_any, range_with_len}
@@ -36,20 +36,21 @@ use Rattle.loops.specs.Sweeps.{first_gate}
 use Rattle.unroll.specs.Laws.{KeepsInterface, TellsAsMuchAt}
 use Rattle.unroll.specs.Marks.{clock_names, longest_run_in}
 use Rattle.unroll.proofs.NameLemmas.{all_short, copy_is_long, copy_name_fits, copy_names_tell, distinct_append, short_from_long, short_is_none}
+use Rattle.case_split.specs.declared.cases.Case.{Case}
 use Rattle.case_split.specs.declared.operands.Operand.{Operand}
-use Rattle.case_split.specs.declared.operands.Operand.TheVariants.{Wire}
-use Rattle.case_split.specs.Cases.{case_number, HaveValues, IsInCase}
+use Rattle.case_split.specs.Cases.{IsInOneCase, IsUsable}
 use Rattle.case_split.specs.Operands.{value_by}
 use Rattle.case_split.specs.Added.{AreNew, IsNewName}
 use Rattle.case_split.specs.Sizes.{copied_gates}
 use Rattle.case_split.specs.Splits.{split_by, with_gates}
 use Rattle.case_split.specs.Tables.{operand_at}
-use Rattle.case_split.specs.CaseTables.{IsCaseTable}
-use Rattle.case_split.specs.Choices.{HaveValuesBy, IsUnder, leaf_at}
-use Rattle.case_split.specs.Heads.{leaves_of, IsRoot, IsShown}
+use Rattle.case_split.specs.CaseTables.{IsPossible, IsCaseTable}
+use Rattle.case_split.specs.Choices.{IsOnlyBy}
+use Rattle.case_split.specs.Heads.{IsWithinAny, IsRoot, IsShown}
 use Rattle.case_split.specs.Made.{AreSplitParts, IsSplit, IsSplitNetlist}
 use Rattle.case_split.proofs.AddedLemmas.{more_length}
 use Rattle.case_split.proofs.CaseLemmas.{case_more, copied_all}
+use Rattle.case_split.proofs.CubeLemmas.{cube_from}
 use Rattle.case_split.proofs.LawLemmas.{now, now_column, now_head, agrees, tells_as_much}
 
 abbrev names_of : List Gate → List (List ℕ)
@@ -209,49 +210,34 @@ module _ (net : Parts) (valid : IsNetlist net) (heads more : List Gate) (wide : 
 
 -- ---- what it tells
 
-inside_true : (bs : List Bool) (i : ℕ) → get_or bs i false ≡ true → i < length bs
-inside_true bs i e = elim (cases_lt i (length bs)) [
-  | inl inside ↦ inside
-  | inr past ↦ absurd (true≢false (sym e ∙ get_or_past bs i false past))
-]
+shown_root : (f : Sig → Trit) (root : Option Operand) (operand : Operand) (leaf : Operand) (name : List ℕ) (head : Gate) → root ≡ Some operand → Below (value_by f leaf) (value_by f operand) → IsShown name root head → Below (value_by f leaf) (ext head.cover (map f head.pins))
+shown_root f root operand leaf name head e h is = Below-trans (value_by f leaf) (value_by f operand) (ext head.cover (map f head.pins)) h (is.shows f operand e)
 
-found_at : (table : List Operand) (i : ℕ) (d : Operand) → i < length table → slice_get table i ≡ Some (get_or table i d)
-found_at [] i d l = absurd (omega arith)
-found_at (o ∷ table) zero d l = refl
-found_at (o ∷ table) (suc i) d l = found_at table i d (omega arith)
+sizes : (c l a b : ℕ) → a ≤ 0 + c * l → b ≤ a + l * c → b ≤ 2 * (c * l)
+sizes c l a b x y = omega arith
 
-have_by : (f : Sig → Trit) (v : List Trit) (picked : List ℕ) (bs : List Bool) (bound : ℕ) → ((c : ℕ) → c < bound → f (signal c) ≡ get_or v c X) → All (λ c. c < bound) picked → HaveValues v picked bs → HaveValuesBy f picked bs
-have_by f v [] [] bound same all h = tt
-have_by f v [] (b ∷ bs) bound same all h = absurd h
-have_by f v (c ∷ picked) [] bound same all h = absurd h
-have_by f v (c ∷ picked) (b ∷ bs) bound same all h = (same c (all zero c (omega arith)) ∙ h.0, have_by f v picked bs bound same (All-tail (λ d. d < bound) c picked all) h.1)
-
-shown_root : (f : Sig → Trit) (operand : Operand) (root : Option Operand) (name : List ℕ) (head : Gate) → IsUnder f (Some operand) root → IsShown name root head → Below (value_by f operand) (ext head.cover (map f head.pins))
-shown_root f operand None name head h is = absurd h
-shown_root f operand (Some p) name head h is = Below-trans (value_by f operand) (value_by f p) (ext head.cover (map f head.pins)) h (is.shows f p refl)
-
-sizes : (c l t a b : ℕ) → t ≡ c → a ≤ 0 + c * l → b ≤ a + l * t → b ≤ 2 * (c * l)
-sizes c l t a b e x y = (let z : l * t ≡ l * c = ap (λ n. l * n) e in omega (arith, z))
-
-module _ (net : Parts) (valid : IsNetlist net) (marks : List Bool) (picked : List ℕ) (allowed : List Bool) (heads more : List Gate) (parts : AreSplitParts net marks picked allowed heads more) (columns : All (λ c. c < first_gate net) picked)
-    (inputs : length net.inputs ≤ 4000000000) (small : length net.gates + length net.latches + 2 * (length allowed * length (copied_gates net marks)) ≤ 4000000) where
-  few_more : length more ≤ 2 * (length allowed * length (copied_gates net marks))
+module _ (net : Parts) (valid : IsNetlist net) (marks : List Bool) (cases : List Case) (heads more : List Gate) (parts : AreSplitParts net marks cases heads more) (usable : All (IsUsable (first_gate net)) cases)
+    (inputs : length net.inputs ≤ 4000000000) (small : length net.gates + length net.latches + 2 * (length cases * length (copied_gates net marks)) ≤ 4000000) where
+  few_more : length more ≤ 2 * (length cases * length (copied_gates net marks))
   few_more =
-      sizes (length allowed) (length (copied_gates net marks)) (length parts.tables) (length parts.first) (length more) parts.are.width
-      (more_length [] parts.first (length allowed * length (copied_gates net marks)) parts.are.more).1
-      (more_length parts.first more (length (copied_gates net marks) * length parts.tables) parts.chosen.more).1
+      sizes (length cases) (length (copied_gates net marks)) (length parts.first) (length more)
+      (more_length [] parts.first (length cases * length (copied_gates net marks)) parts.are.more).1
+      (more_length parts.first more (length (copied_gates net marks) * length cases) parts.chosen.more).1
 
   fits_more : count net + length more ≤ 4294967295
   fits_more = (let f = few_more in omega arith)
 
-  root_is : (n : ℕ) → n < length net.gates → is_marked marks n ≡ true → IsRoot net picked parts.tables more n (get_or parts.roots n None)
-  root_is n l e = All-contains (λ m. IsRoot net picked parts.tables more m (get_or parts.roots m None)) (copied_gates net marks) n parts.chosen.each (copied_all net marks n l e)
+  root_is : (n : ℕ) → n < length net.gates → is_marked marks n ≡ true → IsRoot net cases parts.tables more n (get_or parts.roots n None)
+  root_is n l e = All-contains (λ m. IsRoot net cases parts.tables more m (get_or parts.roots m None)) (copied_gates net marks) n parts.chosen.each (copied_all net marks n l e)
+
+  root_within : (n : ℕ) → n < length net.gates → is_marked marks n ≡ true → IsWithinAny (count net + length more) (get_or parts.roots n None)
+  root_within n l e = (let w = parts.chosen.width in parts.chosen.within n None (omega arith))
 
   head_sound : (n : ℕ) → n < length net.gates → IsSound (count net + length more) (get_or heads n no_gate)
   head_sound n l =
       let head = parts.heads_are.each n l in
       elim (cases_Bool (is_marked marks n)) [
-        | inl e ↦ record { pins = (head.shown e).within (count net + length more) (root_is n l e).within; counted = (head.shown e).counted }
+        | inl e ↦ record { pins = (head.shown e).within (count net + length more) (root_within n l e); counted = (head.shown e).counted }
         | inr e ↦
             let same = head.kept e in
             record {
@@ -260,52 +246,66 @@ module _ (net : Parts) (valid : IsNetlist net) (marks : List Bool) (picked : Lis
             }
       ]
 
-  module _ (v : List Trit) (wide : length v ≡ first_gate net) (here : IsInCase picked allowed v) where
+  module _ (v : List Trit) (wide : length v ≡ first_gate net) (here : IsInOneCase cases v) where
     abbrev seen : Sig → Trit
     seen s = now net valid heads more parts.heads_are.width v wide s
 
-    abbrev number : ℕ
-    number = case_number here.values
+    column_seen : (column : ℕ) → column < first_gate net → seen (signal column) ≡ get_or v column X
+    column_seen column l = now_column net valid heads more parts.heads_are.width v wide (signal column) l
 
-    inside : number < length allowed
-    inside = inside_true allowed number here.may
+    abbrev this : Case → Case
+    this c = get_or cases here.number c
 
     abbrev table : List Operand
-    table = get_or parts.tables number []
+    table = get_or parts.tables here.number []
 
-    is_case : IsCaseTable net marks picked number more table
-    is_case = case_more net marks picked number parts.first more (length (copied_gates net marks) * length parts.tables) table parts.chosen.more (parts.are.each number [] inside here.may)
+    case_table : (c : Case) → IsCaseTable net marks (this c) more table
+    case_table c = case_more net marks (this c) parts.first more (length (copied_gates net marks) * length cases) table parts.chosen.more (parts.are.each here.number c [] here.within)
 
-    known : (s : Sig) (b : Bool) → wire (fix net is_case.given) s ≡ bit b → wire (fix net v) s ≡ bit b
-    known s b e =
-        Below-at (wire (fix net is_case.given) s) (wire (fix net v) s) b
-        (EachBelow-at (fix net is_case.given) (fix net v) s.0 (fix_is_monotone net is_case.given v (is_case.below v here.values wide here.are refl))) e
+    only : IsOnlyBy seen cases here.number
+    only = record {
+      here = λ c i d l.
+          let literal = get_or (this c).cube.items i d in
+          let inside = (usable here.number c here.within).cube i d l in
+          column_seen literal.column inside ∙ (here.here c).cube i d l;
+      others = λ j c l apart.
+          let out = here.others j c l apart in
+          let inside = All-contains (λ literal. literal.column < first_gate net) (get_or cases j c).cube.items out.literal (usable j c l).cube out.among in
+          record { literal = out.literal; among = out.among; contradicted = column_seen out.literal.column inside ∙ out.contradicted };
+    }
 
-    leaf_is : (s : Sig) → s.0 < count net → leaf_at (leaves_of parts.tables s) number ≡ Some (operand_at table s)
-    leaf_is s l =
-        let many = parts.are.width in
-        let long = is_case.is.width in
-        let i = inside in
-        get_or-map (λ (t : List Operand). slice_get t s.0) parts.tables number [] None (omega arith) ∙ found_at table s.0 (Wire s) (omega arith)
-
-    values_by : HaveValuesBy seen picked here.values
-    values_by = have_by seen v picked here.values (first_gate net) (λ c l. now_column net valid heads more parts.heads_are.width v wide (signal c) l) columns here.are
+    possible : (c : Case) → IsPossible net marks (this c) more table
+    possible c = elim (case_table c) [
+      | inl is ↦ is
+      | inr is ↦ absurd (is.not_cube (cube_from (λ column. get_or v column X) (this c).cube.items (here.here c).cube))
+    ]
 
     chosen : (n : ℕ) → n < length net.gates → is_marked marks n ≡ true → Below (value_by seen (operand_at table (gate_sig net n))) (seen (gate_sig net n))
     chosen n l e =
         let head = parts.heads_are.each n l in
-        subst (Below (value_by seen (operand_at table (gate_sig net n)))) (sym (now_head net valid heads more parts.heads_are.width v wide n l))
-        (shown_root seen (operand_at table (gate_sig net n)) (get_or parts.roots n None) (gate_at net n).name (get_or heads n no_gate)
-        (subst (λ (o : Option Operand). IsUnder seen o (get_or parts.roots n None)) (leaf_is (gate_sig net n) (omega arith))
-        ((root_is n l e).under seen (agrees net valid heads more parts.heads_are.width v wide) here.values values_by))
+        let root = root_is n l e in
+        let leaf = operand_at table (gate_sig net n) in
+        subst (Below (value_by seen leaf)) (sym (now_head net valid heads more parts.heads_are.width v wide n l))
+        (shown_root seen (get_or parts.roots n None) root.operand leaf (gate_at net n).name (get_or heads n no_gate) root.is
+        (subst (λ (o : Operand). Below (value_by seen o) (value_by seen root.operand))
+        (let w = parts.are.width in let i = here.within in get_or-map (λ (t : List Operand). operand_at t (gate_sig net n)) parts.tables here.number [] leaf (omega arith))
+        (root.under seen (agrees net valid heads more parts.heads_are.width v wide) here.number leaf here.within only))
         (head.shown e))
 
-    tells : TellsAsMuchAt net (split_by net heads more) v
-    tells =
-        tells_as_much net valid heads more parts.heads_are.width v wide (is_marked marks) (fix net is_case.given) known table is_case.is
-        (λ n l e. (parts.heads_are.each n l).kept e) chosen
+    tells_by : (cs : List Case) → cs ≡ cases → TellsAsMuchAt net (split_by net heads more) v
+    tells_by [] e = absurd (let n = ap length e in let i = here.within in omega arith)
+    tells_by (c ∷ cs) e =
+        let is = possible c in
+        tells_as_much net valid heads more parts.heads_are.width v wide (is_marked marks) (fix net is.given)
+        (λ s b k.
+        Below-at (wire (fix net is.given) s) (wire (fix net v) s) b
+        (EachBelow-at (fix net is.given) (fix net v) s.0 (fix_is_monotone net is.given v (is.below v wide (here.here c)))) k)
+        table is.is (λ n l k. (parts.heads_are.each n l).kept k) chosen
 
-  pub made_is_split : IsSplitNetlist net marks picked allowed (split_by net heads more)
+    tells : TellsAsMuchAt net (split_by net heads more) v
+    tells = tells_by cases refl
+
+  pub made_is_split : IsSplitNetlist net marks cases (split_by net heads more)
   made_is_split = record {
     valid = new_is_netlist net valid heads more parts.heads_are.width fits_more parts.chosen.are (λ i l. (parts.heads_are.each i l).named) head_sound;
     interface = interface_kept net valid heads more parts.heads_are.width fits_more parts.chosen.are (λ i l. (parts.heads_are.each i l).named) head_sound;
@@ -313,8 +313,8 @@ module _ (net : Parts) (valid : IsNetlist net) (marks : List Bool) (picked : Lis
     tells = tells;
   }
 
-pub split_is : (net : Parts) → IsNetlist net → (marks : List Bool) (picked : List ℕ) (allowed : List Bool) (gates : List Gate) → IsSplit net marks picked allowed gates → All (λ c. c < first_gate net) picked → length net.inputs ≤ 4000000000 →
-    length net.gates + length net.latches + 2 * (length allowed * length (copied_gates net marks)) ≤ 4000000 → IsSplitNetlist net marks picked allowed (with_gates net gates)
-split_is net valid marks picked allowed gates h columns inputs small =
-    subst (λ (gs : List Gate). IsSplitNetlist net marks picked allowed (with_gates net gs)) (sym h.is)
-    (made_is_split net valid marks picked allowed h.heads h.more h.parts columns inputs small)
+pub split_is : (net : Parts) → IsNetlist net → (marks : List Bool) (cases : List Case) (gates : List Gate) → IsSplit net marks cases gates → All (IsUsable (first_gate net)) cases → length net.inputs ≤ 4000000000 →
+    length net.gates + length net.latches + 2 * (length cases * length (copied_gates net marks)) ≤ 4000000 → IsSplitNetlist net marks cases (with_gates net gates)
+split_is net valid marks cases gates h usable inputs small =
+    subst (λ (gs : List Gate). IsSplitNetlist net marks cases (with_gates net gs)) (sym h.is)
+    (made_is_split net valid marks cases h.heads h.more h.parts usable inputs small)

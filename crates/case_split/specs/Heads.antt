@@ -1,43 +1,62 @@
 -- The heads: the gates that stand at the places of the netlist's own.
-use Rattle.std.specs.Prelude.{◌≡◌, ◌+◌, ◌*◌, ◌<◌, ℕ, Bool, true, false, if◌then◌else◌, List, [], ◌∷◌, length, map, All, Option, Some, None, slice_get, slice_index_or}
+use Rattle.std.specs.Prelude.{◌≡◌, ◌⊎◌, ◌+◌, ◌*◌, ◌<◌, ℕ, Bool, true, false, if◌then◌else◌, List, [], ◌∷◌, length, map, All, Option, Some, None, slice_index_or}
 use Rattle.cyc_base.specs.declared.sig.Sig.{Sig}
 use Rattle.cyc_base.specs.declared.trit.Trit.{Trit}
 use Rattle.cyc_base.specs.Values.{Below}
 use Rattle.cover_logic.specs.Extensions.{ext}
+use Rattle.cover_logic.specs.declared.row.Lit.{Lit}
 use Rattle.cover_logic.specs.declared.row.Lit.TheVariants.{One}
+use Rattle.cover_logic.specs.declared.row.Row.{Row}
 use Rattle.netlist.specs.declared.parts.Gate.{Gate}
 use Rattle.netlist.specs.declared.parts.Parts.{Parts}
 use Rattle.netlist.specs.Netlists.{count, gate_at, gate_sig, no_gate}
+use Rattle.case_split.specs.declared.cases.Case.{Case}
 use Rattle.case_split.specs.declared.operands.Operand.{Operand}
-use Rattle.case_split.specs.Cases.{case_number}
-use Rattle.case_split.specs.Operands.{value_by, Agrees}
+use Rattle.case_split.specs.declared.operands.Operand.TheVariants.{Constant}
+use Rattle.case_split.specs.Operands.{value_by, Agrees, IsWithin}
 use Rattle.case_split.specs.Added.{AreNew, IsMore}
 use Rattle.loops.specs.Cones.{is_marked}
-use Rattle.case_split.specs.Choices.{HaveValuesBy, IsUnder, IsWithinAny, leaf_at, row}
+use Rattle.case_split.specs.Choices.{IsCube, IsOnlyBy}
 use Rattle.case_split.specs.Splits.{SameGate}
+use Rattle.case_split.specs.Tables.{operand_at}
 
 -- what stands for a signal in each case
-abbrev pub leaves_of : List (List Operand) → Sig → List (Option Operand)
-leaves_of tables s = map (λ table. slice_get table s.0) tables
+abbrev pub leaves_of : List (List Operand) → Sig → List Operand
+leaves_of tables s = map (λ table. operand_at table s) tables
+
+-- there is a table for each case, and where the cube asks both values of a column all in it is 0
+pub record AreStandingIn (net : Parts) (cases : List Case) (tables : List (List Operand)) : Type 0 where
+  pub width : length tables ≡ length cases
+  pub wide : All (λ table. length table ≡ count net) tables
+  pub each : (i : ℕ) (c : Case) (d : List Operand) → i < length cases → IsCube (slice_index_or cases i c).cube.items ⊎ All (λ operand. operand ≡ Constant false) (slice_index_or tables i d)
+
+abbrev pub IsWithinAny : ℕ → Option Operand → Type 0
+IsWithinAny bound None = Unit {0}
+IsWithinAny bound (Some operand) = IsWithin bound operand
 
 -- what is chosen for a gate
-pub record IsRoot (net : Parts) (picked : List ℕ) (tables : List (List Operand)) (more : List Gate) (n : ℕ) (root : Option Operand) : Type 0 where
-  pub under : (f : Sig → Trit) → Agrees f (count net) more → (bs : List Bool) → HaveValuesBy f picked bs → IsUnder f (leaf_at (leaves_of tables (gate_sig net n)) (case_number bs)) root
-  pub within : IsWithinAny (count net + length more) root
+pub record IsRoot (net : Parts) (cases : List Case) (tables : List (List Operand)) (more : List Gate) (n : ℕ) (root : Option Operand) : Type 0 where
+  pub operand : Operand
+  pub is : root ≡ Some operand
+  pub under : (f : Sig → Trit) → Agrees f (count net) more → (i : ℕ) (d : Operand) → i < length cases → IsOnlyBy f cases i → Below (value_by f (slice_index_or (leaves_of tables (gate_sig net n)) i d)) (value_by f operand)
 
 -- one more is chosen
-pub record IsRootStep (net : Parts) (picked : List ℕ) (tables : List (List Operand)) (n : ℕ) (old new : List Gate) (root : Option Operand) : Type 0 where
-  pub is : IsRoot net picked tables new n root
-  pub more : IsMore old new (length tables)
+pub record IsRootStep (net : Parts) (cases : List Case) (tables : List (List Operand)) (n : ℕ) (old new : List Gate) (operand : Operand) : Type 0 where
+  pub is : IsRoot net cases tables new n (Some operand)
+  pub within : IsWithin (count net + length new) operand
+  pub more : IsMore old new (length cases)
   pub are : AreNew net new
 
 -- what is chosen for these gates
-pub record AreRoots (net : Parts) (picked : List ℕ) (tables : List (List Operand)) (gates : List ℕ) (old new : List Gate) (roots : List (Option Operand)) : Type 0 where
+pub record AreRoots (net : Parts) (cases : List Case) (tables : List (List Operand)) (gates : List ℕ) (old new : List Gate) (roots : List (Option Operand)) : Type 0 where
   pub width : length roots ≡ length net.gates
-  pub each : All (λ n. IsRoot net picked tables new n (slice_index_or roots n None)) gates
+  pub each : All (λ n. IsRoot net cases tables new n (slice_index_or roots n None)) gates
   pub within : All (IsWithinAny (count net + length new)) roots
-  pub more : IsMore old new (length gates * length tables)
+  pub more : IsMore old new (length gates * length cases)
   pub are : AreNew net new
+
+abbrev pub row : List Lit → Row
+row lits = record { lits = lits }
 
 -- a constant, and a gate that is the same as a wire
 abbrev pub constant_gate : List ℕ → Bool → Gate

@@ -11,5 +11,4 @@ pub mod Choices
 pub mod CaseTables
 pub mod Heads
 pub mod Made
-pub mod Picks
 pub mod Ways

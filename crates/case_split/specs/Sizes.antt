@@ -1,9 +1,8 @@
 -- How large a netlist can become that is split by cases.
-use Rattle.std.specs.Prelude.{◌≡◌, ◌⊎◌, ◌+◌, ◌*◌, ◌^◌, ◌<◌, ◌≤◌, ℕ, Bool, List, [], length, filter, All}
+use Rattle.std.specs.Prelude.{◌≡◌, ◌+◌, ◌*◌, ◌<◌, ◌≤◌, ℕ, Bool, List, length, filter}
 use Rattle.std.specs.List.{range_with_len}
 use Rattle.netlist.specs.declared.parts.Parts.{Parts}
 use Rattle.loops.specs.Cones.{is_marked}
-use Rattle.loops.specs.Sweeps.{first_gate}
 use Rattle.case_split.specs.declared.fault.SplitFault.{SplitFault}
 use Rattle.case_split.specs.declared.fault.SplitFault.TheVariants.{TooLarge, Memory}
 
@@ -19,9 +18,3 @@ most_items net marks cases = length net.gates + length net.latches + 2 * (cases 
 abbrev pub IsSplitFault : ℕ → SplitFault → Type 0
 IsSplitFault size (TooLarge answered) = (4000000 < size) × (answered ≡ size)
 IsSplitFault size Memory = size ≤ 4000000
-
--- columns that may be picked: in as many cases as they make the netlist can't become too large
-pub record IsPicked (net : Parts) (marks : List Bool) (most : ℕ) (picked : List ℕ) : Type 0 where
-  pub columns : All (λ column. column < first_gate net) picked
-  pub few : 2 ^ length picked ≤ most
-  pub small : (picked ≡ []) ⊎ (most_items net marks (2 ^ length picked) ≤ 4000000)

@@ -1,27 +1,34 @@
-//! Cases by their numbers.
+//! Cases, and what is known in one.
 
-ghost use Rattle.std.specs.Prelude.{◌≡◌, ◌<◌, List, Bool, length, replicate, All, IfOk};
+ghost use Rattle.std.specs.Prelude.{◌≡◌, List, length, replicate, All, IfOk};
+ghost use Rattle.cyc_base.specs.Values.{EachBelow};
+ghost use Rattle.cyc_base.specs.declared.trit.Trit.{Trit};
 ghost use Rattle.cyc_base.specs.declared.trit.Trit.TheVariants.{X};
 ghost use Rattle.loops.specs.Sweeps.{first_gate};
-ghost use Rattle.case_split.specs.Cases.{case_number};
+ghost use Rattle.case_split.specs.Cases.{AreOfColumns, Holds, IsUsable};
 ghost use Rattle.case_split.specs.CaseTables.{IsBelowCase};
 
 use cyc_base::Trit;
 use netlist::Netlist;
 use std::alloc::{AllocError, Global};
 
-/// The values of so many picked columns in the case of this number: its bits, the lowest one first.
-pub fn case_values(alloc: Global, columns: usize, number: usize) -> Result<Vec<bool>, AllocError>
-    ensures width { IfOk result (λ values. length values.items ≡ columns) }
-    ensures values { IfOk result (λ values. (bs : List Bool) → length bs ≡ columns → case_number bs ≡ number → values.items ≡ bs) }
-{
-    let mut values = Vec::with_capacity(alloc, columns)?;
-    let mut rest = number;
-    for place in 0..columns {
-        values.push(rest % 2 == 1)?;
-        rest /= 2;
+/// A column that has a value.
+#[derive(Clone, Copy, Debug, PartialEq, Eq)]
+pub struct ColumnValue {
+    pub column: u32,
+    pub value: bool,
+}
+
+/// A case: by its cube columns select its copies, and the rest is what else is known of columns at the vectors of the case.
+pub struct Case {
+    pub cube: Vec<ColumnValue>,
+    pub known: Vec<ColumnValue>,
+}
+
+impl Drop for Case {
+    fn drop(self) {
+        let Case { cube: _, known: _ } = self;
     }
-    Ok(values)
 }
 
 /// The vector that knows no column.
@@ -31,21 +38,43 @@ fn unknown_vector(alloc: Global, net: &Netlist) -> Result<Vec<Trit>, AllocError>
     vec![in alloc; Trit::X; net.columns() as usize]
 }
 
-/// The vector that knows the picked columns alone, by the case of this number.
+/// Gives columns these values.
+fn know(given: &mut Vec<Trit>, values: &[ColumnValue])
+    requires { AreOfColumns (length given.old.items) values.now }
+    ensures width { length given.new.items ≡ length given.old.items }
+    ensures below { (v : List Trit) → EachBelow given.old.items v → All (Holds v) values.now → EachBelow given.new.items v }
+{
+    for literal in values {
+        given[literal.column as usize] = Trit::of(literal.value);
+    }
+}
+
+/// The vector that knows these columns alone.
+pub(crate) fn vector_of(
+    alloc: Global,
+    net: &Netlist,
+    values: &[ColumnValue],
+) -> Result<Vec<Trit>, AllocError>
+    requires { AreOfColumns (first_gate net.now) values.now }
+    ensures width { IfOk result (λ given. length given.items ≡ first_gate net.now) }
+    ensures below { IfOk result (λ given. (v : List Trit) → length v ≡ first_gate net.now → All (Holds v) values.now → EachBelow given.items v) }
+{
+    let mut given = unknown_vector(alloc, net)?;
+    know(&mut given, values);
+    Ok(given)
+}
+
+/// The vector that knows alone what is known in a case.
 pub(crate) fn known_vector(
     alloc: Global,
     net: &Netlist,
-    picked: &[u32],
-    number: usize,
+    case: &Case,
 ) -> Result<Vec<Trit>, AllocError>
-    requires { All (λ column. column < first_gate net.now) picked.now }
+    requires { IsUsable (first_gate net.now) case.now }
     ensures width { IfOk result (λ given. length given.items ≡ first_gate net.now) }
-    ensures below { IfOk result (λ given. IsBelowCase net.now picked.now number given.items) }
+    ensures below { IfOk result (λ given. IsBelowCase net.now case.now given.items) }
 {
-    let values = case_values(alloc, picked.len(), number)?;
-    let mut given = unknown_vector(alloc, net)?;
-    for (place, column) in picked.iter().enumerate() {
-        given[*column as usize] = Trit::of(values[place]);
-    }
+    let mut given = vector_of(alloc, net, &case.cube)?;
+    know(&mut given, &case.known);
     Ok(given)
 }

@@ -150,7 +150,7 @@ pub(crate) fn left_wires(
 }
 
 /// The cover of these parts.
-fn cover_by(pins: usize, plane: bool, rows: Vec<Row>) -> Cover
+pub(crate) fn cover_by(pins: usize, plane: bool, rows: Vec<Row>) -> Cover
     requires { first_fault pins rows.items ≡ None }
     ensures { result ≡ cover_of pins plane rows.items }
 {

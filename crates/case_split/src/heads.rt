@@ -1,39 +1,38 @@
 //! The gates at the places of the netlist's own: a gate of a loop shows what is chosen among the cases.
 
-ghost use Rattle.std.specs.Prelude.{◌≡◌, ◌+◌, ◌*◌, ◌<◌, ◌≤◌, true, [], ◌∷◌, length, map, All, IfOk, None, slice_get, slice_index_or};
+ghost use Rattle.std.specs.Prelude.{◌≡◌, ◌+◌, ◌*◌, ◌<◌, ◌≤◌, true, [], ◌∷◌, length, map, All, IfOk, None, slice_index_or};
 ghost use Rattle.std.specs.Vec.{vec_items};
-ghost use Rattle.cover_logic.specs.Covers.{cover_of as cover_by, first_fault};
+ghost use Rattle.cover_logic.specs.Covers.{cover_of};
 ghost use Rattle.netlist.specs.Netlists.{count};
 ghost use Rattle.loops.specs.Sweeps.{first_gate};
 ghost use Rattle.case_split.specs.Operands.{IsWithin};
 ghost use Rattle.case_split.specs.Added.{AreNew};
-ghost use Rattle.case_split.specs.Choices.{row};
-ghost use Rattle.case_split.specs.Heads.{leaves_of as leaves_in, constant_gate, same_gate, IsRootStep, AreRoots, IsShown, IsHead, AreHeads};
+ghost use Rattle.case_split.specs.Cases.{IsUsable};
+ghost use Rattle.case_split.specs.Heads.{leaves_of as leaves_in, constant_gate, same_gate, AreStandingIn, row, IsRootStep, AreRoots, IsShown, IsHead, AreHeads};
 
 use crate::added::{Added, Base};
+use crate::cases::Case;
 use crate::choosing::choose;
+use crate::cofactors::cover_by;
 use crate::operands::Operand;
+use crate::tables::operand_of;
 use cover_logic::{Cover, Lit, Row};
 use cyc_base::{Items, Name, Sig};
 use netlist::Gate;
 use std::alloc::{AllocError, Global};
 
-fn leaf_of(table: &[Operand], signal: Sig) -> Option<Operand>
-    ensures { result ≡ slice_get table.now signal.0 }
-{
-    table.get(signal.0 as usize).copied()
-}
-
+/// What stands for a signal in each case.
 fn leaves_of(
     alloc: Global,
     tables: &[Vec<Operand>],
     signal: Sig,
-) -> Result<Vec<Option<Operand>>, AllocError>
+) -> Result<Vec<Operand>, AllocError>
+    requires { All (λ table. signal.0 < length table) (map vec_items tables.now) }
     ensures { IfOk result (λ leaves. leaves.items ≡ leaves_in (map vec_items tables.now) signal) }
 {
     let mut leaves = Vec::with_capacity(alloc, tables.len())?;
     for table in tables {
-        leaves.push(leaf_of(table, signal))?;
+        leaves.push(operand_of(table, signal))?;
     }
     Ok(leaves)
 }
@@ -43,27 +42,22 @@ fn root_of(
     alloc: Global,
     base: &Base<'_>,
     added: &mut Added,
-    picked: &[u32],
+    cases: &[Case],
     tables: &[Vec<Operand>],
     gate: u32,
-) -> Result<Option<Operand>, AllocError>
+) -> Result<Operand, AllocError>
     requires gate { gate < length base.now.net.now.gates }
-    requires room { count base.now.net.now + length added.old.gates.items + length tables.now ≤ 4294967295 }
+    requires room { count base.now.net.now + length added.old.gates.items + length cases.now ≤ 4294967295 }
     requires new { AreNew base.now.net.now added.old.gates.items }
-    requires picked { All (λ column. column < first_gate base.now.net.now) picked.now }
+    requires cases { All (IsUsable (first_gate base.now.net.now)) cases.now }
+    requires tables { AreStandingIn base.now.net.now cases.now (map vec_items tables.now) }
     requires within { All (All (IsWithin (count base.now.net.now + length added.old.gates.items))) (map vec_items tables.now) }
-    ensures { IfOk result (IsRootStep base.now.net.now picked.now (map vec_items tables.now) gate added.old.gates.items added.new.gates.items) }
+    ensures { IfOk result (IsRootStep base.now.net.now cases.now (map vec_items tables.now) gate added.old.gates.items added.new.gates.items) }
 {
     let signal = base.net.gate_sig(gate);
     let leaves = leaves_of(alloc, tables, signal)?;
-    let root = choose(
-        alloc,
-        base,
-        added,
-        &base.net.gate(gate).name,
-        picked,
-        leaves,
-    )?;
+    let name = &base.net.gate(gate).name;
+    let root = choose(alloc, base, added, name, cases, &leaves)?;
     Ok(root)
 }
 
@@ -73,57 +67,47 @@ pub(crate) fn roots_of(
     base: &Base<'_>,
     added: &mut Added,
     gates: &[u32],
-    picked: &[u32],
+    cases: &[Case],
     tables: &[Vec<Operand>],
 ) -> Result<Vec<Option<Operand>>, AllocError>
     requires gates { All (λ n. n < length base.now.net.now.gates) gates.now }
-    requires room { count base.now.net.now + length added.old.gates.items + length gates.now * length tables.now ≤ 4294967295 }
+    requires room { count base.now.net.now + length added.old.gates.items + length gates.now * length cases.now ≤ 4294967295 }
     requires new { AreNew base.now.net.now added.old.gates.items }
-    requires picked { All (λ column. column < first_gate base.now.net.now) picked.now }
+    requires cases { All (IsUsable (first_gate base.now.net.now)) cases.now }
+    requires tables { AreStandingIn base.now.net.now cases.now (map vec_items tables.now) }
     requires within { All (All (IsWithin (count base.now.net.now + length added.old.gates.items))) (map vec_items tables.now) }
-    ensures { IfOk result (λ roots. AreRoots base.now.net.now picked.now (map vec_items tables.now) gates.now added.old.gates.items added.new.gates.items roots.items) }
+    ensures { IfOk result (λ roots. AreRoots base.now.net.now cases.now (map vec_items tables.now) gates.now added.old.gates.items added.new.gates.items roots.items) }
 {
     let mut roots = vec![in alloc; None; base.net.gates() as usize]?;
     for gate in gates {
-        let root = root_of(alloc, base, added, picked, tables, *gate)?;
-        roots[*gate as usize] = root;
+        let root = root_of(alloc, base, added, cases, tables, *gate)?;
+        roots[*gate as usize] = Some(root);
     }
     Ok(roots)
 }
 
-/// The cover of so many pins that is 1 where one of these rows matches.
-fn cover_of(pins: usize, rows: Vec<Row>) -> Cover
-    requires { first_fault pins rows.items ≡ None }
-    ensures { result ≡ cover_by pins true rows.items }
-{
-    match Cover::new(pins, true, rows) {
-        Ok(cover) => cover,
-        Err(_) => unreachable!(),
-    }
-}
-
 fn never_cover(alloc: Global) -> Cover
-    ensures { result ≡ cover_by 0 true [] }
+    ensures { result ≡ cover_of 0 true [] }
 {
-    cover_of(0, Vec::new(alloc))
+    cover_by(0, true, Vec::new(alloc))
 }
 
 fn always_cover(alloc: Global) -> Result<Cover, AllocError>
-    ensures { IfOk result (λ cover. cover ≡ cover_by 0 true (row [] ∷ [])) }
+    ensures { IfOk result (λ cover. cover ≡ cover_of 0 true (row [] ∷ [])) }
 {
     let all = Row {
         lits: Items::of(Vec::new(alloc)),
     };
-    Ok(cover_of(0, vec![in alloc; all]?))
+    Ok(cover_by(0, true, vec![in alloc; all]?))
 }
 
 fn same_cover(alloc: Global) -> Result<Cover, AllocError>
-    ensures { IfOk result (λ cover. cover ≡ cover_by 1 true (row (Lit.One ∷ []) ∷ [])) }
+    ensures { IfOk result (λ cover. cover ≡ cover_of 1 true (row (Lit.One ∷ []) ∷ [])) }
 {
     let one = Row {
         lits: Items::of(vec![in alloc; Lit::One]?),
     };
-    Ok(cover_of(1, vec![in alloc; one]?))
+    Ok(cover_by(1, true, vec![in alloc; one]?))
 }
 
 /// A gate without pins.
@@ -151,7 +135,7 @@ fn same(alloc: Global, name: Name, wire: Sig) -> Result<Gate, AllocError>
     Ok(Gate { name, pins, cover })
 }
 
-/// A gate that shows what is chosen. Where no case is allowed it is 0.
+/// A gate that shows what is chosen. Where nothing is, it is 0.
 fn shown(alloc: Global, name: Name, root: Option<Operand>) -> Result<Gate, AllocError>
     ensures { IfOk result (IsShown name root) }
 {

@@ -118,12 +118,12 @@ fn new_way(alloc: Global, net: &Netlist) -> Result<Way, AllocError>
     })
 }
 
-/// The columns from which most ways lead to these gates.
-pub(crate) fn near_columns(
-    alloc: Global,
-    net: &Netlist,
-    gates: &[u32],
-) -> Result<Vec<u32>, AllocError>
+/// The columns from which most ways lead to these gates upstream, at most 64, those with the most ways first.
+///
+/// Each gate that is met is gone through once, with the ways by which it was met until then.
+///
+/// The condition is that the gates are the netlist's.
+pub fn near_columns(alloc: Global, net: &Netlist, gates: &[u32]) -> Result<Vec<u32>, AllocError>
     requires { All (λ n. n < length net.now.gates) gates.now }
     ensures { IfOk result (λ columns. All (λ column. column < first_gate net.now) columns.items) }
 {

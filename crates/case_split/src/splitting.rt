@@ -5,13 +5,14 @@ ghost use Rattle.cyc_base.specs.declared.trit.Trit.{Trit};
 ghost use Rattle.netlist.specs.Netlists.{count, IsNetlist};
 ghost use Rattle.loops.specs.Sweeps.{first_gate};
 ghost use Rattle.unroll.specs.Laws.{KeepsInterface, TellsAsMuchAt};
-ghost use Rattle.case_split.specs.Cases.{IsInCase};
+ghost use Rattle.case_split.specs.Cases.{IsInOneCase, IsUsable};
 ghost use Rattle.case_split.specs.Sizes.{copied_gates, most_items, IsSplitFault};
 ghost use Rattle.case_split.specs.Splits.{with_gates};
 ghost use Rattle.case_split.specs.Made.{AreSplitParts, IsSplit, IsSplitNetlist};
 
 use crate::added::{Added, Base};
 use crate::case_tables::tables_of;
+use crate::cases::Case;
 use crate::fault::SplitFault;
 use crate::heads::{heads_of, roots_of};
 use cyc_base::{Items, MAX_REWRITTEN_ITEMS};
@@ -19,12 +20,10 @@ use netlist::{Gate, Latch, Netlist, Parts, PartsFault};
 use std::alloc::{AllocError, Global};
 use unroll::{copy_clock, copy_inputs, mark};
 
-/// The gates that are copied.
-pub(crate) fn copied_gates_of(
-    alloc: Global,
-    net: &Netlist,
-    copied: &[bool],
-) -> Result<Vec<u32>, AllocError>
+/// The gates that are marked.
+///
+/// The condition is that there is a mark for each gate.
+pub fn marked_gates(alloc: Global, net: &Netlist, copied: &[bool]) -> Result<Vec<u32>, AllocError>
     requires { length copied.now ≡ length net.now.gates }
     ensures { IfOk result (λ gates. gates.items ≡ copied_gates net.now copied.now) }
 {
@@ -35,7 +34,7 @@ pub(crate) fn copied_gates_of(
 
 /// How many gates are copied.
 #[tactic(auto, using(crate::proofs::SplitLemmas::count_next))]
-pub(crate) fn copied_count(net: &Netlist, copied: &[bool]) -> u32
+fn copied_count(net: &Netlist, copied: &[bool]) -> u32
     requires { length copied.now ≡ length net.now.gates }
     ensures count { result ≡ length (copied_gates net.now copied.now) }
     ensures valid { IsNetlist net.now }
@@ -50,7 +49,7 @@ pub(crate) fn copied_count(net: &Netlist, copied: &[bool]) -> u32
 }
 
 /// How many gates and latches there may be in so many cases, where so many gates are copied.
-pub(crate) fn size_of(net: &Netlist, count: u32, cases: usize) -> u64
+fn size_of(net: &Netlist, count: u32, cases: usize) -> u64
     requires cases { cases ≤ 4096 }
     ensures size { result ≡ length net.now.gates + length net.now.latches + 2 * (cases * count) }
     ensures valid { IsNetlist net.now }
@@ -79,16 +78,15 @@ fn split_gates(
     alloc: Global,
     base: &Base<'_>,
     gates: &[u32],
-    picked: &[u32],
-    allowed: &[bool],
+    cases: &[Case],
 ) -> Result<Vec<Gate>, AllocError>
     requires gates { gates.now ≡ copied_gates base.now.net.now base.now.copied.now }
-    requires picked { All (λ column. column < first_gate base.now.net.now) picked.now }
-    requires fits { count base.now.net.now + 2 * (length allowed.now * length gates.now) ≤ 4294967295 }
-    ensures { IfOk result (λ all. IsSplit base.now.net.now base.now.copied.now picked.now allowed.now all.items) }
+    requires cases { All (IsUsable (first_gate base.now.net.now)) cases.now }
+    requires fits { count base.now.net.now + 2 * (length cases.now * length gates.now) ≤ 4294967295 }
+    ensures { IfOk result (λ all. IsSplit base.now.net.now base.now.copied.now cases.now all.items) }
 {
     let mut added = Added::new(alloc);
-    let mut all = split_heads(alloc, base, &mut added, gates, picked, allowed)?;
+    let mut all = split_heads(alloc, base, &mut added, gates, cases)?;
     all.append(&mut added.gates)?;
     Ok(all)
 }
@@ -99,17 +97,16 @@ fn split_heads(
     base: &Base<'_>,
     added: &mut Added,
     gates: &[u32],
-    picked: &[u32],
-    allowed: &[bool],
+    cases: &[Case],
 ) -> Result<Vec<Gate>, AllocError>
     requires none { added.old.gates.items ≡ [] }
     requires gates { gates.now ≡ copied_gates base.now.net.now base.now.copied.now }
-    requires picked { All (λ column. column < first_gate base.now.net.now) picked.now }
-    requires fits { count base.now.net.now + 2 * (length allowed.now * length gates.now) ≤ 4294967295 }
-    ensures { IfOk result (λ heads. AreSplitParts base.now.net.now base.now.copied.now picked.now allowed.now heads.items added.new.gates.items) }
+    requires cases { All (IsUsable (first_gate base.now.net.now)) cases.now }
+    requires fits { count base.now.net.now + 2 * (length cases.now * length gates.now) ≤ 4294967295 }
+    ensures { IfOk result (λ heads. AreSplitParts base.now.net.now base.now.copied.now cases.now heads.items added.new.gates.items) }
 {
-    let tables = tables_of(alloc, base, added, gates, picked, allowed)?;
-    let roots = roots_of(alloc, base, added, gates, picked, &tables)?;
+    let tables = tables_of(alloc, base, added, gates, cases)?;
+    let roots = roots_of(alloc, base, added, gates, cases, &tables)?;
     let heads = heads_of(alloc, base, &roots)?;
     Ok(heads)
 }
@@ -179,39 +176,39 @@ fn split_small(
     alloc: Global,
     net: &Netlist,
     copied: &[bool],
-    picked: &[u32],
-    allowed: &[bool],
+    cases: &[Case],
 ) -> Result<Netlist, AllocError>
     requires copied { length copied.now ≡ length net.now.gates }
-    requires picked { All (λ column. column < first_gate net.now) picked.now }
+    requires cases { All (IsUsable (first_gate net.now)) cases.now }
     requires inputs { length net.now.inputs ≤ 4000000000 }
-    requires small { most_items net.now copied.now (length allowed.now) ≤ 4000000 }
-    ensures { IfOk result (IsSplitNetlist net.now copied.now picked.now allowed.now) }
+    requires small { most_items net.now copied.now (length cases.now) ≤ 4000000 }
+    ensures { IfOk result (IsSplitNetlist net.now copied.now cases.now) }
 {
     net.laws();
-    let gates = copied_gates_of(alloc, net, copied)?;
+    let gates = marked_gates(alloc, net, copied)?;
     let base = Base {
         net,
         copied,
         mark: mark(alloc, net)?,
     };
-    let all = split_gates(alloc, &base, &gates, picked, allowed)?;
+    let all = split_gates(alloc, &base, &gates, cases)?;
     let other = netlist_by(alloc, net, all)?;
     Ok(other)
 }
 
-/// The netlist split by cases of these columns.
+/// The netlist split by cases.
 ///
-/// Case number k gives the picked columns the bits of k, the lowest one to the first. For each case that is allowed
-/// the marked gates are copied, with what the case determines put in (ternary simulation of a vector that knows
-/// the picked columns alone), and equal copies are one. A marked gate becomes a selection by the picked columns among
-/// its copies. All signals keep their numbers, and the copies come behind them. Any marks are right; those of
-/// `copied_marks` are the gates of loops and the ones between them. A loop that a case leaves is left.
+/// For each case the marked gates are copied, with what the case determines put in (ternary simulation of a vector that
+/// knows the columns of the case alone), and equal copies are one. A marked gate becomes a selection among its copies: a
+/// sum of products, with a row for each case, of what its cube asks of columns and of the copy. All signals keep their
+/// numbers, and the copies come behind them. Any marks are right; those of `copied_marks` are the gates of loops and the
+/// ones between them. A loop that a case leaves is left.
 ///
-/// At a vector of a case that is allowed the new netlist tells at least what the netlist does.
+/// At a vector that is in one case, and that contradicts a literal of the cube of each other one, the new netlist tells
+/// at least what the netlist does.
 ///
-/// The condition is that there is a mark for each gate, that the picked columns are the netlist's, and that there are at
-/// most 4,096 cases and 4,000,000,000 inputs.
+/// The condition is that there is a mark for each gate, that the cases are of columns of the netlist, that each cube has
+/// at most 1,000 literals, and that there are at most 4,096 cases and 4,000,000,000 inputs.
 ///
 /// # Errors
 ///
@@ -221,21 +218,20 @@ pub fn split(
     alloc: Global,
     net: &Netlist,
     copied: &[bool],
-    picked: &[u32],
-    allowed: &[bool],
+    cases: &[Case],
 ) -> Result<Netlist, SplitFault>
     requires copied { length copied.now ≡ length net.now.gates }
-    requires picked { All (λ column. column < first_gate net.now) picked.now }
-    requires cases { length allowed.now ≤ 4096 }
+    requires cases { All (IsUsable (first_gate net.now)) cases.now }
+    requires few { length cases.now ≤ 4096 }
     requires inputs { length net.now.inputs ≤ 4000000000 }
-    ensures fault { IfErr result (IsSplitFault (most_items net.now copied.now (length allowed.now))) }
-    ensures small { OnOk result (most_items net.now copied.now (length allowed.now) ≤ 4000000) }
-    ensures size { IfOk result (λ other. length other.gates + length other.latches ≤ most_items net.now copied.now (length allowed.now)) }
+    ensures fault { IfErr result (IsSplitFault (most_items net.now copied.now (length cases.now))) }
+    ensures small { OnOk result (most_items net.now copied.now (length cases.now) ≤ 4000000) }
+    ensures size { IfOk result (λ other. length other.gates + length other.latches ≤ most_items net.now copied.now (length cases.now)) }
     ensures valid { IfOk result IsNetlist }
     ensures interface { IfOk result (KeepsInterface net.now) }
-    ensures tells { IfOk result (λ other. (v : List Trit) → length v ≡ first_gate net.now → IsInCase picked.now allowed.now v → TellsAsMuchAt net.now other v) }
+    ensures tells { IfOk result (λ other. (v : List Trit) → length v ≡ first_gate net.now → IsInOneCase cases.now v → TellsAsMuchAt net.now other v) }
 {
-    check_size(net, copied, allowed.len())?;
-    let other = split_small(alloc, net, copied, picked, allowed)?;
+    check_size(net, copied, cases.len())?;
+    let other = split_small(alloc, net, copied, cases)?;
     Ok(other)
 }

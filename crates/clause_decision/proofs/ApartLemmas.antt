@@ -110,7 +110,7 @@ exchanged_rails f r are = record {
 -- ---- what is assumed
 
 -- the literal of a column that a model reads is true where the column is as it is fixed
-literal-holds : (m : List Bool) (rails : List Rails) (fixed : Fixed) (b : Bool) → Reads m (rails_at rails fixed.column) (bit b) → b ≡ fixed.value → says m (fixed_literal rails fixed) ≡ true
+pub literal-holds : (m : List Bool) (rails : List Rails) (fixed : Fixed) (b : Bool) → Reads m (rails_at rails fixed.column) (bit b) → b ≡ fixed.value → says m (fixed_literal rails fixed) ≡ true
 literal-holds m rails fixed false reads is = rw (sym is) (reads.zero)
 literal-holds m rails fixed true reads is = rw (sym is) (reads.one)
 

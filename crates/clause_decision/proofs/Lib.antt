@@ -2,6 +2,7 @@ pub mod Common
 pub mod ApartLemmas
 pub mod ChangeLemmas
 pub mod ConeLemmas
+pub mod CubeLemmas
 pub mod EventLemmas
 pub mod FormulaLemmas
 pub mod LeavingLemmas

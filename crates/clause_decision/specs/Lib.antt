@@ -4,6 +4,7 @@ pub mod Changes
 pub mod LoopsAt
 pub mod Scopes
 pub mod Apart
+pub mod Cubes
 pub mod Loads
 pub mod Simulations
 pub mod Sweeping
@@ -12,6 +13,7 @@ pub mod Witnesses
 -- The code's own: what its parts say to each other.
 pub mod Events
 pub mod Formulas
+pub mod Missing
 pub mod NextStates
 pub mod Pairs
 pub mod Questions

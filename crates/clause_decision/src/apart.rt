@@ -106,7 +106,7 @@ fn add_hints(
 }
 
 /// The literal that says of a column that it has this value.
-fn literal_of(rails: &[Rails], fixed: Fixed) -> u32
+pub(crate) fn literal_of(rails: &[Rails], fixed: Fixed) -> u32
     requires { fixed.column < length rails.now }
     ensures { result ≡ fixed_literal rails.now fixed }
 {
@@ -115,7 +115,11 @@ fn literal_of(rails: &[Rails], fixed: Fixed) -> u32
 }
 
 /// Those of all that is fixed.
-fn literals_of_cube(alloc: Global, rails: &[Rails], cube: &[Fixed]) -> Result<Vec<u32>, AllocError>
+pub(crate) fn literals_of_cube(
+    alloc: Global,
+    rails: &[Rails],
+    cube: &[Fixed],
+) -> Result<Vec<u32>, AllocError>
     requires { All (λ fixed. fixed.column < length rails.now) cube.now }
     ensures { IfOk result (λ literals. literals.items ≡ map (fixed_literal rails.now) cube.now) }
 {

@@ -48,6 +48,19 @@ impl CareFormula {
         } = self;
         formula
     }
+
+    /// The rails of the columns alone.
+    pub(crate) fn into_columns(self) -> Vec<Rails>
+        ensures { result ≡ self.columns }
+    {
+        let CareFormula {
+            formula: _,
+            columns,
+            inside: _,
+            allowed: _,
+        } = self;
+        columns
+    }
 }
 
 /// The literals that say whether the columns are 1.

@@ -19,12 +19,12 @@ use Rattle.refusals.specs.declared.refusal.Refusal.TheVariants.{Initial, EmptyCa
 use Rattle.storm.specs.Storms.{most_events}
 use Rattle.storm.specs.Laws.{StormsNeverRest}
 use Rattle.refusals.proofs.LawLemmas.{accepted_without_refusal, refusal_is_shown}
-use Rattle.equal.specs.declared.answer.Answer.{Answer}
-use Rattle.equal.specs.declared.answer.Answer.TheVariants.{Equal as AreEqual, Unmatched, First, Second, Output, Latch}
-use Rattle.equal.specs.Rebound.{found}
-use Rattle.equality.specs.Texts.{answer_text}
-use Rattle.equality.specs.Shown.{IsShown}
-use Rattle.equality.specs.Told.{is_equal}
+use Rattle.miters.specs.declared.answer.Answer.{Answer}
+use Rattle.miters.specs.declared.answer.Answer.TheVariants.{Equal as AreEqual, Unmatched, First, Second, Output, Latch}
+use Rattle.miters.specs.Rebound.{found}
+use Rattle.miters.specs.Texts.{answer_text}
+use Rattle.miters.specs.Shown.{IsShown}
+use Rattle.miters.specs.Told.{is_equal}
 use Rattle.cyc_tool.specs.Answer.{verdict_of, IsAcceptedOutcome, IsGraphedByCases, IsRefusalOutcome, IsTooLarge, IsVerdictOutcome}
 use Rattle.cyc_tool.specs.Calls.{SinkCall, WriteFailed, Takes, IsMadeFor, IsWritten, Verdict, IsTold, Tells}
 use Rattle.cyc_tool.specs.Causes.{IsHelped, IsHelpedBy, IsWithoutCommand, Leads, Reaches, IsFaulty, IsUnread, MeetsLimit, IsVerdict, IsStormed, HasFormByCases, HasGraphByCases, HasMade, HasWeakest, IsRefusedStill, AreToldEqual, IsDoneWith}

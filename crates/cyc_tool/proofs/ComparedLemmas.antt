@@ -5,10 +5,11 @@ use Rattle.std.specs.declared.result.Result.{Result}
 use Rattle.cyc_tool.proofs.Common.{Arena, IsCompared, Found, Unfinished, outcome_of, Outcome}
 use Rattle.equal.specs.declared.fault.EqualFault.{EqualFault}
 use Rattle.equal.specs.declared.fault.EqualFault.TheVariants.{NodeLimit, Memory}
-use Rattle.equal.specs.Rebound.{found, IsLimited}
-use Rattle.equality.specs.Shown.{ShowsItself}
-use Rattle.equality.specs.Told.{IsToldOf}
-use Rattle.equality.specs.declared.telling.Told.{Told}
+use Rattle.miters.specs.Rebound.{found}
+use Rattle.equal.specs.Bounds.{IsLimited}
+use Rattle.miters.specs.Shown.{ShowsItself}
+use Rattle.miters.specs.Told.{IsToldOf}
+use Rattle.miters.specs.declared.telling.Told.{Told}
 use Rattle.cyc_tool.specs.Answer.{told as done}
 use Rattle.cyc_tool.specs.Endings.{found_told}
 use Rattle.cyc_tool.specs.Plans.{Comparison}

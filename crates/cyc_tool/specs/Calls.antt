@@ -23,8 +23,8 @@ use Rattle.parsed_files.specs.CareTexts.{AreNamed, models_of}
 use Rattle.parsed_files.specs.NetlistFiles.{netlist_of}
 use Rattle.cyc_base.specs.declared.limits.TheConstants.{MAX_FILE_BYTES, MAX_REWRITTEN_ITEMS}
 use Rattle.refusals.specs.declared.refusal.Refusal.{Refusal}
-use Rattle.equal.specs.Rebound.{IsLimited as IsComparisonLimited}
-use Rattle.equality.specs.Shown.{ShowsItself}
+use Rattle.equal.specs.Bounds.{IsLimited as IsComparisonLimited}
+use Rattle.miters.specs.Shown.{ShowsItself}
 use Rattle.rewriting.specs.Graphs.{graph_of, most_ands, IsGraphing}
 use Rattle.rewriting.specs.Rewriting.{rewritten, rewritten_size, IsRewriting}
 use Rattle.cyc_tool.specs.Answer.{told, verdict_of, IsAcceptedOutcome, IsVerdictOutcome, IsAssumed, compared}

@@ -21,10 +21,10 @@ use Rattle.cyc_base.specs.declared.sig.Sig.{Sig}
 use Rattle.storm.specs.Laws.{PlaysAsStorm}
 use Rattle.storm.specs.Storms.{storm_of}
 use Rattle.cyc_tool.specs.Storms.{storm_text}
-use Rattle.equal.specs.Matching.{unmatched}
-use Rattle.equal.specs.Rebound.{IsEnoughForBoth, IsLimited as IsComparisonLimited}
-use Rattle.equality.specs.Runs.{RunAlike}
-use Rattle.equality.specs.Shown.{ShowsItself}
+use Rattle.miters.specs.Matching.{unmatched}
+use Rattle.equal.specs.Bounds.{IsEnoughForBoth, IsLimited as IsComparisonLimited}
+use Rattle.miters.specs.Runs.{RunAlike}
+use Rattle.miters.specs.Shown.{ShowsItself}
 use Rattle.rewriting.specs.Graphs.{graph_of, IsGraphIn, IsGraphing}
 use Rattle.rewriting.specs.Rewriting.{rewritten, IsLoopFreeForm, IsRewriting}
 use Rattle.cyc_tool.specs.Answer.{told, verdict_of, IsVerdictOutcome, IsAssumed, compared, IsAnswer}

@@ -35,7 +35,7 @@ use Rattle.report.specs.Verdicts.{accepted_text, refusal_text, ring_line}
 use Rattle.storm.specs.Storms.{most_events}
 use Rattle.rewriting.specs.Graphs.{graph_of, most_ands}
 use Rattle.rewriting.specs.Rewriting.{rewritten, rewritten_size, sweeps_needed}
-use Rattle.equality.specs.Told.{are_equal, found_text}
+use Rattle.miters.specs.Told.{are_equal, found_text}
 use Rattle.commands.specs.Words.{Purpose, Judges, Rewrites, WritesGraph, Explains, Demonstrates, Storms}
 use Rattle.cyc_tool.specs.Plans.{Ending, Prints, Refuses, Declines, Outgrows, WantsRows, Decision, Comparison}
 use Rattle.cyc_tool.specs.Storms.{events_of, events_told, storm_text}

@@ -18,8 +18,8 @@ use care_sets::Care;
 use commands::Options;
 use cyc_base::{DEFAULT_NODES, Name};
 use cyc_io::Shelf;
-use equal::EqualFault;
-use equality::{Told, tell_equality};
+use equal::{EqualFault, tell_equality};
+use miters::Told;
 use netlist::Netlist;
 use std::alloc::{AllocError, Global};
 

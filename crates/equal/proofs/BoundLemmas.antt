@@ -11,7 +11,7 @@ use Rattle.verdict.specs.Causes.{HasModelOver, HasCoverOver}
 use Rattle.verdict.specs.Enough.{in_all, enough, IsBelowEnough}
 use Rattle.equal.specs.Bounds.{in_both}
 use Rattle.equal.proofs.BothLemmas.{both_are_wide}
-use Rattle.equal.proofs.JoinLemmas.{first_gate, second_gate, length-joined}
+use Rattle.miters.proofs.JoinLemmas.{first_gate, second_gate, length-joined}
 
 -- ---- the joined netlist's gates are those of both
 

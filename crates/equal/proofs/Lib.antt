@@ -1,19 +1,10 @@
 pub mod Common
-pub mod NameLemmas
-pub mod PartLemmas
-pub mod MatchLemmas
-pub mod LoopLemmas
-pub mod JoinLemmas
-pub mod MiterLemmas
-pub mod DifferenceLemmas
 pub mod CompareLemmas
-pub mod AlikeLemmas
-pub mod CaseLemmas
-pub mod PlacedLemmas
-pub mod ScopeLemmas
-pub mod ValidLemmas
-pub mod BoundLemmas
-pub mod LatchlessLemmas
-pub mod PartFunctionLemmas
 pub mod BothLemmas
-pub mod ReboundLemmas
+pub mod BoundLemmas
+mod CaringLemmas
+mod ApartLemmas
+mod EnoughLemmas
+mod LaidLemmas
+mod LesserLemmas
+mod PartingLemmas

@@ -6,10 +6,10 @@ use Rattle.netlist.specs.Netlists.{IsNetlist}
 use Rattle.fixpoint.specs.Orders.{laid, order}
 use Rattle.care_sets.specs.Care.{CareSet, columns}
 use Rattle.verdict.specs.Enough.{IsOfDecision}
-use Rattle.differences.specs.Comparisons.{IsLaidBy}
-use Rattle.equal.specs.Differences.{by_name}
-use Rattle.equal.specs.Joined.{joined}
-use Rattle.equal.specs.Matching.{unmatched}
+use Rattle.equal.specs.Comparisons.{IsLaidBy}
+use Rattle.miters.specs.Differences.{by_name}
+use Rattle.miters.specs.Joined.{joined}
+use Rattle.miters.specs.Matching.{unmatched}
 
 -- a function that the first one's decision works with, or one of the second's on the vector by name
 pub data IsOfBoth (a : Parts) (care_a : CareSet) (b : Parts) (care_b : CareSet) (g : List Bool → Bool) : Type 0 where

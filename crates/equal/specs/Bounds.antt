@@ -1,5 +1,5 @@
 -- How many nodes are enough for a comparison, and what its node limit rests on.
-use Rattle.std.specs.Prelude.{◌≡◌, ◌<◌, ◌+◌, ◌*◌, ◌⊎◌, ℕ, length}
+use Rattle.std.specs.Prelude.{◌≡◌, ◌<◌, ◌≤◌, ◌+◌, ◌*◌, ◌⊎◌, ℕ, None, length}
 use Rattle.bdd_store.specs.Arena.{Arena}
 use Rattle.dual_rail.specs.WorkingLists.{IsWide}
 use Rattle.netlist.specs.declared.parts.Parts.{Parts}
@@ -7,6 +7,8 @@ use Rattle.fixpoint.specs.Working.{effort, HasLargeCover}
 use Rattle.care_sets.specs.Care.{CareSet, columns}
 use Rattle.verdict.specs.Causes.{HasModelOver}
 use Rattle.verdict.specs.Enough.{IsLaid, in_all, enough}
+use Rattle.miters.specs.Matching.{unmatched}
+use Rattle.miters.specs.Rebound.{rebound}
 use Rattle.equal.specs.Both.{IsLaidForBoth}
 
 -- a number of both netlists and their care models together
@@ -31,3 +33,20 @@ pub record IsBelowEnoughForBoth (a : Parts) (care_a : CareSet) (b : Parts) (care
 pub record IsOutOfNodesForBoth (d : Arena) (a : Parts) (care_a : CareSet) (b : Parts) (limit : ℕ) : Type 0 where
   pub most : d.limit ≡ limit
   pub cause : (length d.entries ≡ limit) ⊎ (HasLargeCover a limit ⊎ (HasLargeCover b limit ⊎ HasModelOver care_a limit))
+
+-- What a node limit of a comparison shows: all names match, the limit is below what is enough for both decisions and the
+-- comparison, and the diagrams hold as many nodes, or a cover has more.
+pub record IsLimited (d : Arena) (a b : Parts) (care : CareSet) (limit : ℕ) : Type 0 where
+  pub matched : unmatched a b ≡ None
+  pub cause : IsOutOfNodesForBoth d a care b limit
+  pub below : IsBelowEnoughForBoth a care b (rebound b care) limit
+
+-- The limit is at least what is enough.
+pub record IsEnoughForBoth (a b : Parts) (care : CareSet) (limit : ℕ) : Type 0 where
+  pub first : ℕ
+  pub second : ℕ
+  pub both : ℕ
+  pub first_wide : IsWide (columns a) (IsLaid a care) first
+  pub second_wide : IsWide (columns b) (IsLaid b (rebound b care)) second
+  pub both_wide : IsWide (columns a) (IsLaidForBoth a care b (rebound b care)) both
+  pub within : enough_for_both a care b (rebound b care) first second both ≤ limit

@@ -8,15 +8,15 @@ use Rattle.fixpoint.specs.Orders.{order}
 use Rattle.care_sets.specs.Binding.{IsCareOf}
 use Rattle.care_sets.specs.Care.{CareSet}
 use Rattle.verdict.specs.Causes.{IsOutOfNodes}
-use Rattle.differences.specs.Comparisons.{IsBelowEnoughFor}
+use Rattle.equal.specs.Comparisons.{IsBelowEnoughFor}
 use Rattle.clause_decision.specs.declared.pairs.Pair.{Pair}
-use Rattle.equal.specs.declared.answer.Answer.{Answer}
+use Rattle.miters.specs.declared.answer.Answer.{Answer}
 use Rattle.equal.specs.declared.fault.EqualFault.{EqualFault}
 use Rattle.equal.specs.declared.fault.EqualFault.TheVariants.{Memory, NodeLimit}
 use Rattle.equal.specs.Bounds.{IsBelowEnoughForBoth, IsOutOfNodesForBoth}
-use Rattle.equal.specs.Differences.{columns_by_name, comparison, difference, AreAccepted, HaveOneSource}
-use Rattle.equal.specs.Joined.{joined, joined_pairs}
-use Rattle.equal.specs.Matching.{unmatched}
+use Rattle.miters.specs.Differences.{columns_by_name, comparison, difference, AreAccepted, HaveOneSource}
+use Rattle.miters.specs.Joined.{joined, joined_pairs}
+use Rattle.miters.specs.Matching.{unmatched}
 
 -- two netlists, each with its care set, and how many nodes diagrams may have
 pub record Matched : Type 0 where

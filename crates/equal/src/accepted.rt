@@ -4,9 +4,9 @@ ghost use Rattle.std.specs.Prelude.{◌≡◌, ◌+◌, ◌≤◌, None, suc, tr
 ghost use Rattle.netlist.specs.Netlists.{count};
 ghost use Rattle.care_sets.specs.Binding.{IsCareOf};
 ghost use Rattle.equal.specs.Compared.{accepted_netlists};
-ghost use Rattle.equal.specs.Differences.{columns_by_name, AreAccepted};
-ghost use Rattle.equal.specs.Joined.{joined_pairs};
-ghost use Rattle.equal.specs.Matching.{unmatched};
+ghost use Rattle.miters.specs.Differences.{columns_by_name, AreAccepted};
+ghost use Rattle.miters.specs.Joined.{joined_pairs};
+ghost use Rattle.miters.specs.Matching.{unmatched};
 
 use care_sets::Care;
 use clause_decision::Pair;

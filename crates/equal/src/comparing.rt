@@ -6,24 +6,22 @@ ghost use Rattle.fixpoint.specs.Orders.{order as order_of};
 ghost use Rattle.refusals.specs.Refusals.{refusal as refusal_by};
 ghost use Rattle.verdict.specs.Causes.{IsOutOfNodes};
 ghost use Rattle.verdict.specs.Enough.{IsBelowEnough};
-ghost use Rattle.differences.specs.Comparisons.{IsBelowEnoughFor};
+ghost use Rattle.equal.specs.Comparisons.{IsBelowEnoughFor};
 ghost use Rattle.equal.specs.Bounds.{IsBelowEnoughForBoth, IsOutOfNodesForBoth};
 ghost use Rattle.equal.specs.Compared.{matched_netlists, Compares};
-ghost use Rattle.equal.specs.Differences.{comparison, comparison_of_accepted, AreAccepted, HaveOneSource};
-ghost use Rattle.equal.specs.Joined.{joined, joined_pairs};
-ghost use Rattle.equal.specs.Matching.{unmatched};
-ghost use Rattle.equal.specs.Rebound.{found as found_of, rebound, IsLimited};
+ghost use Rattle.miters.specs.Differences.{comparison, comparison_of_accepted, AreAccepted, HaveOneSource};
+ghost use Rattle.miters.specs.Joined.{joined, joined_pairs};
+ghost use Rattle.miters.specs.Matching.{unmatched};
+ghost use Rattle.miters.specs.Rebound.{found as found_of, rebound};
+ghost use Rattle.equal.specs.Bounds.{IsLimited};
 
-use crate::answer::Answer;
 use crate::fault::{EqualFault, fault_of};
 use crate::least::least_difference;
-use crate::matching::first_unmatched;
-use crate::placing::at_difference;
-use crate::rebinding::rebind;
 use bdd_ops::Diagrams;
 use care_sets::Care;
 use cyc_base::MAX_NODES;
 use loops::{find_blocks, find_cut};
+use miters::{Answer, at_difference, first_unmatched, rebind};
 use netlist::Netlist;
 use refusals::Refusal;
 use std::alloc::Global;
@@ -75,7 +73,7 @@ fn compare_accepted(
     ensures below { result ≡ Err (EqualFault.NodeLimit limit) → IsBelowEnoughFor (order_of a.now) (joined a.now b.now []) care.now (joined_pairs a.now b.now) limit }
 {
     match least_difference(alloc, d, a, b, care, limit)? {
-        Some(vector) => at_difference(alloc, a, b, vector),
+        Some(vector) => Ok(at_difference(alloc, a, b, vector)?),
         None => Ok(Answer::Equal),
     }
 }

@@ -1,42 +1,39 @@
 //! The least care vector on which two netlists differ that are accepted.
 
-ghost use Rattle.std.specs.Prelude.{◌≡◌, ◌<◌, ◌≤◌, ◌+◌, ◌-◌, ◌⊎◌, ◌++◌, [], ℕ, Some, None, true, Option, Bool, List, suc, length, map, find, option_map, All, IfOk, IfErr};
+ghost use Rattle.std.specs.Prelude.{◌≡◌, ◌<◌, ◌≤◌, ◌⊎◌, [], ℕ, Some, None, true, Option, Bool, List, length, find, option_map, IfOk, IfErr};
 ghost use Rattle.cyc_base.specs.Vectors.{vectors};
 ghost use Rattle.cyc_base.specs.declared.sig.Sig.{Sig as Signal};
 ghost use Rattle.refusals.specs.declared.refusal.Refusal.TheVariants.{Undetermined};
-ghost use Rattle.netlist.specs.Netlists.{count, IsNetlist};
+ghost use Rattle.netlist.specs.Netlists.{IsNetlist};
 ghost use Rattle.fixpoint.specs.Orders.{order as order_of};
 ghost use Rattle.netlist.specs.declared.parts.Parts.{Parts as TheParts};
 ghost use Rattle.care_sets.specs.Care.{columns, CareSet};
-ghost use Rattle.clause_decision.specs.Scopes.{is_marked, IsScopeOf};
 ghost use Rattle.clause_decision.specs.Tests.{is_unknown_at};
 ghost use Rattle.verdict.specs.Verdicts.{IsJudgement};
 ghost use Rattle.verdict.specs.Causes.{IsOutOfNodes};
-ghost use Rattle.differences.specs.Pairs.{least_apart as least_apart_of};
-ghost use Rattle.differences.specs.Comparisons.{IsBelowEnoughFor};
+ghost use Rattle.miters.specs.Pairs.{least_apart as least_apart_of};
+ghost use Rattle.equal.specs.Comparisons.{IsBelowEnoughFor};
 ghost use Rattle.care_sets.specs.Binding.{IsCareOf};
 ghost use Rattle.equal.specs.Compared.{FindsLeast};
-ghost use Rattle.equal.specs.Differences.{columns_by_name, difference, output_pairs as output_pairs_of, latch_pairs as latch_pairs_of, AreAccepted};
+ghost use Rattle.miters.specs.Differences.{difference, AreAccepted};
 ghost use Rattle.equal.specs.Early.{IsFound, IsKnownEarly};
-ghost use Rattle.equal.specs.Joined.{moved_gates, moved_pair_by, miter_gates, joined, joined_pairs as joined_pairs_of, miter as miter_of};
-ghost use Rattle.equal.specs.Matching.{unmatched};
+ghost use Rattle.miters.specs.Joined.{joined, joined_pairs as joined_pairs_of};
+ghost use Rattle.miters.specs.Matching.{unmatched};
 
 use crate::accepted::{AcceptedNetlists, fits};
+use crate::apart::least_apart;
+use crate::comparison::Comparison;
 use crate::fault::{EqualFault, fault_of};
-use crate::joining::{joined_gates, moved, netlist_of};
-use crate::miter::add_miter_gates;
-use crate::pairs::{find_columns, latch_pairs, output_pairs};
 use bdd_ops::Diagrams;
 use care_sets::Care;
-use clause_decision::{Found, Pair, Scope, least_unknown};
-use cyc_base::{Bits, Items, MAX_NODES};
-use differences::{Comparison, least_apart};
+use clause_decision::{Found, least_unknown};
+use cyc_base::{Bits, MAX_NODES};
 use fixpoint::order;
 use loops::{LoopedNetlist, find_blocks, find_cut};
-use netlist::{Gate, Netlist};
+use miters::{find_columns, joined_netlist, joined_pairs, miter_of, stands_in_first, whole_scope};
+use netlist::Netlist;
 use refusals::Refusal;
 use std::alloc::{AllocError, Global};
-use unroll::mark;
 use verdict::{DecideFault, Judgement, Observe, judge};
 
 /// How many conflicts each search for the least vector of the miter's last gate may meet.
@@ -52,98 +49,6 @@ pub(crate) enum Early {
     Found(Option<Bits>),
     /// The budget didn't do.
     Nothing,
-}
-
-/// A pair of wires of both netlists as one of the joined netlist.
-fn moved_pair(columns: &[u32], first: u32, pair: Pair) -> Pair
-    requires { first + (pair.there.0 - length columns.now) ≤ 4294967295 }
-    ensures { result ≡ moved_pair_by columns.now first pair }
-{
-    Pair {
-        here: pair.here,
-        there: moved(columns, first, pair.there),
-    }
-}
-
-/// Pairs of both netlists as pairs of the joined netlist.
-fn moved_pairs(
-    alloc: Global,
-    columns: &[u32],
-    first: u32,
-    own: &[Pair],
-) -> Result<Vec<Pair>, AllocError>
-    requires { All (λ pair. first + (pair.there.0 - length columns.now) ≤ 4294967295) own.now }
-    ensures { IfOk result (λ pairs. pairs.items ≡ map (moved_pair_by columns.now first) own.now) }
-{
-    own.iter()
-        .map(|pair| moved_pair(columns, first, *pair))
-        .collect(alloc)
-}
-
-/// The outputs of one name, and what the latches of one name load.
-pub(crate) fn own_pairs(alloc: Global, a: &Netlist, b: &Netlist) -> Result<Vec<Pair>, AllocError>
-    ensures { IfOk result (λ pairs. pairs.items ≡ output_pairs_of a.now b.now ++ latch_pairs_of a.now b.now) }
-{
-    let mut pairs = output_pairs(alloc, a, b)?;
-    let latches = latch_pairs(alloc, a, b)?;
-    pairs.extend_from_slice(&latches)?;
-    Ok(pairs)
-}
-
-/// These as pairs of the joined netlist.
-fn joined_pairs(
-    alloc: Global,
-    a: &Netlist,
-    b: &Netlist,
-    columns: &[u32],
-) -> Result<Vec<Pair>, AllocError>
-    requires matched { unmatched a.now b.now ≡ None }
-    requires columns { columns.now ≡ columns_by_name a.now b.now }
-    requires fits { count a.now + length b.now.gates ≤ 4294967295 }
-    ensures { IfOk result (λ pairs. pairs.items ≡ joined_pairs_of a.now b.now) }
-{
-    let own = own_pairs(alloc, a, b)?;
-    a.laws();
-    b.laws();
-    moved_pairs(alloc, columns, a.count(), &own)
-}
-
-/// The gates of both netlists, and those that tell whether they differ.
-fn gates_of_miter(
-    alloc: Global,
-    a: &Netlist,
-    b: &Netlist,
-    columns: &[u32],
-    pairs: &[Pair],
-) -> Result<Vec<Gate>, AllocError>
-    requires columns { columns.now ≡ columns_by_name a.now b.now }
-    requires fits { count a.now + suc (length b.now.gates + length pairs.now) ≤ 4294967294 }
-    ensures { IfOk result (λ gates. gates.items ≡ a.now.gates ++ (moved_gates a.now b.now ++ miter_gates a.now (length b.now.gates) pairs.now)) }
-{
-    let mark = mark(alloc, a)?;
-    let mut gates = joined_gates(alloc, a, b, columns, &mark)?;
-    add_miter_gates(alloc, a, &mark, b.gates(), pairs, &mut gates)?;
-    Ok(gates)
-}
-
-/// The same mark for each gate.
-fn marks_of_gates(alloc: Global, net: &Netlist, mark: bool) -> Result<Vec<bool>, AllocError>
-    ensures width { IfOk result (λ marks. length marks.items ≡ length net.now.gates) }
-    ensures each { IfOk result (λ marks. (n : ℕ) → n < length net.now.gates → is_marked marks.items n ≡ mark) }
-{
-    vec![in alloc; mark; net.gates() as usize]
-}
-
-/// The scope of all gates. It is said of none that it is known at each vector: unit clauses say so of those that no loop
-/// feeds.
-#[tactic(auto, using(crate::proofs::ScopeLemmas::all_close, crate::proofs::ScopeLemmas::none_known))]
-pub(crate) fn whole_scope(alloc: Global, net: &Netlist) -> Result<Scope, AllocError>
-    ensures scope { IfOk result (IsScopeOf net.now) }
-    ensures all { IfOk result (λ scope. (n : ℕ) → n < length net.now.gates → is_marked scope.gates n ≡ true) }
-{
-    let known = Items::of(marks_of_gates(alloc, net, false)?);
-    let gates = Items::of(marks_of_gates(alloc, net, true)?);
-    Ok(Scope { gates, known })
 }
 
 /// Whether there is a loop besides that of the last gate.
@@ -239,21 +144,13 @@ fn least_on(
 }
 
 impl<'a> AcceptedNetlists<'a> {
-    /// The netlist that tells whether they differ, their miter (Brand 1993).
-    fn miter(&self, alloc: Global) -> Result<Netlist, AllocError>
-        ensures { IfOk result (λ net. net ≡ miter_of self.now.a self.now.b) }
-    {
-        let gates = gates_of_miter(alloc, self.a, self.b, self.columns, self.pairs)?;
-        netlist_of(alloc, self.a, gates)
-    }
-
     /// The least vector on which they differ, if the miter is decided within a budget. Its last gate is asked for alone
     /// before: a judgement would show of all gates in loops again that they are known.
     fn difference_by_miter(&self, alloc: Global, limit: u32) -> Result<Early, AllocError>
         requires { limit ≤ MAX_NODES }
         ensures { IfOk result (IsFound (difference self.now.a self.now.b self.now.care)) }
     {
-        let net = self.miter(alloc)?;
+        let net = miter_of(alloc, self.a, self.b, self.columns, self.pairs)?;
         let last = net.gates() - 1;
         match unknown_within(alloc, &net, self.care, last)? {
             Early::Found(found) => Ok(Early::Found(found)),
@@ -266,7 +163,7 @@ impl<'a> AcceptedNetlists<'a> {
         requires { limit ≤ MAX_NODES }
         ensures { IfOk result (IsFound (difference self.now.a self.now.b self.now.care)) }
     {
-        if self.stands_in_first(alloc)? {
+        if stands_in_first(alloc, self.a, self.b, self.columns)? {
             return Ok(Early::Found(None));
         }
         if self.are_alike(alloc)? {
@@ -285,7 +182,7 @@ impl<'a> AcceptedNetlists<'a> {
         requires { limit ≤ MAX_NODES }
         ensures { FindsLeast self.now limit d.new result }
     {
-        let net = self.joined_netlist(alloc)?;
+        let net = joined_netlist(alloc, self.a, self.b, self.columns)?;
         let blocks = find_blocks(alloc, &net)?;
         let cut = find_cut(alloc, &net, &blocks)?;
         let looped = LoopedNetlist::new(&net, &blocks, &cut);

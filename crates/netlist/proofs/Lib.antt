@@ -1,3 +1,4 @@
+pub mod CopyLemmas
 pub mod Decisions
 pub mod Differ
 pub mod FixpointLemmas

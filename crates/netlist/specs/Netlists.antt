@@ -40,6 +40,10 @@ abbrev pub is_driven : Parts → List ℕ → Bool
 is_driven net name =
     list_any (λ latch. bytes_eq name latch.name) net.latches || list_any (λ gate. bytes_eq name gate.name) net.gates
 
+-- the netlist with other gates and outputs
+abbrev pub with_gates : Parts → List Gate → List Sig → Parts
+with_gates net gates outputs = record { name = net.name; inputs = net.inputs; clock = net.clock; latches = net.latches; gates = gates; outputs = outputs }
+
 abbrev pub IsSignal : Parts → Sig → Type 0
 IsSignal net s = s.0 < count net
 

@@ -6,6 +6,7 @@
 #![tactic(auto)]
 
 mod checks;
+mod copying;
 pub mod laws;
 mod named;
 mod names;
@@ -13,5 +14,8 @@ mod netlist;
 mod order;
 mod parts;
 
+pub use copying::{
+    copy_clock, copy_gate, copy_gates, copy_inputs, copy_netlist, netlist_of, parts_with,
+};
 pub use netlist::Netlist;
 pub use parts::{Clock, Edge, Gate, Init, Latch, Parts, PartsFault};

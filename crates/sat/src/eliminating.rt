@@ -164,9 +164,8 @@ fn added_by(uses: &Uses, clause: &[Lit], lit: Lit) -> Option<usize> {
 /// Clauses of more literals aren't made.
 const LONGEST: usize = 16;
 
-/// How many literals the clauses have that follow by resolution of one with the negative ones, and none where one is too
-/// long.
-fn lits_added(database: &Clauses, uses: &Uses, one: &[Lit], lit: Lit) -> Option<usize> {
+/// How many clauses follow by resolution of one with the negative ones, and none where one is too long.
+fn resolvents_of(database: &Clauses, uses: &Uses, one: &[Lit], lit: Lit) -> Option<usize> {
     let mut total: usize = 0;
     for number in &uses.negative {
         if *number < database.len() {
@@ -175,35 +174,27 @@ fn lits_added(database: &Clauses, uses: &Uses, one: &[Lit], lit: Lit) -> Option<
                 if length > LONGEST {
                     return None;
                 }
-                total = total.saturating_add(length);
+                total = total.saturating_add(1);
             }
         }
     }
     Some(total)
 }
 
-/// How many literals these clauses have.
-fn lits_in(database: &Clauses, numbers: &[u32]) -> usize {
-    let mut total: usize = 0;
-    for number in numbers {
-        if *number < database.len() {
-            total = total.saturating_add(database.clause(*number).len());
-        }
-    }
-    total
-}
-
-/// Whether the clauses that follow by resolution on a literal have no more literals than those from which they follow, and
-/// none is too long.
+/// Whether no more clauses follow by resolution on a literal than those from which they follow, and none is too long.
 fn is_worth(database: &Clauses, uses: &mut Uses, lit: Lit) -> bool {
-    let most = lits_in(database, &uses.positive).saturating_add(lits_in(database, &uses.negative));
+    let most = uses
+        .positive
+        .as_slice()
+        .len()
+        .saturating_add(uses.negative.as_slice().len());
     let mut total: usize = 0;
     for place in 0..uses.positive.as_slice().len() {
         let number = at(&uses.positive, place, NONE);
         if number < database.len() {
             let one = database.clause(number);
             mark(uses, one);
-            match lits_added(database, uses, one, lit) {
+            match resolvents_of(database, uses, one, lit) {
                 Some(more) => total = total.saturating_add(more),
                 None => return false,
             }

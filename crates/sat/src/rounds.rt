@@ -63,7 +63,7 @@ impl Pace {
             limit: FEWEST.saturating_add(clauses / 3),
             rise: UNIT,
             period: UNIT,
-            elimination: UNIT.saturating_add(clauses as u64 / 100),
+            elimination: UNIT.saturating_add(clauses as u64 / 10),
         }
     }
 }

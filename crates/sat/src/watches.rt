@@ -17,6 +17,11 @@ struct Watch {
     blocker: Lit,
 }
 
+const NO_WATCH: Watch = Watch {
+    place: NONE,
+    blocker: Lit { code: NONE },
+};
+
 /// A clause of two literals, and the one that becomes true where the other is false.
 #[derive(Clone, Copy)]
 struct Implied {
@@ -284,21 +289,8 @@ fn look(
     Ok(Outlook::Stays(other))
 }
 
-/// The first place from one on at which the blocker isn't true.
-#[inline(always)]
-fn next_visit(trail: &Trail, list: &[Watch], from: usize) -> Option<usize>
-    ensures { IfSome result (λ place. (from ≤ place) × (place < length list.now)) }
-{
-    for place in from..list.len() {
-        if !seems_true(trail, list[place].blocker) {
-            return Some(place);
-        }
-    }
-    None
-}
-
-/// Goes through the watches of a literal that has become false, and leaves those that stay. It answers a clause that
-/// has no other literals.
+/// Goes through the watches of a literal that has become false, and leaves those that stay, in their order. It answers a
+/// clause that has no other literals.
 fn sift(
     database: &Clauses,
     trail: &mut Trail,
@@ -310,25 +302,23 @@ fn sift(
     ensures open { open_count trail.new.values.items ≤ open_count trail.old.values.items }
     ensures conflict { IfOk result (λ found. IfSome found (λ number. number < length database.now)) }
 {
-    let mut from = 0;
-    for _ in 0..list.as_slice().len() {
-        let Some(place) = next_visit(trail, list, from) else {
-            break;
-        };
-        from = place;
-        match look(trail, lists, copies, list[place], gone)? {
-            Outlook::Stays(blocker) => {
-                list[place].blocker = blocker;
-                from += 1;
+    let mut kept: usize = 0;
+    let mut found = None;
+    for place in 0..list.as_slice().len() {
+        let mut watch = at(list, place, NO_WATCH);
+        if !seems_true(trail, watch.blocker) && found.is_none() {
+            match look(trail, lists, copies, watch, gone)? {
+                Outlook::Stays(blocker) => watch.blocker = blocker,
+                Outlook::Moves => continue,
+                Outlook::Fails(number) if number < database.len() => found = Some(number),
+                Outlook::Fails(_) => (),
             }
-            Outlook::Moves => {
-                list.swap_remove(place);
-            }
-            Outlook::Fails(number) if number < database.len() => return Ok(Some(number)),
-            Outlook::Fails(_) => from += 1,
         }
+        put(list, kept, watch);
+        kept = kept.wrapping_add(1);
     }
-    Ok(None)
+    list.truncate(kept);
+    Ok(found)
 }
 
 /// Follows the clauses of two literals one of which has become false. It answers one whose other literal is false.

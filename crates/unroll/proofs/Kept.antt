@@ -1,19 +1,9 @@
 -- The netlist's own gates, by the table of the last copies.
-use Rattle.std.proofs.Common.{◌≡◌, ℕ, ◌+◌, ◌<◌, List, [], ◌∷◌, ◌++◌, length, map, take, get_or, slice_get, Some, ap, sym, ◌∙◌, arith}
-use Rattle.unroll.proofs.Common.{get_or_append_left, map-append, take_more, Sig, Parts, gate_at, signal, Loops, AreLoopsOf, gate_of, in_loop_of, first_gate, in_loop_from, same_within, shift, old_signal, copy_signal, kept_gate, IsOfLoops, kept_pin, at_table, copy_pin_by, range_with_len, get_or-range_with_len, get_or_from_slice_get, slice_get_within}
+use Rattle.std.proofs.Common.{◌≡◌, ℕ, ◌+◌, List, length, get_or, ap, sym, ◌∙◌, arith}
+use Rattle.unroll.proofs.Common.{Sig, Parts, gate_at, signal, Loops, AreLoopsOf, gate_of, in_loop_of, first_gate, in_loop_from, same_within, shift, old_signal, copy_signal, kept_gate, IsOfLoops, kept_pin, at_table, copy_pin_by, range_with_len, get_or-range_with_len}
 use Rattle.unroll.specs.Tables.{gate_by_tables, AreLast}
 use Rattle.unroll.proofs.Numbered.{choice_of_two, moved_high}
 use Rattle.unroll.proofs.Rounds.{has_same, many_of, self_of, map_same}
-
--- one more item that was read by its place
-pub taken : {A : Type 0} (xs : List A) (i : ℕ) (x : A) → slice_get xs i ≡ Some x → take (i + 1) xs ≡ take i xs ++ x ∷ []
-taken xs i x e = take_more xs i x (slice_get_within xs i x e) ∙ ap (λ y. take i xs ++ y ∷ []) (get_or_from_slice_get xs i x x e)
-
-pub taken_mapped : {A B : Type 0} (f : A → B) (xs : List A) (i : ℕ) (x : A) → slice_get xs i ≡ Some x → map f (take (i + 1) xs) ≡ map f (take i xs) ++ f x ∷ []
-taken_mapped f xs i x e = ap (map f) (taken xs i x e) ∙ map-append f (take i xs) (x ∷ [])
-
-pub taken_first : {A : Type 0} (xs ys : List A) (i : ℕ) (x : A) → i < length xs → slice_get (xs ++ ys) i ≡ Some x → take (i + 1) xs ≡ take i xs ++ x ∷ []
-taken_first xs ys i x l e = grind (arith, take_more xs i x l, get_or_append_left xs ys x i l, get_or_from_slice_get (xs ++ ys) i x x e)
 
 module _ (net : Parts) (loops : Loops) (m : ℕ → ℕ) (are : AreLoopsOf net loops) (of_loops : IsOfLoops loops m) (last own : List ℕ) (tables : AreLast net loops m last own) where
   pin_same : (n : ℕ) (s : Sig) → copy_pin_by net loops (shift net loops m) last own n s ≡ kept_pin net loops m n s

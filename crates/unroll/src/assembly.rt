@@ -13,34 +13,10 @@ use crate::gates::{kept_gate, zero_gate};
 use crate::names::mark;
 use crate::pins::{Tables, moved};
 use crate::plan::Plan;
-use cyc_base::{Items, Name, Sig};
+use cyc_base::{Items, Sig};
 use loops::{LoopedNetlist, SweepCounts};
-use netlist::{Clock, Gate, Latch, Netlist, Parts};
+use netlist::{Gate, Latch, Netlist, Parts, copy_clock, copy_inputs};
 use std::alloc::{AllocError, Global};
-
-/// Copies of the inputs' names.
-pub fn copy_inputs(alloc: Global, net: &Netlist) -> Result<Vec<Name>, AllocError>
-    ensures { IfOk result (λ names. names.items ≡ net.now.inputs) }
-{
-    let mut names = Vec::with_capacity(alloc, net.inputs() as usize)?;
-    for number in 0..net.inputs() {
-        names.push(net.name_of(Sig(number)).copy()?)?;
-    }
-    Ok(names)
-}
-
-/// A copy of the clock.
-pub fn copy_clock(net: &Netlist) -> Result<Option<Clock>, AllocError>
-    ensures { IfOk result (λ clock. clock ≡ net.now.clock) }
-{
-    match net.clock() {
-        Some(clock) => Ok(Some(Clock {
-            edge: clock.edge,
-            name: clock.name.copy()?,
-        })),
-        None => Ok(None),
-    }
-}
 
 /// A latch whose source is moved up where it is a gate.
 fn kept_latch(net: &Netlist, by: u32, latch: &Latch) -> Result<Latch, AllocError>

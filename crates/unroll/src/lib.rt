@@ -17,7 +17,6 @@ mod plan;
 mod sizes;
 mod unrolling;
 
-pub use assembly::{copy_clock, copy_inputs};
 pub use fault::UnrollFault;
 pub use names::{copy_name, mark};
 pub use sizes::unrolled_size;

@@ -1,6 +1,6 @@
 -- Netlists whose gates are all determined on care.
 use Rattle.std.proofs.Common.{◌≡◌, inl, inr, ℕ, ◌+◌, ◌<◌, Bool, true, false, if◌then◌else◌, List, [], ◌∷◌, ◌++◌, length, get_or, Option, Some, None, refl, sym, ◌∙◌, subst, arith, true≢false}
-use Rattle.verdict.proofs.Common.{find, cases_lt, get_or_append_left, Trit, bits, vectors, Parts, IsNetlist, Blocks, AreBlocksOf, Loops, IsCountOfSweeps, unsettled_loops_decide, is_marked, CareSet, columns, is_care_vector, Refusal, EmptyCare, Observe, care_vectors, leaves, undetermined_refusal, empty-filter, found_wide, care_vector_decides, care_vector_is, SettleInOneSweep, IsLeastCount, are_care_values, AreLoose}
+use Rattle.verdict.proofs.Common.{find, cases_lt, get_or_append_left, Trit, bits, vectors, Parts, IsNetlist, Blocks, AreBlocksOf, Loops, IsCountOfSweeps, unsettled_loops_decide, is_marked, CareSet, columns, is_care_vector, Refusal, EmptyCare, Observe, care_vectors, leaves, leaves_refusal, undetermined_refusal, empty-filter, found_wide, care_vector_decides, care_vector_is, SettleInOneSweep, IsLeastCount, are_care_values, AreLoose}
 use Rattle.std.proofs.lemmas.List.{get_or_push}
 use Rattle.verdict.specs.Loose.{AreKnownAround}
 use Rattle.cyc_base.proofs.OrderLemmas.{bit-known, bits-at}
@@ -11,10 +11,8 @@ use Rattle.refusals.specs.Refusals.{empty_refusal}
 use Rattle.refusals.proofs.FirstLemmas.{found_passes}
 use Rattle.refusals.proofs.RefusalLemmas.{find_none-all, length-bits}
 use Rattle.verdict.specs.Determination.{AreDeterminedOnCare, IsGate, IsOpen}
-use Rattle.verdict.specs.Laws.{DeterminationsAccept, NothingLeaves}
 use Rattle.verdict.proofs.CountLemmas.{bits-of-care, care-values}
 use Rattle.verdict.proofs.PartLemmas.{loose-none, undetermined-none, known-here}
-use Rattle.verdict.proofs.VerdictLemmas.{accepts-is, refused-on-care}
 
 -- ---- values of care vectors
 
@@ -71,9 +69,6 @@ none-undetermined net care what determined = undetermined-none net care what (λ
 pub determination-loose : (net : Parts) (care : CareSet) → AreDeterminedOnCare net care (IsGate net) → AreLoose net care 0
 determination-loose net care determined = loose-none net care (λ n less. known-here net care n less (λ v counts. determined v counts n less))
 
-pub determinations_accept : DeterminationsAccept
-determinations_accept net blocks cut care what counts valid is initial some stays =
-    grind (arith, accepts-is net care what valid, refused-on-care net care what None initial some, none-undetermined net care what is.determined, determination-loose net care is.determined)
-
-pub nothing_leaves : NothingLeaves
+-- without an invariant no next state leaves it
+pub nothing_leaves : (net : Parts) (care : CareSet) → care.invariant ≡ None → leaves_refusal net care ≡ None
 nothing_leaves net care lacks = grind (arith, find_none-all (leaves net care) (care_vectors net care))

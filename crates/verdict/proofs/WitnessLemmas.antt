@@ -10,13 +10,11 @@ use Rattle.refusals.proofs.ShowingLemmas.{is_x_decides}
 use Rattle.clause_decision.specs.Witnesses.{IsWitness}
 use Rattle.isolation.specs.Excerpts.{gate_in}
 use Rattle.verdict.specs.Unknown.{AreAskedCandidates}
-use Rattle.verdict.specs.Determinacy.{IsDeterminacy, IsSomeDeterminacy, IsUnknownGateAt}
+use Rattle.verdict.specs.Determinacy.{IsUnknownObserved, IsUnknownGateAt}
 use Rattle.verdict.specs.Scopes.{MayGoOn}
-use Rattle.verdict.specs.Searches.{Searched}
+use Rattle.verdict.specs.Questions.{Asked}
 use Rattle.verdict.specs.Verdicts.{IsJudgement}
 use Rattle.verdict.specs.Witnessed.{IsSomeJudgement, IsSomeRefusal, IsUndeterminedAt}
-use Rattle.verdict.specs.declared.clauses.Determinacy.{Determinacy}
-use Rattle.verdict.specs.declared.clauses.Determinacy.TheVariants as determinacies
 use Rattle.verdict.specs.declared.judgement.Judgement.{Judgement}
 use Rattle.verdict.specs.declared.judgement.Judgement.TheVariants as judgements
 use Rattle.verdict.proofs.VerdictLemmas.{refused-on-care}
@@ -69,20 +67,22 @@ gate-refuses net care what v n EmptyCare is at = absurd at
 gate-refuses net care what v n (Undetermined w s) is at = subst (λ t. IsUndeterminedAt net care what w t) (sym at.1) (subst (λ u. IsUndeterminedAt net care what u (gate_sig net n)) (sym at.0) is)
 gate-refuses net care what v n (Leaves w q) is at = absurd at
 
--- where the marks are those of observed gates
-pub witness_refuses : (net : Parts) (care : CareSet) (what : Observe) (seen : List Bool) (v : List Bool) (n : ℕ) (r : Refusal) → IsNetlist net → MayGoOn net care → AreMarksOf net (observed net what) seen → n < length net.gates →
-    is_marked seen n ≡ true → length v ≡ columns net → is_unknown_at net care n v ≡ true → IsUnknownGateAt net v n r → IsSomeRefusal net care what r
-witness_refuses net care what seen v n r valid may marks less marked wide unknown at =
-    gate-refuses net care what v n r (undetermined-at net care what v n valid may less wide unknown (sym (marks.each n less) ∙ marked)) at
+-- an observed gate that is unknown refuses the netlist
+pub unknown_refuses : (q : Asked) (v : List Bool) (n : ℕ) (r : Refusal) → IsNetlist q.net → MayGoOn q.net q.care → IsUnknownObserved q v n → IsUnknownGateAt q.net v n r → IsSomeRefusal q.net q.care q.what r
+unknown_refuses q v n r valid may is at = gate-refuses q.net q.care q.what v n r (undetermined-at q.net q.care q.what v n valid may is.within is.width is.unknown is.seen) at
+
+-- a marked gate where the marks are those of observed gates
+pub observed_unknown : (q : Asked) (seen : List Bool) (v : List Bool) (n : ℕ) → AreMarksOf q.net (observed q.net q.what) seen → n < length q.net.gates → is_marked seen n ≡ true → length v ≡ columns q.net →
+    is_unknown_at q.net q.care n v ≡ true → IsUnknownObserved q v n
+observed_unknown q seen v n marks less marked wide unknown = record { within = less; width = wide; unknown = unknown; seen = sym (marks.each n less) ∙ marked }
 
 -- and of a list of gates that were asked for
-pub asked_refuses : (net : Parts) (blocks : Blocks) (settled seen marks : List Bool) (last : ℕ) → AreAskedCandidates net blocks settled seen last marks → (gates : List ℕ) → ListsMarked marks (length net.gates) gates →
-    (care : CareSet) (what : Observe) → IsNetlist net → MayGoOn net care → AreMarksOf net (observed net what) seen → (v : List Bool) (place : ℕ) → IsWitness net care gates v place → (r : Refusal) → IsUnknownGateAt net v (gate_in gates place) r →
-    IsSomeRefusal net care what r
-asked_refuses net blocks settled seen marks last candidates gates listed care what valid may are v place witness r at =
+pub asked-unknown : (q : Asked) (seen marks : List Bool) (last : ℕ) → AreAskedCandidates q.net q.blocks q.settled seen last marks → (gates : List ℕ) → ListsMarked marks (length q.net.gates) gates →
+    AreMarksOf q.net (observed q.net q.what) seen → (v : List Bool) (place : ℕ) → IsWitness q.net q.care gates v place → IsUnknownObserved q v (gate_in gates place)
+asked-unknown q seen marks last candidates gates listed are v place witness =
     let here = gate_in gates place in
     let there = (listed.each here).0 (place, witness.within, get_or_default gates place _ _ witness.within) in
-    witness_refuses net care what seen v here r valid may are there.0 (candidates.only here there.1).seen witness.width witness.unknown at
+    observed_unknown q seen v here are there.0 (candidates.only here there.1).seen witness.width witness.unknown
 
 -- ---- exact answers are such ones
 
@@ -109,10 +109,3 @@ exact_refusal net care what (Leaves v q) valid is = is
 pub exact_judgement : (net : Parts) (care : CareSet) (what : Observe) (judgement : Judgement) → IsNetlist net → IsJudgement net care what judgement → IsSomeJudgement net care what judgement
 exact_judgement net care what (judgements.Accepted loose) valid is = is
 exact_judgement net care what (judgements.Refused r) valid is = exact_refusal net care what r valid is
-
-pub exact_determinacy : (s : Searched) (what : Observe) (d : Determinacy) → IsNetlist s.net → MayGoOn s.net s.care → IsDeterminacy s what d → IsSomeDeterminacy s what d
-exact_determinacy s what (determinacies.Determined loose) valid may is = is
-exact_determinacy s what (determinacies.Refused r) valid may is =
-    exact_refusal s.net s.care what r valid
-    (refused-on-care s.net s.care what (Some r) may.initial may.some (ap (λ (o : Option Refusal). option_or o (leaves_refusal s.net s.care)) is))
-exact_determinacy s what determinacies.Undecided valid may is = tt

@@ -1,28 +1,30 @@
 -- Whether the observed gates of a netlist are seen to be determined on care.
-use Rattle.std.specs.Prelude.{◌≡◌, ℕ, Bool, List, Some}
+use Rattle.std.specs.Prelude.{◌≡◌, ◌<◌, ℕ, Bool, true, List, length}
 use Rattle.netlist.specs.declared.parts.Parts.{Parts}
 use Rattle.netlist.specs.Netlists.{gate_sig}
-use Rattle.refusals.specs.Refusals.{undetermined_refusal}
-use Rattle.refusals.specs.declared.observe.Observe.{Observe}
+use Rattle.care_sets.specs.Care.{columns}
+use Rattle.clause_decision.specs.Tests.{is_unknown_at}
+use Rattle.refusals.specs.Acceptance.{observed}
+use Rattle.refusals.specs.Refusals.{is_among}
 use Rattle.refusals.specs.declared.refusal.Refusal.{Refusal}
 use Rattle.refusals.specs.declared.refusal.Refusal.TheVariants.{Initial, EmptyCare, Undetermined, Leaves}
-use Rattle.verdict.specs.declared.clauses.Determinacy.{Determinacy}
-use Rattle.verdict.specs.declared.clauses.Determinacy.TheVariants as determinacies
+use Rattle.verdict.specs.declared.determinacy.Determinacy.{Determinacy}
+use Rattle.verdict.specs.declared.determinacy.Determinacy.TheVariants as determinacies
 use Rattle.verdict.specs.Loose.{IsLooseNumber}
-use Rattle.verdict.specs.Searches.{Searched}
-use Rattle.verdict.specs.Witnessed.{IsSomeRefusal}
+use Rattle.verdict.specs.Questions.{Asked}
 
--- no observed gate is unknown on care, and so many others are, or the first refuses the netlist, or nothing is said
-abbrev pub IsDeterminacy : Searched → Observe → Determinacy → Type 0
-IsDeterminacy s what (determinacies.Determined loose) = IsLooseNumber s.net s.care what loose
-IsDeterminacy s what (determinacies.Refused refusal) = undetermined_refusal s.net s.care what ≡ Some refusal
-IsDeterminacy s what determinacies.Undecided = Unit {0}
+-- an observed gate that is unknown at a care vector
+pub record IsUnknownObserved (q : Asked) (v : List Bool) (n : ℕ) : Type 0 where
+  pub within : n < length q.net.gates
+  pub width : length v ≡ columns q.net
+  pub unknown : is_unknown_at q.net q.care n v ≡ true
+  pub seen : is_among (observed q.net q.what) (gate_sig q.net n) ≡ true
 
--- the same, where any such gate refuses the netlist, at any vector
-abbrev pub IsSomeDeterminacy : Searched → Observe → Determinacy → Type 0
-IsSomeDeterminacy s what (determinacies.Determined loose) = IsLooseNumber s.net s.care what loose
-IsSomeDeterminacy s what (determinacies.Refused r) = IsSomeRefusal s.net s.care what r
-IsSomeDeterminacy s what determinacies.Undecided = Unit {0}
+-- no observed gate is unknown on care, and so many others are, or this one is, or nothing is said
+abbrev pub IsDeterminacy : Asked → Determinacy → Type 0
+IsDeterminacy q (determinacies.Determined loose) = IsLooseNumber q.net q.care q.what loose
+IsDeterminacy q (determinacies.Unknown vector gate) = IsUnknownObserved q vector.items gate
+IsDeterminacy q determinacies.Undecided = Unit {0}
 
 -- the refusal has this vector, and the wire of this gate
 abbrev pub IsUnknownGateAt : Parts → List Bool → ℕ → Refusal → Type 0

@@ -5,15 +5,12 @@ use Rattle.cyc_base.specs.Values.{bits}
 use Rattle.netlist.specs.declared.parts.Parts.{Parts}
 use Rattle.netlist.specs.Fixpoint.{fix_gates}
 use Rattle.loops.specs.declared.structure.Blocks.{Blocks}
-use Rattle.loops.specs.declared.structure.Cut.{Cut}
-use Rattle.loops.specs.declared.structure.SweepCounts.{SweepCounts}
 use Rattle.loops.specs.Blocks.{block_at, home_of}
 use Rattle.loops.specs.Sweeps.{value_in}
 use Rattle.isolation.specs.Laws.{IsLooped}
 use Rattle.isolation.specs.Settled.{SettleInSweeps}
 use Rattle.loops.specs.Cones.{is_marked}
 use Rattle.care_sets.specs.Care.{CareSet, IsCareVector}
-use Rattle.verdict.specs.Verdicts.{AreSweepsOnCare}
 
 -- no gate of the kind is X in the fixpoint of a care vector
 abbrev pub AreDeterminedOnCare : Parts → CareSet → (ℕ → Type 0) → Type 0
@@ -21,11 +18,6 @@ AreDeterminedOnCare net care Kind = (v : List Bool) → IsCareVector net care v 
 
 abbrev pub IsGate : Parts → ℕ → Type 0
 IsGate net n = n < length net.gates
-
--- no gate at all is, and the loops need so many sweeps on care
-pub record IsDetermination (net : Parts) (blocks : Blocks) (cut : Cut) (care : CareSet) (counts : SweepCounts) : Type 0 where
-  pub determined : AreDeterminedOnCare net care (IsGate net)
-  pub sweeps : AreSweepsOnCare net blocks cut care counts
 
 -- ---- how loops are decided
 

@@ -15,7 +15,6 @@ pub mod Next
 pub mod Observed
 pub mod Questions
 pub mod Scopes
-pub mod Searches
 pub mod Unknown
 pub mod Loose
 pub mod Determinacy

@@ -1,5 +1,5 @@
 -- What is decided: whether a netlist is accepted on a care set where these of its signals are observed.
-use Rattle.std.specs.Prelude.{◌≡◌, ℕ, Bool, List, length, IfSome}
+use Rattle.std.specs.Prelude.{◌≡◌, Bool, List, length}
 use Rattle.netlist.specs.declared.parts.Parts.{Parts}
 use Rattle.netlist.specs.Netlists.{IsNetlist}
 use Rattle.loops.specs.declared.structure.Blocks.{Blocks}
@@ -11,8 +11,9 @@ use Rattle.loops.specs.Looped.{Looped}
 use Rattle.fixpoint.specs.Orders.{order as order_of}
 use Rattle.care_sets.specs.Binding.{IsCareOf}
 use Rattle.care_sets.specs.Care.{CareSet}
+use Rattle.clause_decision.specs.Scopes.{AreNeverUnknown}
 use Rattle.refusals.specs.declared.observe.Observe.{Observe}
-use Rattle.verdict.specs.declared.judged.Judged.{Judged}
+use Rattle.verdict.specs.declared.ground.Ground.{Ground}
 use Rattle.verdict.specs.declared.judgement.Judgement.{Judgement}
 use Rattle.verdict.specs.declared.verdict.Verdict.{Verdict}
 use Rattle.verdict.specs.Determination.{SettleInOneSweep}
@@ -24,24 +25,37 @@ pub record Asked : Type 0 where
   pub cut : Cut
   pub care : CareSet
   pub what : Observe
+  -- a mark for each block: those of loops say that they are settled by themselves in one sweep
+  pub settled : List Bool
 
-abbrev pub asked : Looped → CareSet → Observe → Asked
-asked l care what = record { net = l.net; blocks = l.blocks; cut = l.cut; care = care; what = what }
+abbrev pub asked : Looped → CareSet → Observe → List Bool → Asked
+asked l care what settled = record { net = l.net; blocks = l.blocks; cut = l.cut; care = care; what = what; settled = settled }
 
 abbrev pub looped_in : Asked → Looped
 looped_in q = record { net = q.net; blocks = q.blocks; cut = q.cut }
 
--- all parts are the netlist's
+-- all parts are the netlist's, and each loop with a mark is settled by itself
 pub record IsAsked (q : Asked) : Type 0 where
   pub net : IsNetlist q.net
   pub blocks : AreBlocksOf q.net q.blocks
   pub cut : IsCutOf q.net q.cut
   pub care : IsCareOf q.net q.care
+  pub width : length q.settled ≡ length q.blocks.list
+  pub settled : SettleInOneSweep q.net q.blocks q.settled
 
--- and for diagrams the columns are laid on the variables by the netlist's order
-pub record IsLaidOut (q : Asked) (order : List ℕ) : Type 0 where
+-- what is found of a netlist with its loops, for all questions: the columns as diagrams have them, loops that are settled by
+-- themselves, and gates that no Boolean vector leaves unknown
+pub record IsGround (l : Looped) (ground : Ground) : Type 0 where
+  pub order_is : ground.order.items ≡ order_of l.net
+  pub width : length ground.settled.items ≡ length l.blocks.list
+  pub settled : SettleInOneSweep l.net l.blocks ground.settled.items
+  pub known_width : length ground.known.items ≡ length l.net.gates
+  pub known : AreNeverUnknown l.net ground.known.items
+
+-- a question with what was found of its netlist
+pub record IsGrounded (q : Asked) (ground : Ground) : Type 0 where
   pub is : IsAsked q
-  pub order_is : order ≡ order_of q.net
+  pub ground_is : IsGround (looped_in q) ground
 
 -- what it is answered by
 abbrev pub IsJudgementOf : Asked → Judgement → Type 0
@@ -49,16 +63,6 @@ IsJudgementOf q judgement = IsJudgement q.net q.care q.what judgement
 
 abbrev pub IsVerdictOf : Asked → Verdict → Type 0
 IsVerdictOf q verdict = IsVerdict q.net q.blocks q.cut q.care q.what verdict
-
--- a mark for each block: those of loops say that they are settled by themselves in one sweep
-pub record AreSettledMarks (q : Asked) (marks : List Bool) : Type 0 where
-  pub width : length marks ≡ length q.blocks.list
-  pub settled : SettleInOneSweep q.net q.blocks marks
-
--- an answer, and such marks beside it, if any
-pub record IsJudged (q : Asked) (judged : Judged) : Type 0 where
-  pub judgement : IsJudgementOf q judged.judgement
-  pub settled : IfSome judged.settled (λ marks. AreSettledMarks q marks.items)
 
 -- where it is accepted: the sweeps that its loops need on care
 abbrev pub AreCountsOf : Asked → SweepCounts → Type 0

@@ -7,17 +7,15 @@ ghost use Rattle.isolation.specs.Columns.{AreColumns};
 ghost use Rattle.refusals.specs.Acceptance.{SomeCareVector};
 ghost use Rattle.verdict.specs.Costs.{counting_cost, solving_cost, sweeps_cost};
 ghost use Rattle.verdict.specs.Enough.{AddsInDecision, GrowsInDecision, IsFullFor};
-ghost use Rattle.verdict.specs.Questions.{AreCountsOf, AreSettledMarks, IsJudgementOf};
+ghost use Rattle.verdict.specs.Questions.{AreCountsOf};
 ghost use Rattle.verdict.specs.Sets.{Tells};
-ghost use Rattle.verdict.specs.Verdicts.{AreLoose, AreSweepsOnCare, IsSolvedWhole};
+ghost use Rattle.verdict.specs.Verdicts.{AreLoose, IsSolvedWhole};
 
 use crate::beginning::all_care_on;
 use crate::counts::sweeps_on_care;
 use crate::diagrams::solve_whole;
-use crate::judgement::Judgement;
 use crate::loose::Unknown;
 use crate::question::Question;
-use crate::search::Search;
 use crate::solving::Fixpoint;
 use crate::unknown::unknown_gates;
 use bdd_ops::Diagrams;
@@ -30,40 +28,24 @@ use isolation::column_rails;
 use loops::SweepCounts;
 use std::alloc::{AllocError, Global};
 
-/// The sweeps of all loops on care, where so many gates are unknown there, if they are found.
-fn counts_by(
-    alloc: Global,
-    search: &Search<'_>,
-    loose: u32,
-) -> Result<Option<SweepCounts>, AllocError>
-    requires some { SomeCareVector search.now.net search.now.care }
-    requires loose { AreLoose search.now.net search.now.care loose }
-    ensures { IfOk result (λ found. IfSome found (AreSweepsOnCare search.now.net search.now.blocks search.now.cut search.now.care)) }
-{
-    if loose == 0 {
-        return sweeps_on_care(alloc, search, Unknown::Nowhere);
-    }
-    match unknown_gates(alloc, search)? {
-        Some(unknown) => sweeps_on_care(alloc, search, Unknown::Marked(&unknown)),
-        None => Ok(None),
-    }
-}
-
-/// The sweeps of all loops of an accepted netlist on care, by clauses, or none where the solver gave up in a search after so
-/// many conflicts, or where an unknown gate feeds a loop. These marks are those of settled loops.
+/// The sweeps of all loops of an accepted netlist on care, where so many gates are unknown there. There are none where the solver
+/// gave up in a search, or where an unknown gate feeds a loop.
 pub(crate) fn counts_by_clauses(
     alloc: Global,
     question: &Question<'_>,
     loose: u32,
-    settled: &[bool],
-    conflicts: u64,
 ) -> Result<Option<SweepCounts>, AllocError>
-    requires accepted { IsJudgementOf question.now (Judgement.Accepted loose) }
-    requires settled { AreSettledMarks question.now settled.now }
+    requires some { SomeCareVector question.now.net question.now.care }
+    requires loose { AreLoose question.now.net question.now.care loose }
     ensures { IfOk result (λ found. IfSome found (AreCountsOf question.now)) }
 {
-    let search = Search::new(question.looped(), question.care(), settled, conflicts);
-    counts_by(alloc, &search, loose)
+    if loose == 0 {
+        return sweeps_on_care(alloc, question, Unknown::Nowhere);
+    }
+    match unknown_gates(alloc, question)? {
+        Some(unknown) => sweeps_on_care(alloc, question, Unknown::Marked(&unknown)),
+        None => Ok(None),
+    }
 }
 
 /// The sweeps that the loops of a solved netlist need on its care vectors, which are kept beside it.

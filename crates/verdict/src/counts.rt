@@ -11,8 +11,8 @@ ghost use Rattle.verdict.specs.Verdicts.{AreSweepsOnCare};
 
 use crate::alone::block_number;
 use crate::loose::{Unknown, is_fed_known, is_known_around};
+use crate::question::Question;
 use crate::scopes::scope_of;
-use crate::search::Search;
 use clause_decision::{sweeps_fed_known, sweeps_needed};
 use cyc_base::Items;
 use loops::{SweepCounts, gates_at};
@@ -22,25 +22,25 @@ use std::alloc::{AllocError, Global};
 /// are none where the solver gave up, or where a gate that feeds the loop is unknown.
 fn ask_sweeps(
     alloc: Global,
-    search: &Search<'_>,
+    question: &Question<'_>,
     unknown: Unknown<'_>,
     place: usize,
 ) -> Result<Option<u32>, AllocError>
-    requires some { SomeCareVector search.now.net search.now.care }
-    requires unknown { AreUnknown search.now.net search.now.care unknown }
-    requires place { place < length search.now.blocks.list }
-    requires looped { (block_at search.now.blocks place).looped ≡ true }
-    ensures { IfOk result (λ found. IfSome found (λ sweeps. (gate : ℕ) → Contains (block_at search.now.blocks place).gates gate →
-        IsLeastCount search.now.net (loops_by search.now.blocks search.now.cut) search.now.care gate sweeps)) }
+    requires some { SomeCareVector question.now.net question.now.care }
+    requires unknown { AreUnknown question.now.net question.now.care unknown }
+    requires place { place < length question.now.blocks.list }
+    requires looped { (block_at question.now.blocks place).looped ≡ true }
+    ensures { IfOk result (λ found. IfSome found (λ sweeps. (gate : ℕ) → Contains (block_at question.now.blocks place).gates gate →
+        IsLeastCount question.now.net (loops_by question.now.blocks question.now.cut) question.now.care gate sweeps)) }
 {
-    if !is_fed_known(alloc, search, unknown, place)? {
+    if !is_fed_known(alloc, question, unknown, place)? {
         return Ok(None);
     }
-    let looped = search.looped();
-    let care = search.care();
+    let looped = question.looped();
+    let care = question.care();
     let block = block_number(looped, place);
-    let scope = scope_of(alloc, search, gates_at(looped, place))?;
-    let conflicts = search.conflicts();
+    let scope = scope_of(alloc, question, gates_at(looped, place))?;
+    let conflicts = question.conflicts();
     match unknown {
         Unknown::Nowhere => sweeps_needed(alloc, looped, care, &scope, block, conflicts),
         Unknown::Marked(_) => sweeps_fed_known(alloc, looped, care, &scope, block, conflicts),
@@ -50,38 +50,38 @@ fn ask_sweeps(
 /// The sweeps of the block at this place, if they are found.
 fn count_at(
     alloc: Global,
-    search: &Search<'_>,
+    question: &Question<'_>,
     unknown: Unknown<'_>,
     place: usize,
 ) -> Result<Option<u32>, AllocError>
-    requires some { SomeCareVector search.now.net search.now.care }
-    requires unknown { AreUnknown search.now.net search.now.care unknown }
-    requires place { place < length search.now.blocks.list }
-    ensures { IfOk result (λ found. IfSome found (IsLoopCount search.now.net search.now.blocks search.now.cut search.now.care place)) }
+    requires some { SomeCareVector question.now.net question.now.care }
+    requires unknown { AreUnknown question.now.net question.now.care unknown }
+    requires place { place < length question.now.blocks.list }
+    ensures { IfOk result (λ found. IfSome found (IsLoopCount question.now.net question.now.blocks question.now.cut question.now.care place)) }
 {
-    if !search.blocks().list.items()[place].looped {
+    if !question.blocks().list.items()[place].looped {
         return Ok(Some(0));
     }
-    if search.settled()[place] && is_known_around(search, unknown, place) {
+    if question.settled()[place] && is_known_around(question, unknown, place) {
         return Ok(Some(1));
     }
-    ask_sweeps(alloc, search, unknown, place)
+    ask_sweeps(alloc, question, unknown, place)
 }
 
 /// The sweeps of all loops on care, if they are found.
 pub(crate) fn sweeps_on_care(
     alloc: Global,
-    search: &Search<'_>,
+    question: &Question<'_>,
     unknown: Unknown<'_>,
 ) -> Result<Option<SweepCounts>, AllocError>
-    requires some { SomeCareVector search.now.net search.now.care }
-    requires unknown { AreUnknown search.now.net search.now.care unknown }
-    ensures { IfOk result (λ found. IfSome found (AreSweepsOnCare search.now.net search.now.blocks search.now.cut search.now.care)) }
+    requires some { SomeCareVector question.now.net question.now.care }
+    requires unknown { AreUnknown question.now.net question.now.care unknown }
+    ensures { IfOk result (λ found. IfSome found (AreSweepsOnCare question.now.net question.now.blocks question.now.cut question.now.care)) }
 {
-    search.laws();
+    question.laws();
     let mut counts = Vec::new(alloc);
-    for place in 0..search.settled().len() {
-        let Some(count) = count_at(alloc, search, unknown, place)? else {
+    for place in 0..question.settled().len() {
+        let Some(count) = count_at(alloc, question, unknown, place)? else {
             return Ok(None);
         };
         counts.push(count)?;

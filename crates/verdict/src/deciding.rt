@@ -6,68 +6,44 @@ ghost use Rattle.loops.specs.Blocks.{AreBlocksOf};
 ghost use Rattle.loops.specs.Cuts.{IsCutOf};
 ghost use Rattle.verdict.specs.Causes.{IsOutOfNodes};
 ghost use Rattle.verdict.specs.Enough.{IsBelowEnough};
-ghost use Rattle.verdict.specs.Questions.{AreCountsOf, AreSettledMarks, IsJudged, IsJudgementOf, IsVerdictOf};
+ghost use Rattle.verdict.specs.Questions.{AreCountsOf, IsJudgementOf, IsVerdictOf};
 ghost use Rattle.verdict.specs.Verdicts.{IsVerdict};
 
 use crate::counting::{count_from_columns, counts_by_clauses, counts_by_diagrams};
 use crate::fault::DecideFault;
-use crate::judged::Judged;
+use crate::ground::ground_of;
 use crate::judgement::Judgement;
-use crate::judging::{FEW_CONFLICTS, FEW_NODES, MANY_CONFLICTS, judge_anew};
+use crate::judging::{FEW_NODES, judge_anew};
 use crate::question::Question;
 use crate::verdict::Verdict;
 use bdd_ops::Diagrams;
 use bdd_store::StoreFault;
 use care_sets::Care;
 use cyc_base::MAX_NODES;
-use fixpoint::order;
 use loops::{Blocks, Cut, LoopedNetlist, SweepCounts};
 use netlist::Netlist;
 use refusals::Observe;
 use std::alloc::{AllocError, Global};
 
-/// The sweeps of an accepted netlist that clauses judged: by clauses for a while, by diagrams of so many nodes, and by
-/// clauses for long.
-fn counts_in_turn(
-    alloc: Global,
-    question: &Question<'_>,
-    loose: u32,
-    settled: &[bool],
-    few: u32,
-) -> Result<Option<SweepCounts>, AllocError>
-    requires accepted { IsJudgementOf question.now (Judgement.Accepted loose) }
-    requires settled { AreSettledMarks question.now settled.now }
-    requires few { few ≤ MAX_NODES }
-    ensures { IfOk result (λ found. IfSome found (AreCountsOf question.now)) }
-{
-    if let Some(counts) = counts_by_clauses(alloc, question, loose, settled, FEW_CONFLICTS)? {
-        return Ok(Some(counts));
-    }
-    if let Some(counts) = counts_by_diagrams(alloc, question, few)? {
-        return Ok(Some(counts));
-    }
-    counts_by_clauses(alloc, question, loose, settled, MANY_CONFLICTS)
-}
-
-/// What is tried before the handed-in diagrams are filled. Where diagrams judged the netlist, as there are no marks of settled
-/// loops, clauses aren't asked: they gave up on less.
+/// What is tried before the handed-in diagrams are filled: clauses for a while, diagrams for a while, and clauses for long.
 fn early_counts(
     alloc: Global,
     question: &Question<'_>,
     loose: u32,
-    settled: &Option<Vec<bool>>,
     limit: u32,
 ) -> Result<Option<SweepCounts>, AllocError>
     requires accepted { IsJudgementOf question.now (Judgement.Accepted loose) }
-    requires settled { IfSome settled.now (λ marks. AreSettledMarks question.now marks.items) }
     requires limit { limit ≤ MAX_NODES }
     ensures { IfOk result (λ found. IfSome found (AreCountsOf question.now)) }
 {
-    let few = limit.min(FEW_NODES);
-    match settled {
-        Some(settled) => counts_in_turn(alloc, question, loose, settled, few),
-        None => counts_by_diagrams(alloc, question, few),
+    if let Some(counts) = counts_by_clauses(alloc, question, loose)? {
+        return Ok(Some(counts));
     }
+    let few = limit.min(FEW_NODES);
+    if let Some(counts) = counts_by_diagrams(alloc, question, few)? {
+        return Ok(Some(counts));
+    }
+    counts_by_clauses(alloc, &question.for_long(), loose)
 }
 
 /// The sweeps by diagrams that are started anew.
@@ -99,18 +75,16 @@ fn count(
     d: &mut Diagrams,
     question: &Question<'_>,
     loose: u32,
-    settled: &Option<Vec<bool>>,
     limit: u32,
 ) -> Result<SweepCounts, DecideFault>
     requires accepted { IsJudgementOf question.now (Judgement.Accepted loose) }
-    requires settled { IfSome settled.now (λ marks. AreSettledMarks question.now marks.items) }
     requires limit { limit ≤ MAX_NODES }
     ensures counts { IfOk result (AreCountsOf question.now) }
     ensures fault { IfErr result (λ fault. (fault ≡ DecideFault.Memory) ⊎ (fault ≡ DecideFault.NodeLimit limit)) }
     ensures cause { result ≡ Err (DecideFault.NodeLimit limit) → IsOutOfNodes d.new question.now.net question.now.care limit }
     ensures enough { result ≡ Err (DecideFault.NodeLimit limit) → IsBelowEnough question.now.net question.now.care limit }
 {
-    match early_counts(alloc, question, loose, settled, limit) {
+    match early_counts(alloc, question, loose, limit) {
         Ok(Some(counts)) => Ok(counts),
         Ok(None) => count_anew(alloc, d, question, limit),
         Err(AllocError) => Err(DecideFault::Memory),
@@ -122,20 +96,19 @@ fn verdict_of(
     alloc: Global,
     d: &mut Diagrams,
     question: &Question<'_>,
-    judged: Judged,
+    judgement: Judgement,
     limit: u32,
 ) -> Result<Verdict, DecideFault>
-    requires judged { IsJudged question.now judged }
+    requires judgement { IsJudgementOf question.now judgement }
     requires limit { limit ≤ MAX_NODES }
     ensures verdict { IfOk result (IsVerdictOf question.now) }
     ensures fault { IfErr result (λ fault. (fault ≡ DecideFault.Memory) ⊎ (fault ≡ DecideFault.NodeLimit limit)) }
     ensures cause { result ≡ Err (DecideFault.NodeLimit limit) → IsOutOfNodes d.new question.now.net question.now.care limit }
     ensures enough { result ≡ Err (DecideFault.NodeLimit limit) → IsBelowEnough question.now.net question.now.care limit }
 {
-    let Judged { judgement, settled } = judged;
     match judgement {
         Judgement::Accepted { loose } => {
-            match count(alloc, d, question, loose, &settled, limit) {
+            match count(alloc, d, question, loose, limit) {
                 Ok(sweeps) => Ok(Verdict::Accepted { sweeps, loose }),
                 Err(fault) => Err(fault),
             }
@@ -176,13 +149,13 @@ pub fn decide(
     ensures cause { result ≡ Err (DecideFault.NodeLimit limit) → IsOutOfNodes d.new net.now care.now limit }
     ensures enough { result ≡ Err (DecideFault.NodeLimit limit) → IsBelowEnough net.now care.now limit }
 {
-    let Ok(order) = order(alloc, net) else {
+    let looped = LoopedNetlist::new(net, blocks, cut);
+    let Ok(ground) = ground_of(alloc, &looped) else {
         return Err(DecideFault::Memory);
     };
-    let looped = LoopedNetlist::new(net, blocks, cut);
-    let question = Question::new(&looped, care, observe, &order);
+    let question = Question::new(&looped, care, observe, &ground);
     match judge_anew(alloc, d, &question, limit) {
-        Ok(judged) => verdict_of(alloc, d, &question, judged, limit),
+        Ok(judgement) => verdict_of(alloc, d, &question, judgement, limit),
         Err(fault) => Err(fault),
     }
 }

@@ -8,8 +8,8 @@ ghost use Rattle.clause_decision.specs.Tests.{is_leaving};
 ghost use Rattle.verdict.specs.Invariance.{IsInvariance};
 
 use crate::next::leaves_at;
+use crate::question::Question;
 use crate::scopes::{drivers_read, scope_of};
-use crate::search::Search;
 use care_sets::Care;
 use clause_decision::{Found, least_leaving};
 use netlist::Netlist;
@@ -45,25 +45,28 @@ fn invariance_by(
 }
 
 /// Whether a next state leaves an invariant, asked of the clauses of what the latches load that it reads.
-fn ask_invariance(alloc: Global, search: &Search<'_>) -> Result<Invariance, AllocError>
-    requires { LoadsAreKnown search.now.net search.now.care }
-    ensures { IfOk result (IsInvariance search.now.net search.now.care) }
+fn ask_invariance(alloc: Global, question: &Question<'_>) -> Result<Invariance, AllocError>
+    requires { LoadsAreKnown question.now.net question.now.care }
+    ensures { IfOk result (IsInvariance question.now.net question.now.care) }
 {
-    let net = search.net();
-    let care = search.care();
+    let net = question.net();
+    let care = question.care();
     let drivers = drivers_read(alloc, net, care)?;
-    let scope = scope_of(alloc, search, &drivers)?;
-    let found = least_leaving(alloc, net, care, &scope, search.conflicts())?;
+    let scope = scope_of(alloc, question, &drivers)?;
+    let found = least_leaving(alloc, net, care, &scope, question.conflicts())?;
     invariance_by(alloc, net, care, found)
 }
 
 /// Whether a care vector's next state isn't in the invariant, where on care all that latches load is known.
-pub(crate) fn invariance_of(alloc: Global, search: &Search<'_>) -> Result<Invariance, AllocError>
-    requires { LoadsAreKnown search.now.net search.now.care }
-    ensures { IfOk result (IsInvariance search.now.net search.now.care) }
+pub(crate) fn invariance_of(
+    alloc: Global,
+    question: &Question<'_>,
+) -> Result<Invariance, AllocError>
+    requires { LoadsAreKnown question.now.net question.now.care }
+    ensures { IfOk result (IsInvariance question.now.net question.now.care) }
 {
-    match search.care().invariant() {
-        Some(_) => ask_invariance(alloc, search),
+    match question.care().invariant() {
+        Some(_) => ask_invariance(alloc, question),
         None => Ok(Invariance::Stays),
     }
 }

@@ -7,45 +7,28 @@ ghost use Rattle.loops.specs.Blocks.{AreBlocksOf};
 ghost use Rattle.loops.specs.Cuts.{IsCutOf};
 ghost use Rattle.verdict.specs.Causes.{IsOutOfNodes};
 ghost use Rattle.verdict.specs.Enough.{IsFullFor, IsBelowEnough};
-ghost use Rattle.verdict.specs.Questions.{IsJudged, IsJudgementOf};
+ghost use Rattle.verdict.specs.Questions.{IsJudgementOf};
 ghost use Rattle.verdict.specs.Verdicts.{IsJudgement};
 
 use crate::clauses::judge_by_clauses;
 use crate::diagrams::{judge_by_diagrams, judge_on};
 use crate::fault::DecideFault;
 use crate::fitting::{fit_all, limit_of};
-use crate::judged::Judged;
+use crate::ground::ground_of;
 use crate::judgement::Judgement;
 use crate::question::Question;
 use bdd_ops::Diagrams;
 use bdd_store::StoreFault;
 use care_sets::Care;
 use cyc_base::MAX_NODES;
-use fixpoint::order;
 use isolation::column_rails;
 use loops::{Blocks, Cut, LoopedNetlist};
 use netlist::Netlist;
 use refusals::Observe;
 use std::alloc::{AllocError, Global};
 
-/// How many conflicts a search may meet in the first try by clauses, and in the second.
-pub(crate) const FEW_CONFLICTS: u64 = 20_000;
-
-pub(crate) const MANY_CONFLICTS: u64 = 2_000_000;
-
-/// How many nodes the diagrams may have between these.
+/// How many nodes the diagrams may have that are tried between the searches by clauses.
 pub(crate) const FEW_NODES: u32 = 200_000;
-
-/// A judgement by diagrams, which find nothing out of single loops.
-fn judged_by_diagrams(judgement: Judgement) -> Judged
-    ensures judgement { result.judgement ≡ judgement }
-    ensures settled { result.settled ≡ None }
-{
-    Judged {
-        judgement,
-        settled: None,
-    }
-}
 
 /// What is tried before the handed-in diagrams are filled: clauses for a while, diagrams for a while, and clauses for
 /// long. A direction that is chosen by a parity, once as a chain and once as a tree, is quick for diagrams and endless for
@@ -54,18 +37,18 @@ fn early_judgement(
     alloc: Global,
     question: &Question<'_>,
     limit: u32,
-) -> Result<Option<Judged>, AllocError>
+) -> Result<Option<Judgement>, AllocError>
     requires { limit ≤ MAX_NODES }
-    ensures { IfOk result (λ found. IfSome found (IsJudged question.now)) }
+    ensures { IfOk result (λ found. IfSome found (IsJudgementOf question.now)) }
 {
-    if let Some(judged) = judge_by_clauses(alloc, question, FEW_CONFLICTS)? {
-        return Ok(Some(judged));
+    if let Some(judgement) = judge_by_clauses(alloc, question)? {
+        return Ok(Some(judgement));
     }
     let few = limit.min(FEW_NODES);
     if let Some(judgement) = judge_by_diagrams(alloc, question, few)? {
-        return Ok(Some(judged_by_diagrams(judgement)));
+        return Ok(Some(judgement));
     }
-    judge_by_clauses(alloc, question, MANY_CONFLICTS)
+    judge_by_clauses(alloc, &question.for_long())
 }
 
 /// The judgement, on diagrams that have a variable for each column and no nodes. Where the columns don't fit, or a cover
@@ -74,17 +57,17 @@ fn judge_from_columns(
     alloc: Global,
     d: &mut Diagrams,
     question: &Question<'_>,
-) -> Result<Judged, StoreFault>
+) -> Result<Judgement, StoreFault>
     requires { d.old.vars ≡ columns question.now.net }
-    ensures judged { IfOk result (IsJudged question.now) }
+    ensures judgement { IfOk result (IsJudgementOf question.now) }
     ensures full { result ≡ Err StoreFault.Full → IsFullFor d.old d.new question.now.net question.now.care }
 {
     let rails = column_rails(alloc, d, question.order())?;
     let limit = limit_of(d);
     fit_all(alloc, question.net(), question.care(), limit)?;
     match early_judgement(alloc, question, limit)? {
-        Some(judged) => Ok(judged),
-        None => Ok(judged_by_diagrams(judge_on(alloc, d, question, &rails)?)),
+        Some(judgement) => Ok(judgement),
+        None => judge_on(alloc, d, question, &rails),
     }
 }
 
@@ -94,9 +77,9 @@ pub(crate) fn judge_anew(
     d: &mut Diagrams,
     question: &Question<'_>,
     limit: u32,
-) -> Result<Judged, DecideFault>
+) -> Result<Judgement, DecideFault>
     requires { limit ≤ MAX_NODES }
-    ensures judged { IfOk result (IsJudged question.now) }
+    ensures judgement { IfOk result (IsJudgementOf question.now) }
     ensures fault { IfErr result (λ fault. (fault ≡ DecideFault.Memory) ⊎ (fault ≡ DecideFault.NodeLimit limit)) }
     ensures cause { result ≡ Err (DecideFault.NodeLimit limit) → IsOutOfNodes d.new question.now.net question.now.care limit }
     ensures enough { result ≡ Err (DecideFault.NodeLimit limit) → IsBelowEnough question.now.net question.now.care limit }
@@ -105,7 +88,7 @@ pub(crate) fn judge_anew(
         return Err(DecideFault::Memory);
     }
     match judge_from_columns(alloc, d, question) {
-        Ok(judged) => Ok(judged),
+        Ok(judgement) => Ok(judgement),
         Err(StoreFault::Full) => Err(DecideFault::NodeLimit { nodes: limit }),
         Err(StoreFault::Memory) => Err(DecideFault::Memory),
     }
@@ -148,13 +131,10 @@ pub fn judge(
     ensures cause { result ≡ Err (DecideFault.NodeLimit limit) → IsOutOfNodes d.new net.now care.now limit }
     ensures enough { result ≡ Err (DecideFault.NodeLimit limit) → IsBelowEnough net.now care.now limit }
 {
-    let Ok(order) = order(alloc, net) else {
+    let looped = LoopedNetlist::new(net, blocks, cut);
+    let Ok(ground) = ground_of(alloc, &looped) else {
         return Err(DecideFault::Memory);
     };
-    let looped = LoopedNetlist::new(net, blocks, cut);
-    let question = Question::new(&looped, care, observe, &order);
-    match judge_anew(alloc, d, &question, limit) {
-        Ok(judged) => Ok(judged.judgement),
-        Err(fault) => Err(fault),
-    }
+    let question = Question::new(&looped, care, observe, &ground);
+    judge_anew(alloc, d, &question, limit)
 }

@@ -6,7 +6,7 @@ ghost use Rattle.clause_decision.specs.Changes.{AreFedKnown};
 ghost use Rattle.verdict.specs.Loose.{AreKnownAround, AreUnknown, AreWithout};
 
 use crate::fanout::are_reached;
-use crate::search::Search;
+use crate::question::Question;
 use loops::gates_at;
 use std::alloc::{AllocError, Global};
 
@@ -42,33 +42,33 @@ fn without(alloc: Global, marks: &[bool], gates: &[u32]) -> Result<Vec<bool>, Al
 /// Whether no gate is unknown that feeds the block at this place and is none of its own.
 pub(crate) fn is_fed_known(
     alloc: Global,
-    search: &Search<'_>,
+    question: &Question<'_>,
     unknown: Unknown<'_>,
     place: usize,
 ) -> Result<bool, AllocError>
-    requires unknown { AreUnknown search.now.net search.now.care unknown }
-    requires place { place < length search.now.blocks.list }
-    ensures { IfOk result (λ known. known ≡ true → AreFedKnown search.now.net search.now.care (block_at search.now.blocks place).gates) }
+    requires unknown { AreUnknown question.now.net question.now.care unknown }
+    requires place { place < length question.now.blocks.list }
+    ensures { IfOk result (λ known. known ≡ true → AreFedKnown question.now.net question.now.care (block_at question.now.blocks place).gates) }
 {
-    let gates = gates_at(search.looped(), place);
+    let gates = gates_at(question.looped(), place);
     match unknown {
         Unknown::Nowhere => Ok(true),
         Unknown::Marked(marks) => {
             let others = without(alloc, marks, gates)?;
-            Ok(!are_reached(search.net(), gates, &others))
+            Ok(!are_reached(question.net(), gates, &others))
         }
     }
 }
 
 /// Whether no gate is unknown that feeds the block at this place or is one of its own.
-pub(crate) fn is_known_around(search: &Search<'_>, unknown: Unknown<'_>, place: usize) -> bool
-    requires unknown { AreUnknown search.now.net search.now.care unknown }
-    requires place { place < length search.now.blocks.list }
-    ensures { result ≡ true → AreKnownAround search.now.net search.now.care (block_at search.now.blocks place).gates }
+pub(crate) fn is_known_around(question: &Question<'_>, unknown: Unknown<'_>, place: usize) -> bool
+    requires unknown { AreUnknown question.now.net question.now.care unknown }
+    requires place { place < length question.now.blocks.list }
+    ensures { result ≡ true → AreKnownAround question.now.net question.now.care (block_at question.now.blocks place).gates }
 {
-    let gates = gates_at(search.looped(), place);
+    let gates = gates_at(question.looped(), place);
     match unknown {
         Unknown::Nowhere => true,
-        Unknown::Marked(marks) => !are_reached(search.net(), gates, marks),
+        Unknown::Marked(marks) => !are_reached(question.net(), gates, marks),
     }
 }

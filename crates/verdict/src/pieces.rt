@@ -4,7 +4,7 @@
 ghost use Rattle.std.specs.Prelude.{◌≡◌, ◌<◌, ◌≤◌, ◌+◌, length, All};
 ghost use Rattle.verdict.specs.Pieces.{IsPieceAt};
 
-use crate::search::Search;
+use crate::question::Question;
 use loops::upstream_of;
 use std::alloc::{AllocError, Global};
 
@@ -38,28 +38,28 @@ fn count_marks(marks: &[bool]) -> usize {
 }
 
 /// How many gates are upstream of these, with themselves.
-fn cone_size(alloc: Global, search: &Search<'_>, gates: &[u32]) -> Result<usize, AllocError>
-    requires { All (λ n. n < length search.now.net.gates) gates.now }
+fn cone_size(alloc: Global, question: &Question<'_>, gates: &[u32]) -> Result<usize, AllocError>
+    requires { All (λ n. n < length question.now.net.gates) gates.now }
 {
-    let marks = upstream_of(alloc, search.looped(), gates)?;
+    let marks = upstream_of(alloc, question.looped(), gates)?;
     Ok(count_marks(&marks))
 }
 
 /// Whether the cones of all pieces of this size have together at most so many gates.
 fn are_small(
     alloc: Global,
-    search: &Search<'_>,
+    question: &Question<'_>,
     gates: &[u32],
     size: usize,
     most: usize,
 ) -> Result<bool, AllocError>
-    requires { All (λ n. n < length search.now.net.gates) gates.now }
+    requires { All (λ n. n < length question.now.net.gates) gates.now }
 {
     let mut left = most;
     let mut start = 0;
     while start < gates.len() {
         let piece = piece_at(gates, start, size);
-        let cone = cone_size(alloc, search, piece)?;
+        let cone = cone_size(alloc, question, piece)?;
         if cone > left {
             return Ok(false);
         }
@@ -73,19 +73,19 @@ fn are_small(
 /// more gates than the cone of all, so that little is asked for twice.
 pub(crate) fn piece_size(
     alloc: Global,
-    search: &Search<'_>,
+    question: &Question<'_>,
     gates: &[u32],
 ) -> Result<usize, AllocError>
-    requires { All (λ n. n < length search.now.net.gates) gates.now }
+    requires { All (λ n. n < length question.now.net.gates) gates.now }
 {
-    let whole = cone_size(alloc, search, gates)?;
+    let whole = cone_size(alloc, question, gates)?;
     let most = whole.saturating_add(whole / 4);
     let mut size = FEWEST.max(gates.len() / MOST_PIECES);
     for _ in 0..SIZES {
         if size >= gates.len() {
             return Ok(size);
         }
-        if are_small(alloc, search, gates, size, most)? {
+        if are_small(alloc, question, gates, size, most)? {
             return Ok(size);
         }
         size = size.saturating_mul(4);

@@ -1,15 +1,22 @@
 //! What is decided.
 
-ghost use Rattle.std.specs.Prelude.{◌≡◌};
+ghost use Rattle.std.specs.Prelude.{◌≡◌, length};
 ghost use Rattle.care_sets.specs.Binding.{IsCareOf};
+ghost use Rattle.clause_decision.specs.Scopes.{AreNeverUnknown};
 ghost use Rattle.fixpoint.specs.Orders.{order as order_of};
-ghost use Rattle.verdict.specs.Questions.{IsAsked};
+ghost use Rattle.verdict.specs.Questions.{IsAsked, IsGround};
 
+use crate::ground::Ground;
 use care_sets::Care;
 use loops::{Blocks, LoopedNetlist};
 use netlist::Netlist;
 use refusals::Observe;
 use std::marker::Model;
+
+/// How many conflicts a search may meet in the first try by clauses, and in the second.
+const FEW_CONFLICTS: u64 = 20_000;
+
+const MANY_CONFLICTS: u64 = 2_000_000;
 
 /// Whether a netlist is accepted on a care set, where all of its gates are observed or what is seen from outside.
 #[derive(Drop)]
@@ -17,48 +24,62 @@ pub(crate) struct Question<'a> {
     looped: &'a LoopedNetlist<'a>,
     care: &'a Care,
     observe: Observe,
-    /// The column of each variable of diagrams, in the order in which gates first read them.
-    order: &'a [u32],
+    ground: &'a Ground,
+    conflicts: u64,
 }
 
 impl<'a> Model for Question<'a> {
-    ghost use Rattle.verdict.specs.Questions.{Asked, IsLaidOut, asked};
+    ghost use Rattle.verdict.specs.Questions.{Asked, IsGrounded, asked};
 
     ghost Value = { Asked };
 
-    ghost view = { λ q. asked q.looped.now q.care.now q.observe };
+    ghost view = { λ q. asked q.looped.now q.care.now q.observe q.ground.now.settled.items };
 
-    ghost invariant = { λ q. IsLaidOut (asked q.looped.now q.care.now q.observe) q.order.now };
+    ghost invariant = { λ q. IsGrounded (asked q.looped.now q.care.now q.observe q.ground.now.settled.items) q.ground.now };
 }
 
 impl<'a> Question<'a> {
     ghost use Rattle.verdict.specs.Questions.{asked, looped_in};
 
-    /// The question of this netlist.
+    /// The question of this netlist, for searches that give up soon.
     ///
-    /// The condition is that the care set and the order are the netlist's.
+    /// The condition is that the care set is the netlist's, and that the rest was found of it.
     pub(crate) fn new(
         looped: &'a LoopedNetlist<'a>,
         care: &'a Care,
         observe: Observe,
-        order: &'a [u32],
+        ground: &'a Ground,
     ) -> Question<'a>
         requires care { IsCareOf looped.now.net care.now }
-        requires order { order.now ≡ order_of looped.now.net }
-        ensures { result ≡ asked looped.now care.now observe }
+        requires ground { IsGround looped.now ground.now }
+        ensures { result ≡ asked looped.now care.now observe ground.now.settled.items }
     {
         looped.net().laws();
         Question {
             looped,
             care,
             observe,
-            order,
+            ground,
+            conflicts: FEW_CONFLICTS,
+        }
+    }
+
+    /// The same, for searches that give up late.
+    pub(crate) fn for_long(&self) -> Question<'a>
+        ensures { result ≡ self.now }
+    {
+        Question {
+            looped: self.looped,
+            care: self.care,
+            observe: self.observe,
+            ground: self.ground,
+            conflicts: MANY_CONFLICTS,
         }
     }
 
     /// What holds of each question.
     pub(crate) fn laws(&self)
-        ensures { IsAsked self.now }
+        ensures is { IsAsked self.now }
     {
         let _ = &self.looped;
     }
@@ -106,6 +127,27 @@ impl<'a> Question<'a> {
     pub(crate) fn order(&self) -> &'a [u32]
         ensures { result.now ≡ order_of self.now.net }
     {
-        self.order
+        &self.ground.order
+    }
+
+    /// Marks of the blocks that are settled by themselves, or are no loops.
+    pub(crate) fn settled(&self) -> &'a [bool]
+        ensures settled { result.now ≡ self.now.settled }
+        ensures is { IsAsked self.now }
+    {
+        &self.ground.settled
+    }
+
+    /// Marks of gates that no Boolean vector leaves unknown.
+    pub(crate) fn known(&self) -> &'a [bool]
+        ensures width { length result.now ≡ length self.now.net.gates }
+        ensures known { AreNeverUnknown self.now.net result.now }
+    {
+        &self.ground.known
+    }
+
+    /// After how many conflicts a search by clauses gives up.
+    pub(crate) fn conflicts(&self) -> u64 {
+        self.conflicts
     }
 }

@@ -8,7 +8,7 @@ ghost use Rattle.verdict.specs.Determination.{SettleInOneSweep};
 ghost use Rattle.verdict.specs.Scopes.{AreDrivers};
 
 use crate::fanout::candidate_gates;
-use crate::search::Search;
+use crate::question::Question;
 use care_sets::Care;
 use clause_decision::Scope;
 use cyc_base::Items;
@@ -57,16 +57,16 @@ pub(crate) fn known_gates(
 #[tactic(auto, using(crate::proofs::ScopeLemmas::cone_within))]
 pub(crate) fn scope_of(
     alloc: Global,
-    search: &Search<'_>,
+    question: &Question<'_>,
     gates: &[u32],
 ) -> Result<Scope, AllocError>
-    requires { All (λ n. n < length search.now.net.gates) gates.now }
-    ensures scope { IfOk result (IsScopeOf search.now.net) }
-    ensures within { IfOk result (λ scope. AreInScope search.now.net scope gates.now) }
+    requires { All (λ n. n < length question.now.net.gates) gates.now }
+    ensures scope { IfOk result (IsScopeOf question.now.net) }
+    ensures within { IfOk result (λ scope. AreInScope question.now.net scope gates.now) }
 {
-    let looped = search.looped();
+    let looped = question.looped();
     let upstream = Items::of(upstream_of(alloc, looped, gates)?);
-    let known = Items::of(known_gates(alloc, looped, search.settled())?);
+    let known = Items::of(question.known().to_vec(alloc)?);
     Ok(Scope {
         gates: upstream,
         known,

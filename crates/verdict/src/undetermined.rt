@@ -12,11 +12,11 @@ ghost use Rattle.verdict.specs.Unknown.{AreAskedCandidates, IsAskedFor, IsFirstT
 use crate::fanout::candidate_gates;
 use crate::observing::observed_gates;
 use crate::pieces::{piece_at, piece_size};
+use crate::question::Question;
 use crate::scopes::{marked_places, scope_of};
-use crate::search::Search;
 use clause_decision::{First, Found, Witness, first_unknown, least_unknown, some_unknown};
 use cyc_base::Bits;
-use refusals::{Observe, Refusal};
+use refusals::Refusal;
 use std::alloc::{AllocError, Global};
 
 /// Clears the marks of gates that aren't asked for: those that aren't observed, and those after the last.
@@ -36,39 +36,39 @@ fn keep_asked(observed: &[bool], last: u32, marks: &mut [bool])
 /// Marks of the gates asked for that may be unknown: those in loops at places that aren't settled, and in their fanout.
 pub(crate) fn asked_candidates(
     alloc: Global,
-    search: &Search<'_>,
+    question: &Question<'_>,
     observed: &[bool],
     last: u32,
 ) -> Result<Vec<bool>, AllocError>
-    requires { length observed.now ≡ length search.now.net.gates }
-    ensures { IfOk result (λ marks. AreAskedCandidates search.now.net search.now.blocks search.now.settled observed.now last marks.items) }
+    requires { length observed.now ≡ length question.now.net.gates }
+    ensures { IfOk result (λ marks. AreAskedCandidates question.now.net question.now.blocks question.now.settled observed.now last marks.items) }
 {
-    let mut marks = candidate_gates(alloc, search.looped(), search.settled())?;
+    let mut marks = candidate_gates(alloc, question.looped(), question.settled())?;
     keep_asked(observed, last, &mut marks);
     Ok(marks)
 }
 
 /// The place of the first of these gates that is unknown at some care vector, asked of the clauses of their cone.
-fn first_in_cone(alloc: Global, search: &Search<'_>, gates: &[u32]) -> Result<First, AllocError>
-    requires { All (λ n. n < length search.now.net.gates) gates.now }
-    ensures { IfOk result (TellsFirstUnknown search.now.net search.now.care gates.now) }
+fn first_in_cone(alloc: Global, question: &Question<'_>, gates: &[u32]) -> Result<First, AllocError>
+    requires { All (λ n. n < length question.now.net.gates) gates.now }
+    ensures { IfOk result (TellsFirstUnknown question.now.net question.now.care gates.now) }
 {
-    let net = search.net();
-    let care = search.care();
-    let scope = scope_of(alloc, search, gates)?;
-    first_unknown(alloc, net, care, &scope, gates, search.conflicts())
+    let net = question.net();
+    let care = question.care();
+    let scope = scope_of(alloc, question, gates)?;
+    first_unknown(alloc, net, care, &scope, gates, question.conflicts())
 }
 
 /// The place of the first of these gates that is unknown at some care vector.
-fn first_of(alloc: Global, search: &Search<'_>, gates: &[u32]) -> Result<First, AllocError>
-    requires { All (λ n. n < length search.now.net.gates) gates.now }
-    ensures { IfOk result (TellsFirstUnknown search.now.net search.now.care gates.now) }
+fn first_of(alloc: Global, question: &Question<'_>, gates: &[u32]) -> Result<First, AllocError>
+    requires { All (λ n. n < length question.now.net.gates) gates.now }
+    ensures { IfOk result (TellsFirstUnknown question.now.net question.now.care gates.now) }
 {
-    let size = piece_size(alloc, search, gates)?;
+    let size = piece_size(alloc, question, gates)?;
     let mut start = 0;
     while start < gates.len() {
         let piece = piece_at(gates, start, size);
-        match first_in_cone(alloc, search, piece)? {
+        match first_in_cone(alloc, question, piece)? {
             First::Nowhere => start += piece.len(),
             First::At(place) => return Ok(First::At(start + place)),
             First::Unknown => return Ok(First::Unknown),
@@ -78,30 +78,34 @@ fn first_of(alloc: Global, search: &Search<'_>, gates: &[u32]) -> Result<First, 
 }
 
 /// A care vector at which one of these gates is unknown, asked of the clauses of their cone.
-fn some_in_cone(alloc: Global, search: &Search<'_>, gates: &[u32]) -> Result<Witness, AllocError>
-    requires { All (λ n. n < length search.now.net.gates) gates.now }
-    ensures { IfOk result (TellsWitness search.now.net search.now.care gates.now) }
+fn some_in_cone(
+    alloc: Global,
+    question: &Question<'_>,
+    gates: &[u32],
+) -> Result<Witness, AllocError>
+    requires { All (λ n. n < length question.now.net.gates) gates.now }
+    ensures { IfOk result (TellsWitness question.now.net question.now.care gates.now) }
 {
-    let net = search.net();
-    let care = search.care();
-    let scope = scope_of(alloc, search, gates)?;
-    some_unknown(alloc, net, care, &scope, gates, search.conflicts())
+    let net = question.net();
+    let care = question.care();
+    let scope = scope_of(alloc, question, gates)?;
+    some_unknown(alloc, net, care, &scope, gates, question.conflicts())
 }
 
 /// A care vector at which one of these gates is unknown, with one that is. Any does.
 pub(crate) fn some_of(
     alloc: Global,
-    search: &Search<'_>,
+    question: &Question<'_>,
     gates: &[u32],
 ) -> Result<Witness, AllocError>
-    requires { All (λ n. n < length search.now.net.gates) gates.now }
-    ensures { IfOk result (TellsWitness search.now.net search.now.care gates.now) }
+    requires { All (λ n. n < length question.now.net.gates) gates.now }
+    ensures { IfOk result (TellsWitness question.now.net question.now.care gates.now) }
 {
-    let size = piece_size(alloc, search, gates)?;
+    let size = piece_size(alloc, question, gates)?;
     let mut start = 0;
     while start < gates.len() {
         let piece = piece_at(gates, start, size);
-        match some_in_cone(alloc, search, piece)? {
+        match some_in_cone(alloc, question, piece)? {
             Witness::Nowhere => start += piece.len(),
             Witness::Found { vector, place } => {
                 return Ok(Witness::Found {
@@ -116,14 +120,19 @@ pub(crate) fn some_of(
 }
 
 /// The refusal of a gate, where it is the first that refuses the netlist.
-fn refusal_of(alloc: Global, search: &Search<'_>, gate: u32) -> Result<Option<Refusal>, AllocError>
-    requires { gate < length search.now.net.gates }
-    ensures { (what : Observe) → IsFirstToRefuse search.now.net search.now.care what gate → IfOk result (λ found. IfSome found (λ refusal. undetermined_refusal search.now.net search.now.care what ≡ Some refusal)) }
+fn refusal_of(
+    alloc: Global,
+    question: &Question<'_>,
+    gate: u32,
+) -> Result<Option<Refusal>, AllocError>
+    requires within { gate < length question.now.net.gates }
+    requires first { IsFirstToRefuse question.now.net question.now.care question.now.what gate }
+    ensures { IfOk result (λ found. IfSome found (λ refusal. undetermined_refusal question.now.net question.now.care question.now.what ≡ Some refusal)) }
 {
-    let net = search.net();
-    let care = search.care();
-    let scope = scope_of(alloc, search, &[gate])?;
-    match least_unknown(alloc, net, care, &scope, gate, search.conflicts())? {
+    let net = question.net();
+    let care = question.care();
+    let scope = scope_of(alloc, question, &[gate])?;
+    match least_unknown(alloc, net, care, &scope, gate, question.conflicts())? {
         Found::Least(vector) => Ok(Some(Refusal::Undetermined {
             vector: Bits::of(vector),
             wire: net.gate_sig(gate),
@@ -136,40 +145,33 @@ fn refusal_of(alloc: Global, search: &Search<'_>, gate: u32) -> Result<Option<Re
 /// The refusal of the first observed gate up to the last that is asked for, where it is unknown.
 fn first_refusal(
     alloc: Global,
-    search: &Search<'_>,
+    question: &Question<'_>,
     observed: &[bool],
     last: u32,
 ) -> Result<Option<Refusal>, AllocError>
-    requires { length observed.now ≡ length search.now.net.gates }
-    ensures { (what : Observe) → AreMarksOf search.now.net (observed_signals search.now.net what) observed.now → IfOk result (λ found. IfSome found (λ refusal. undetermined_refusal search.now.net search.now.care what ≡ Some refusal)) }
+    requires { AreMarksOf question.now.net (observed_signals question.now.net question.now.what) observed.now }
+    ensures { IfOk result (λ found. IfSome found (λ refusal. undetermined_refusal question.now.net question.now.care question.now.what ≡ Some refusal)) }
 {
-    search.laws();
-    let marks = asked_candidates(alloc, search, observed, last)?;
+    question.laws();
+    let marks = asked_candidates(alloc, question, observed, last)?;
     let gates = marked_places(alloc, &marks)?;
-    match first_of(alloc, search, &gates)? {
-        First::At(place) => refusal_of(alloc, search, gates[place]),
+    match first_of(alloc, question, &gates)? {
+        First::At(place) => refusal_of(alloc, question, gates[place]),
         First::Nowhere => Ok(None),
         First::Unknown => Ok(None),
     }
 }
 
 /// The refusal of the first observed gate that is unknown at a vector of care, with the least such vector, if it is
-/// found. Where the gate `unknown` is observed, none after it is asked for, so the clauses are few; the search finds
-/// what it should if that gate is unknown on care.
+/// found. No gate after `last` is asked for, so the clauses are few; the search finds what it should if that gate is observed and
+/// unknown on care.
 pub(crate) fn unknown_refusal(
     alloc: Global,
-    search: &Search<'_>,
-    observe: Observe,
-    unknown: u32,
+    question: &Question<'_>,
+    last: u32,
 ) -> Result<Option<Refusal>, AllocError>
-    requires { unknown < length search.now.net.gates }
-    ensures { IfOk result (λ found. IfSome found (λ refusal. undetermined_refusal search.now.net search.now.care observe ≡ Some refusal)) }
+    ensures { IfOk result (λ found. IfSome found (λ refusal. undetermined_refusal question.now.net question.now.care question.now.what ≡ Some refusal)) }
 {
-    let observed = observed_gates(alloc, search.net(), observe)?;
-    let last = if observed[unknown as usize] {
-        unknown
-    } else {
-        u32::MAX
-    };
-    first_refusal(alloc, search, &observed, last)
+    let observed = observed_gates(alloc, question.net(), question.observe())?;
+    first_refusal(alloc, question, &observed, last)
 }

@@ -12,8 +12,8 @@ ghost use Rattle.verdict.specs.Pieces.{AreToldBefore};
 use crate::fanout::candidate_gates;
 use crate::observing::observed_gates;
 use crate::pieces::{piece_at, piece_size};
+use crate::question::Question;
 use crate::scopes::{marked_places, scope_of};
-use crate::search::Search;
 use care_sets::Care;
 use clause_decision::each_unknown;
 use netlist::Netlist;
@@ -44,34 +44,34 @@ fn scatter(
 /// up.
 fn ask_cone(
     alloc: Global,
-    search: &Search<'_>,
+    question: &Question<'_>,
     gates: &[u32],
 ) -> Result<Option<Vec<bool>>, AllocError>
-    requires { All (λ n. n < length search.now.net.gates) gates.now }
-    ensures { IfOk result (λ told. IfSome told (λ found. TellEachUnknown search.now.net search.now.care gates.now found.items)) }
+    requires { All (λ n. n < length question.now.net.gates) gates.now }
+    ensures { IfOk result (λ told. IfSome told (λ found. TellEachUnknown question.now.net question.now.care gates.now found.items)) }
 {
-    let net = search.net();
-    let care = search.care();
-    let scope = scope_of(alloc, search, gates)?;
-    each_unknown(alloc, net, care, &scope, gates, search.conflicts())
+    let net = question.net();
+    let care = question.care();
+    let scope = scope_of(alloc, question, gates)?;
+    each_unknown(alloc, net, care, &scope, gates, question.conflicts())
 }
 
 /// Adds for the gates of one piece more whether each is unknown on care. False where the solver gave up.
 fn ask_piece(
     alloc: Global,
-    search: &Search<'_>,
+    question: &Question<'_>,
     gates: &[u32],
     size: usize,
     found: &mut Vec<bool>,
 ) -> Result<bool, AllocError>
-    requires gates { All (λ n. n < length search.now.net.gates) gates.now }
-    requires told { AreToldBefore search.now.net search.now.care gates.now found.old.items }
+    requires gates { All (λ n. n < length question.now.net.gates) gates.now }
+    requires told { AreToldBefore question.now.net question.now.care gates.now found.old.items }
     requires left { length found.old.items < length gates.now }
-    ensures told { IfOk result (λ told. told ≡ true → AreToldBefore search.now.net search.now.care gates.now found.new.items) }
+    ensures told { IfOk result (λ told. told ≡ true → AreToldBefore question.now.net question.now.care gates.now found.new.items) }
     ensures more { IfOk result (λ told. told ≡ true → length found.old.items < length found.new.items) }
 {
     let piece = piece_at(gates, found.len(), size);
-    match ask_cone(alloc, search, piece)? {
+    match ask_cone(alloc, question, piece)? {
         Some(told) => {
             found.extend_from_slice(&told)?;
             Ok(true)
@@ -83,16 +83,16 @@ fn ask_piece(
 /// For each of these gates whether it is unknown on care, or none where the solver gave up.
 fn ask_gates(
     alloc: Global,
-    search: &Search<'_>,
+    question: &Question<'_>,
     gates: &[u32],
 ) -> Result<Option<Vec<bool>>, AllocError>
-    requires { All (λ n. n < length search.now.net.gates) gates.now }
-    ensures { IfOk result (λ told. IfSome told (λ found. TellEachUnknown search.now.net search.now.care gates.now found.items)) }
+    requires { All (λ n. n < length question.now.net.gates) gates.now }
+    ensures { IfOk result (λ told. IfSome told (λ found. TellEachUnknown question.now.net question.now.care gates.now found.items)) }
 {
-    let size = piece_size(alloc, search, gates)?;
+    let size = piece_size(alloc, question, gates)?;
     let mut found = Vec::new(alloc);
     while found.len() < gates.len() {
-        if !ask_piece(alloc, search, gates, size, &mut found)? {
+        if !ask_piece(alloc, question, gates, size, &mut found)? {
             return Ok(None);
         }
     }
@@ -102,13 +102,13 @@ fn ask_gates(
 /// Marks of the gates that are unknown at some care vector, or none where the solver gave up.
 pub(crate) fn unknown_gates(
     alloc: Global,
-    search: &Search<'_>,
+    question: &Question<'_>,
 ) -> Result<Option<Vec<bool>>, AllocError>
-    ensures { IfOk result (λ found. IfSome found (λ marks. AreUnknownMarks search.now.net search.now.care marks.items)) }
+    ensures { IfOk result (λ found. IfSome found (λ marks. AreUnknownMarks question.now.net question.now.care marks.items)) }
 {
-    let marks = candidate_gates(alloc, search.looped(), search.settled())?;
+    let marks = candidate_gates(alloc, question.looped(), question.settled())?;
     let gates = marked_places(alloc, &marks)?;
-    let Some(found) = ask_gates(alloc, search, &gates)? else {
+    let Some(found) = ask_gates(alloc, question, &gates)? else {
         return Ok(None);
     };
     Ok(Some(scatter(alloc, marks.len(), &gates, &found)?))

@@ -4,11 +4,11 @@ use Rattle.std.specs.Vec.{vec_items}
 use Rattle.case_split.proofs.CaseLemmas.{tables_next}
 use Rattle.case_split.proofs.case_tables.tables_of.Goals as goal
 
-pub loop-number-preserved : goal.loop-number-preserved
-loop-number-preserved c =
+pub loop-case-preserved : goal.loop-case-preserved
+loop-case-preserved c =
     grind (
       arith,
       c.in_ok-push.ensures.items,
       map-append,
-      tables_next c.args.base.now.net.now c.args.base.now.copied.now c.args.picked.now c.args.allowed.now c.loop-number.number c.args.added.now.gates.items c.loop-number.added.gates.items c.table_of.new.added.gates.items (map vec_items c.loop-number.tables.items) c.in_ok-table.table.items c.loop-number.invariant c.in_ok-table.ensures,
+      tables_next c.args.base.now.net.now c.args.base.now.copied.now c.args.cases.now c.loop-case.case-index c.case-item.result c.args.added.now.gates.items c.loop-case.added.gates.items c.table_of.new.added.gates.items (map vec_items c.loop-case.tables.items) c.in_ok-table.table.items c.loop-case.invariant c.loop-case-test.true c.case-item.is c.in_ok-table.ensures,
     )

@@ -1,5 +1,5 @@
 use Rattle.std.proofs.Common.{arith}
-use Rattle.unroll.proofs.Kept.{taken}
+use Rattle.netlist.proofs.CopyLemmas.{taken}
 use Rattle.case_split.proofs.splitting.copy_latches.Goals as goal
 
 pub loop-number-preserved : goal.loop-number-preserved

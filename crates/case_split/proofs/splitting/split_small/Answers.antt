@@ -5,9 +5,9 @@ use Rattle.case_split.proofs.splitting.split_small.Goals as goal
 
 pub netlist_by-requires : goal.netlist_by-requires
 netlist_by-requires c =
-    (split_is c.args.net.now c.laws.ensures.valid c.args.copied.now c.args.picked.now c.args.allowed.now c.in_ok-all.all.items c.in_ok-all.ensures c.requires.picked c.requires.inputs c.requires.small).valid
+    (split_is c.args.net.now c.laws.ensures.valid c.args.copied.now c.args.cases.now c.in_ok-all.all.items c.in_ok-all.ensures c.requires.cases c.requires.inputs c.requires.small).valid
 
 pub returns : goal.returns
 returns c =
-    subst (IsSplitNetlist c.args.net.now c.args.copied.now c.args.picked.now c.args.allowed.now) (sym c.in_ok-other.ensures)
-    (split_is c.args.net.now c.laws.ensures.valid c.args.copied.now c.args.picked.now c.args.allowed.now c.in_ok-all.all.items c.in_ok-all.ensures c.requires.picked c.requires.inputs c.requires.small)
+    subst (IsSplitNetlist c.args.net.now c.args.copied.now c.args.cases.now) (sym c.in_ok-other.ensures)
+    (split_is c.args.net.now c.laws.ensures.valid c.args.copied.now c.args.cases.now c.in_ok-all.all.items c.in_ok-all.ensures c.requires.cases c.requires.inputs c.requires.small)

@@ -1,5 +1,5 @@
 use Rattle.std.proofs.Common.{sym, ◌∙◌}
-use Rattle.equal.proofs.CompareLemmas.{told_unmatched}
+use Rattle.miters.proofs.ComparisonLemmas.{told_unmatched}
 use Rattle.equal.proofs.comparing.compare.Goals as goal
 
 pub returns-in-Some-clause-answer : goal.returns-in-Some-clause-answer

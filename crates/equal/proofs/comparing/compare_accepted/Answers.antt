@@ -1,5 +1,5 @@
 use Rattle.std.proofs.Common.{None, sym, ◌∙◌, arith}
-use Rattle.equal.proofs.CompareLemmas.{difference_wide, told_of}
+use Rattle.miters.proofs.ComparisonLemmas.{difference_wide, told_of}
 use Rattle.equal.proofs.comparing.compare_accepted.Goals as goal
 
 pub at_difference-requires : goal.at_difference-requires

@@ -1,7 +1,7 @@
 use Rattle.std.proofs.Common.{rules, subst, arith}
 use Rattle.equal.proofs.Common.{CareSet, Matched, Compares}
 use Rattle.equal.specs.Compared.{matched_netlists}
-use Rattle.equal.proofs.ReboundLemmas.{rebound_source}
+use Rattle.miters.proofs.ReboundLemmas.{rebound_source}
 use Rattle.equal.proofs.comparing.compare_by_name.Goals as goal
 
 pub returns-in-Some-clause-answer : goal.returns-in-Some-clause-answer

@@ -1,6 +1,6 @@
 use Rattle.std.proofs.Common.{arith}
 use Rattle.unroll.proofs.Common.{kept_latch}
-use Rattle.unroll.proofs.Kept.{taken_mapped}
+use Rattle.netlist.proofs.CopyLemmas.{taken_mapped}
 use Rattle.unroll.proofs.assembly.kept_latches.Goals as goal
 
 pub loop-number-preserved : goal.loop-number-preserved

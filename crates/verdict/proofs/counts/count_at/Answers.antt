@@ -7,7 +7,7 @@ use Rattle.verdict.proofs.counts.count_at.Goals as goal
 
 pub returns-then-is_known_around : goal.returns-then-is_known_around
 returns-then-is_known_around c =
-    let s = c.args.search.now in
+    let s = c.args.question.now in
     let is = c.settled.ensures.is in
     let looped : (block_at s.blocks c.args.place).looped ≡ true = grind (arith, common_steps, get_or_default) in
     let marked : is_marked s.settled c.args.place ≡ true = rw c.settled.ensures.settled at c.if-settled-place.true in
@@ -15,7 +15,7 @@ returns-then-is_known_around c =
 
 pub returns : goal.returns
 returns c =
-    let s = c.args.search.now in
+    let s = c.args.question.now in
     let is = c.settled.ensures.is in
     let looped : (block_at s.blocks c.args.place).looped ≡ true = grind (arith, common_steps, get_or_default) in
     IfOk-weaker c.ask_sweeps.result _ _ (λ found is_least. IfSome_then found is_least (λ sweeps least. least-loop s.net is.net s.blocks is.blocks s.cut is.cut s.care c.args.place sweeps looped least))

@@ -7,7 +7,7 @@ use Rattle.verdict.proofs.counts.sweeps_on_care.Goals as goal
 
 pub loop-place-preserved : goal.loop-place-preserved
 loop-place-preserved c =
-    let s = c.args.search.now in
+    let s = c.args.question.now in
     let before = c.loop-place.invariant in
     rw c.in_ok-push.ensures.items (record {
       width = length_push c.loop-place.counts.items c.in-Some.count ∙ ap (λ n. n + 1) before.width;
@@ -16,7 +16,7 @@ loop-place-preserved c =
 
 pub returns : goal.returns
 returns c =
-    let s = c.args.search.now in
+    let s = c.args.question.now in
     let all = ap (λ (marks : List Bool). length marks) c.settled-place-end.ensures.settled in
     loop-counts-all s.net s.blocks c.laws.ensures.is.blocks s.cut s.care c.loop-place.place (record { per_block = c.of.result })
     (omega (arith, c.loop-place-test.false, c.loop-place.auto.place-end, all, c.laws.ensures.is.width)) (rw c.of.ensures c.loop-place.invariant)

@@ -7,7 +7,7 @@ pub returns-in-Determined-clause-judgement : goal.returns-in-Determined-clause-j
 returns-in-Determined-clause-judgement c =
     let q = c.args.question.now in
     let gates = rw c.in-Determined.is at c.in_ok-loose.ensures.gates in
-    (accepts-is q.net q.care q.what c.laws.ensures.net (refused-on-care q.net q.care q.what None c.requires.start.initial c.requires.start.some gates.0), gates.1)
+    (accepts-is q.net q.care q.what c.laws.ensures.is.net (refused-on-care q.net q.care q.what None c.requires.start.initial c.requires.start.some gates.0), gates.1)
 
 pub returns-in-Refused-clause-judgement : goal.returns-in-Refused-clause-judgement
 returns-in-Refused-clause-judgement c = grind arith

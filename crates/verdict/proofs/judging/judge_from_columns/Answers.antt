@@ -1,5 +1,5 @@
 use Rattle.std.proofs.Common.{arith}
-use Rattle.verdict.proofs.Common.{adds_refused, adds_then, AddsInDecision}
+use Rattle.verdict.proofs.Common.{adds_then, AddsInDecision}
 use Rattle.verdict.proofs.CauseLemmas.{full_for}
 use Rattle.verdict.proofs.PartLemmas.{order-layout}
 use Rattle.verdict.proofs.judging.judge_from_columns.Goals as goal
@@ -23,9 +23,8 @@ pub returns-in_err-fit_all-clause-full : goal.returns-in_err-fit_all-clause-full
 returns-in_err-fit_all-clause-full g is_full = grind arith
 
 -- the diagrams are filled
-pub returns-in_err-judge_on-in-None-clause-full : goal.returns-in_err-judge_on-in-None-clause-full
-returns-in_err-judge_on-in-None-clause-full g =
-    let c : After-column_rails = (goal.at.returns-in_err-judge_on-in-None-clause-full g).After-column_rails in
+pub returns-clause-full : goal.returns-clause-full
+returns-clause-full g =
+    let c : After-column_rails = (goal.at.returns-clause-full g).After-column_rails in
     let keeps = c.column_rails.ensures.grows.keeps in
-    let adds = adds_refused g.in_err-judge_on-in-None.was g.from_residual-in_err-judge_on-in-None.ensures.1 g.judge_on.ensures.adds in
-    grind (arith, After-column_rails, full_for, adds_then keeps.limit (after-columns c) adds, after-columns c, adds)
+    grind (arith, After-column_rails, full_for, adds_then keeps.limit (after-columns c) g.judge_on.ensures.adds, after-columns c)

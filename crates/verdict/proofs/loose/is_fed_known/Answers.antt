@@ -5,7 +5,7 @@ use Rattle.verdict.proofs.loose.is_fed_known.Goals as goal
 
 pub returns-in_ok-others-in-Marked : goal.returns-in_ok-others-in-Marked
 returns-in_ok-others-in-Marked c known =
-    let s = c.args.search.now in
+    let s = c.args.question.now in
     let gates_are : c.gates_at-gates.result.now ≡ (block_at s.blocks c.args.place).gates = rw c.looped.ensures.looped at c.gates_at-gates.ensures.is in
     rw (← gates_are)
     (fed-known s.net s.care c.in-Marked.marks.now (rw c.in-Marked.is at c.requires.unknown) c.gates_at-gates.result.now c.deref.result.now

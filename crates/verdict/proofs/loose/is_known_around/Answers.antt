@@ -8,7 +8,7 @@ returns-in-Nowhere c known = grind arith
 
 pub returns-in-Marked : goal.returns-in-Marked
 returns-in-Marked c known =
-    let s = c.args.search.now in
+    let s = c.args.question.now in
     let gates_are : c.gates_at-gates.result.now ≡ (block_at s.blocks c.args.place).gates = rw c.looped.ensures.looped at c.gates_at-gates.ensures.is in
     unreached-known s.net s.care c.in-Marked.marks.now (rw c.in-Marked.is at c.requires.unknown) (block_at s.blocks c.args.place).gates
     (λ n among. (gate_home s.net s.blocks c.looped.ensures.is.blocks c.args.place n c.requires.place among).0)

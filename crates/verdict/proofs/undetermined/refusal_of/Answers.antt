@@ -6,6 +6,6 @@ pub least_unknown-requires-clause-within : goal.least_unknown-requires-clause-wi
 least_unknown-requires-clause-within c = c.in_ok-scope.ensures.within 0 c.args.gate (omega arith)
 
 pub returns-in-Least : goal.returns-in-Least
-returns-in-Least c what first =
-    let s = c.args.search.now in
-    grind (arith, undetermined-found s.net s.care what c.args.gate c.in-Least.vector.items c.requires first)
+returns-in-Least c =
+    let s = c.args.question.now in
+    grind (arith, undetermined-found s.net s.care s.what c.args.gate c.in-Least.vector.items c.requires.within c.requires.first)

@@ -1,4 +1,4 @@
 use Rattle.verdict.proofs.undetermined.unknown_refusal.Goals as goal
 
-pub returns : goal.returns
-returns c = c.first_refusal.ensures c.args.observe (rw (c.deref.ensures.value, ← c.net.ensures.net) c.in_ok-observed.ensures.marks)
+pub first_refusal-requires : goal.first_refusal-requires
+first_refusal-requires c = rw (c.deref.ensures.value, ← c.net.ensures.net, ← c.observe.ensures) c.in_ok-observed.ensures.marks

@@ -1,8 +1,8 @@
-use Rattle.std.proofs.Common.{◌≡◌, ◌-◌, length, ap, subst, sym, ◌∙◌, arith}
-use Rattle.equal.proofs.Common.{Parts, IsCareOf, joined_pairs, miter_gates, miter, Accepted}
-use Rattle.equal.proofs.CompareLemmas.{care_joined}
-use Rattle.equal.proofs.DifferenceLemmas.{early_found, unknown_last}
-use Rattle.equal.proofs.MatchLemmas.{matched}
+use Rattle.std.proofs.Common.{◌≡◌, ◌-◌, length, subst, sym, arith}
+use Rattle.equal.proofs.Common.{Parts, IsCareOf, joined_pairs, miter_gates, miter}
+use Rattle.miters.proofs.ComparisonLemmas.{care_joined}
+use Rattle.equal.proofs.CompareLemmas.{early_found, unknown_last}
+use Rattle.miters.proofs.MatchLemmas.{matched}
 use Rattle.equal.proofs.accepted.AcceptedNetlists.difference_by_miter.Goals as goal
 
 pub unknown_within-requires-clause-care : goal.unknown_within-requires-clause-care
@@ -10,7 +10,7 @@ unknown_within-requires-clause-care c =
     let m = c.self.inside in
     let a = m.a.now in
     let b = m.b.now in
-    let same : c.in_ok-net.net ≡ miter a b = c.in_ok-net.ensures ∙ ap (λ (x : Accepted). miter x.a x.b) (sym c.self.view_is) in
+    let same : c.in_ok-net.net ≡ miter a b = c.in_ok-net.ensures in
     subst (λ (net : Parts). IsCareOf net c.self.inside.care.now) (sym same) (care_joined a b (miter_gates a (length b.gates) (joined_pairs a b)) m.care.now c.self.invariant.care_is)
 
 pub returns-in-Found : goal.returns-in-Found
@@ -19,7 +19,7 @@ returns-in-Found c =
     let is = c.self.invariant in
     let a = m.a.now in
     let b = m.b.now in
-    let same : c.in_ok-net.net ≡ miter a b = c.in_ok-net.ensures ∙ ap (λ (x : Accepted). miter x.a x.b) (sym c.self.view_is) in
+    let same : c.in_ok-net.net ≡ miter a b = c.in_ok-net.ensures in
     grind (arith, unknown_last a b m.care.now is.valid_a is.valid_b (matched a b is.names) is.are_accepted c.unknown_within.result (c.gates-last.result - 1), matched a b is.names)
 
 pub refusal_within-requires-clause-care : goal.refusal_within-requires-clause-care
@@ -27,7 +27,7 @@ refusal_within-requires-clause-care c =
     let m = c.self.inside in
     let a = m.a.now in
     let b = m.b.now in
-    let same : c.in_ok-net.net ≡ miter a b = c.in_ok-net.ensures ∙ ap (λ (x : Accepted). miter x.a x.b) (sym c.self.view_is) in
+    let same : c.in_ok-net.net ≡ miter a b = c.in_ok-net.ensures in
     subst (λ (net : Parts). IsCareOf net c.self.inside.care.now) (sym same) (care_joined a b (miter_gates a (length b.gates) (joined_pairs a b)) m.care.now c.self.invariant.care_is)
 
 pub returns : goal.returns
@@ -36,5 +36,5 @@ returns c =
     let is = c.self.invariant in
     let a = m.a.now in
     let b = m.b.now in
-    let same : c.in_ok-net.net ≡ miter a b = c.in_ok-net.ensures ∙ ap (λ (x : Accepted). miter x.a x.b) (sym c.self.view_is) in
+    let same : c.in_ok-net.net ≡ miter a b = c.in_ok-net.ensures in
     grind (arith, early_found a b m.care.now is.valid_a is.valid_b (matched a b is.names) is.are_accepted c.refusal_within.result, matched a b is.names)

@@ -2,14 +2,14 @@ use Rattle.std.proofs.Common.{◌≡◌, Bool, Option, List, ℕ, All, [], ap, a
 use Rattle.equal.proofs.Common.{IfOk, order, Parts, IsCareOf, columns, Pair, IsPairOf, difference, joined, joined_pairs, IsOutOfNodes, IsBelowEnoughFor, least_apart, Accepted}
 use Rattle.bdd_ops.specs.Least.{IsLayout}
 use Rattle.loops.specs.Looped.{Looped}
-use Rattle.equal.proofs.CompareLemmas.{care_joined, pairs_joined, least_joined}
+use Rattle.miters.proofs.ComparisonLemmas.{care_joined, pairs_joined, least_joined}
 use Rattle.equal.proofs.accepted.AcceptedNetlists.late_difference.Goals as goal
 
 pub invariant_of-comparison : goal.invariant_of-comparison
 invariant_of-comparison c =
     let m = c.self.inside in
     let is = c.self.invariant in
-    let same : c.new-looped.result.net ≡ joined m.a.now m.b.now [] = ap (λ (l : Looped). l.net) c.new-looped.ensures ∙ c.in_ok-net.ensures ∙ ap (λ (x : Accepted). joined x.a x.b []) (sym c.self.view_is) in
+    let same : c.new-looped.result.net ≡ joined m.a.now m.b.now [] = ap (λ (l : Looped). l.net) c.new-looped.ensures ∙ c.in_ok-net.ensures in
     record {
       laid = subst (λ (net : Parts). IsLayout (columns net) c.deref.result.now) (sym same)
           (subst (λ (order : List ℕ). IsLayout (columns c.self.inside.a.now) order) (sym c.deref.ensures.value) c.in_ok-order.ensures.layout);
@@ -20,14 +20,14 @@ invariant_of-comparison c =
 pub least_on-requires-clause-care : goal.least_on-requires-clause-care
 least_on-requires-clause-care c =
     let m = c.self.inside in
-    let same : c.new-looped.result.net ≡ joined m.a.now m.b.now [] = ap (λ (l : Looped). l.net) c.new-looped.ensures ∙ c.in_ok-net.ensures ∙ ap (λ (x : Accepted). joined x.a x.b []) (sym c.self.view_is) in
+    let same : c.new-looped.result.net ≡ joined m.a.now m.b.now [] = ap (λ (l : Looped). l.net) c.new-looped.ensures ∙ c.in_ok-net.ensures in
     subst (λ (net : Parts). IsCareOf net c.self.inside.care.now) (sym same) (care_joined m.a.now m.b.now [] m.care.now c.self.invariant.care_is)
 
 pub returns : goal.returns
 returns c =
     let m = c.self.inside in
     let is = c.self.invariant in
-    let same : c.new-looped.result.net ≡ joined m.a.now m.b.now [] = ap (λ (l : Looped). l.net) c.new-looped.ensures ∙ c.in_ok-net.ensures ∙ ap (λ (x : Accepted). joined x.a x.b []) (sym c.self.view_is) in
+    let same : c.new-looped.result.net ≡ joined m.a.now m.b.now [] = ap (λ (l : Looped). l.net) c.new-looped.ensures ∙ c.in_ok-net.ensures in
     record {
       found = subst (λ (o : Option (List Bool)). IfOk c.least_on.result (λ found. found ≡ o))
           (ap₂ (λ (net : Parts) (pairs : List Pair). least_apart net m.care.now pairs) same is.pairs_are

@@ -2,7 +2,8 @@ use Rattle.std.proofs.Common.{◌≡◌, None, sym, subst, ◌∙◌, arith}
 use Rattle.refusals.specs.declared.observe.Observe.TheVariants as observe
 use Rattle.equal.proofs.Common.{refusal, IfOk, Answer, Matched, Compares}
 use Rattle.equal.proofs.BoundLemmas.{below_second, below_both, out_second, out_both, same_fault}
-use Rattle.equal.proofs.CompareLemmas.{both_accepted, told_last, given_up}
+use Rattle.miters.proofs.ComparisonLemmas.{both_accepted, told_last}
+use Rattle.equal.proofs.CompareLemmas.{given_up}
 use Rattle.equal.proofs.comparing.MatchedNetlists.compare_second.Goals as goal
 
 pub compare_accepted-requires-clause-accepted : goal.compare_accepted-requires-clause-accepted

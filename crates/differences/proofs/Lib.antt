@@ -1,7 +1,0 @@
-pub mod Common
-mod CaringLemmas
-mod ComparingLemmas
-mod EnoughLemmas
-mod LaidLemmas
-mod LesserLemmas
-mod PartingLemmas

@@ -1,6 +1,0 @@
-use Rattle.std.proofs.Common.{arith}
-use Rattle.equal.proofs.Common.{taken}
-use Rattle.equal.proofs.joining.copy_latches.Goals as goal
-
-pub loop-number-preserved : goal.loop-number-preserved
-loop-number-preserved c = grind (arith, taken c.args.net.now.latches c.loop-number.number c.latch.result.now c.latch.ensures.latch)

@@ -1,6 +1,0 @@
-use Rattle.std.proofs.Common.{arith}
-use Rattle.netlist.proofs.Validity.{no_fault_of_netlist}
-use Rattle.equal.proofs.joining.netlist_by.Goals as goal
-
-pub want_of_memory-requires : goal.want_of_memory-requires
-want_of_memory-requires c = grind (arith, no_fault_of_netlist _ c.requires)

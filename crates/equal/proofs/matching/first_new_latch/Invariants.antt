@@ -1,6 +1,0 @@
-use Rattle.std.proofs.Common.{◌≡◌, not, take, None}
-use Rattle.equal.proofs.Common.{find, is_latch}
-use Rattle.equal.proofs.matching.first_new_latch.Given as goal
-
-abbrev pub invariant-loop-number : goal.invariant-loop-number
-invariant-loop-number l = find (λ item. not (is_latch l.other item.name)) (take l.number l.net.latches) ≡ None

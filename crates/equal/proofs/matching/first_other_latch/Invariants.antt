@@ -1,6 +1,0 @@
-use Rattle.std.proofs.Common.{◌≡◌, not, take, None}
-use Rattle.equal.proofs.Common.{find, has_latch}
-use Rattle.equal.proofs.matching.first_other_latch.Given as goal
-
-abbrev pub invariant-loop-number : goal.invariant-loop-number
-invariant-loop-number l = find (λ item. not (has_latch l.other item)) (take l.number l.net.latches) ≡ None

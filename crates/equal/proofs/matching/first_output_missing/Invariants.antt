@@ -1,6 +1,0 @@
-use Rattle.std.proofs.Common.{◌≡◌, not, take, None}
-use Rattle.equal.proofs.Common.{find, is_output, output_names}
-use Rattle.equal.proofs.matching.first_output_missing.Given as goal
-
-abbrev pub invariant-loop-output : goal.invariant-loop-output
-invariant-loop-output l = find (λ name. not (is_output l.other name)) (take l.output-index (output_names l.net)) ≡ None

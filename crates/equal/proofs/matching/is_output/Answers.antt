@@ -1,6 +1,0 @@
-use Rattle.std.proofs.Common.{arith}
-use Rattle.equal.proofs.NameLemmas.{output_found}
-use Rattle.equal.proofs.matching.is_output.Goals as goal
-
-pub returns-in-Some : goal.returns-in-Some
-returns-in-Some c = grind (arith, output_found c.args.net.now c.args.name.now c.in-Some.signal.0 c.find.ensures.valid c.in-Some.ensures.found)

@@ -1,6 +1,0 @@
-use Rattle.std.proofs.Common.{◌≡◌, ◌++◌, map}
-use Rattle.equal.proofs.Common.{range_with_len, link_gate}
-use Rattle.equal.proofs.miter.add_links.Given as goal
-
-abbrev pub invariant-loop-place : goal.invariant-loop-place
-invariant-loop-place l = l.gates.items ≡ l.initial.gates.items ++ map (link_gate l.a l.number l.pairs) (range_with_len 0 l.place)

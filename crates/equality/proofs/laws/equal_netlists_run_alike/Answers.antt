@@ -1,5 +1,0 @@
-use Rattle.equality.proofs.AlikeLemmas.{equal_run_alike}
-use Rattle.equality.proofs.laws.equal_netlists_run_alike.Goals as goal
-
-pub returns : goal.returns
-returns c = equal_run_alike

@@ -1,7 +1,0 @@
--- The chapter: what the contracts of public functions say.
-pub mod Texts
-pub mod Told
-pub mod Runs
-pub mod Shown
--- The code's own: what its parts say to each other.
-pub mod Answers

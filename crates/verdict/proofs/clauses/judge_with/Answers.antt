@@ -1,4 +1,0 @@
-use Rattle.verdict.proofs.clauses.judge_with.Goals as goal
-
-pub new-search-requires-clause-settled : goal.new-search-requires-clause-settled
-new-search-requires-clause-settled c = rw c.looped.ensures.looped c.requires.settled.settled

@@ -1,5 +1,0 @@
-use Rattle.verdict.proofs.LooseLemmas.{no-loose}
-use Rattle.verdict.proofs.counting.counts_by.Goals as goal
-
-pub sweeps_on_care-requires-clause-unknown : goal.sweeps_on_care-requires-clause-unknown
-sweeps_on_care-requires-clause-unknown c = no-loose c.args.search.now.net c.args.search.now.care (rw c.if-loose-eq0.true at c.requires.loose)
