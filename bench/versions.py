@@ -12,6 +12,8 @@
   butterfly N          a butterfly of N bits whose one multiplier stands before or behind the sum and the difference;
                        beside one with two multipliers
   matching N           one round of iSLIP of N by N: grants and accepts, each a ring of priorities; beside lines of twice N
+  wavefront N          a wavefront arbiter of N by N that wraps around, whose wave begins at the diagonal that is set; beside
+                       twice as many diagonals in a line, less one
   bus N                a bus of N stations around a ring, eight bits; beside an OR of what the station with the token says
   two_way N            a line of N stations that hands data right or left; beside one line for each direction
   carry N              a carry over N cells that runs up or down by one wire; beside two carries
@@ -214,6 +216,40 @@ def matching(n):
         oks.append(one)
     care.gate(["1" * len(oks) + " 1"], "ok", *oks)
     return with_grants(ring_of_grants), with_grants(line_of_grants), care
+
+
+@family(4)
+def wavefront(n):
+    cells = [(i, j) for i in range(n) for j in range(n)]
+
+    def begin():
+        return Model("wavefront", [*numbered("d", n), *(f"r{i}_{j}" for i, j in cells)], [f"g{i}_{j}" for i, j in cells])
+
+    shared, m = begin(), begin()
+    for i, j in cells:
+        for free, other in (f"x{i}_{j}", f"{i}_{(j - 1) % n}"), (f"y{i}_{j}", f"{(i - 1) % n}_{j}"):
+            shared.gate(["1-- 1", "-10 1"], free, f"d{(i + j) % n}", f"{free[0]}{other}", f"g{other}")
+        shared.gate(["111 1"], f"g{i}_{j}", f"x{i}_{j}", f"y{i}_{j}", f"r{i}_{j}")
+    # Who is met by the wave for a second time was given a grant by the first, or asks for none.
+    found = {cell: [] for cell in cells}
+    free = {}
+    for k in range(2 * n - 1):
+        met = [(i, (k - i) % n) for i in range(n)]
+        for i, j in met:
+            for line in f"x{i}", f"y{j}":
+                if k == 0:
+                    free[line] = "d0"
+                elif k < n:
+                    free[line] = m.gate(["1-- 1", "-10 1"], f"{line}_{k}", f"d{k}", free[line], last[line])
+                else:
+                    free[line] = m.gate(["10 1"], f"{line}_{k}", free[line], last[line])
+        last = {}
+        for i, j in met:
+            last[f"x{i}"] = last[f"y{j}"] = m.gate(["111 1"], f"h{i}_{j}_{k}", free[f"x{i}"], free[f"y{j}"], f"r{i}_{j}")
+            found[i, j].append(last[f"x{i}"])
+    for (i, j), twice in found.items():
+        m.gate(OR if len(twice) == 2 else COPY, f"g{i}_{j}", *twice)
+    return shared, m, one_hot("assume", numbered("d", n))
 
 
 @family(32)

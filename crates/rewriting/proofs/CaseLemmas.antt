@@ -76,6 +76,13 @@ module _ (net split : Parts) (keeps : KeepsInterface net split) where
   vector_kept : (care : CareSet) (v : List Bool) → IsCareVector net care v → IsCareVector split care v
   vector_kept care v counts = grind (arith, columns_kept, keeps.inputs)
 
+  -- what tells as much as the split netlist does tells as much as the netlist
+  pub tells_through : (other : Parts) (care : CareSet) → TellsAsMuch net split care → TellsAsMuch split other care → TellsAsMuch net other care
+  tells_through other care first last = record {
+    outputs = λ v counts. EachBelow-trans (outs net (bits v)) (outs split (bits v)) (outs other (bits v)) (first.outputs v counts) (last.outputs v (vector_kept care v counts));
+    loads = λ v counts. EachBelow-trans (next net (bits v)) (next split (bits v)) (next other (bits v)) (first.loads v counts) (last.loads v (vector_kept care v counts));
+  }
+
   module _ (care : CareSet) (tells : TellsAsMuch net split care) (other : Parts) (form : IsLoopFreeForm split care other) where
     interface_kept : HasSameInterface net other
     interface_kept =
@@ -88,17 +95,13 @@ module _ (net split : Parts) (keeps : KeepsInterface net split) where
           clock = keeps.clock ∙ same.clock;
         }
 
-    tells_through : TellsAsMuch net other care
-    tells_through = record {
-      outputs = λ v counts. EachBelow-trans (outs net (bits v)) (outs split (bits v)) (outs other (bits v)) (tells.outputs v counts) (form.tells.outputs v (vector_kept care v counts));
-      loads = λ v counts. EachBelow-trans (next net (bits v)) (next split (bits v)) (next other (bits v)) (tells.loads v counts) (form.tells.loads v (vector_kept care v counts));
-    }
-
     -- what stands in the place of the other one stands in the place of the netlist
     pub form_through : (what : Observe) → IsNetlist net → Accepts net care what → IsLoopFreeForm net care other
-    form_through what valid accepts = record {
-      loop_free = form.loop_free;
-      reads_back = form.reads_back;
-      tells = tells_through;
-      same = same_by_fixpoints net other care what valid accepts interface_kept tells_through;
-    }
+    form_through what valid accepts =
+        let all = tells_through other care tells form.tells in
+        record {
+          loop_free = form.loop_free;
+          reads_back = form.reads_back;
+          tells = all;
+          same = same_by_fixpoints net other care what valid accepts interface_kept all;
+        }

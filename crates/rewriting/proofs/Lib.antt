@@ -3,6 +3,6 @@ mod NeededLemmas
 mod CoverLemmas
 mod CaseLemmas
 mod SplitLemmas
-mod AllowedLemmas
+mod ShownLemmas
 pub mod RewrittenLemmas
 mod GraphLemmas

@@ -1,30 +1,19 @@
--- The cases of some columns that care vectors may have.
-use Rattle.std.proofs.Common.{◌≡◌, ℕ, ◌<◌, ◌^◌, suc, Bool, true, false, List, [], ◌∷◌, length, map, get_or, subst, ◌∙◌, arith}
-use Rattle.std.specs.Prelude.{◌≤◌, All, IfOk, IfSome, Ok, Err, Some, None}
+-- Netlists that are split by cases.
+use Rattle.std.proofs.Common.{◌≡◌, ◌≤◌, ℕ, Bool, List, length, subst, ◌∙◌}
+use Rattle.std.specs.Prelude.{IfOk, IfSome, Ok, Err, Some, None}
 use Rattle.std.specs.declared.option.Option.{Option}
 use Rattle.std.specs.declared.result.Result.{Result}
-use Rattle.std.proofs.Common.{inl, inr}
-use Rattle.std.proofs.Math.Nat.{pow-succ'}
-use Rattle.std.proofs.Math.Pow.{pow_mono}
-use Rattle.std.proofs.lemmas.Bool.{cases_lt}
-use Rattle.std.proofs.lemmas.List.{length-map}
 use Rattle.cyc_base.specs.declared.trit.Trit.{Trit}
 use Rattle.cyc_base.specs.Values.{bits}
-use Rattle.cyc_base.proofs.OrderLemmas.{bits-at}
 use Rattle.netlist.specs.declared.parts.Parts.{Parts}
 use Rattle.netlist.specs.Netlists.{IsNetlist}
 use Rattle.care_sets.specs.Care.{CareSet, columns, IsCareVector}
 use Rattle.refusals.proofs.RefusalLemmas.{length-bits}
 use Rattle.unroll.specs.Laws.{KeepsInterface, TellsAsMuchAt}
-use Rattle.case_split.specs.Cases.{case_number, HaveValues, IsInCase}
+use Rattle.case_split.specs.declared.cases.Case.{Case}
+use Rattle.case_split.specs.Cases.{IsInOneCase}
 use Rattle.rewriting.specs.Splits.{IsSplitOf}
-
--- few cases have few columns
-pub few_columns : (n : ℕ) → 2 ^ n ≤ 4096 → n ≤ 12
-few_columns n few = elim (cases_lt n 13) [
-  | inl small ↦ omega arith
-  | inr many ↦ absurd (let more = pow_mono many in omega (arith, few, more))
-]
+use Rattle.rewriting.proofs.CaseLemmas.{keeps_through, tells_through}
 
 -- what holds of what was made holds of it where it is small
 pub of_small : {T E F : Type 0} (P : T → Type 0) (made : Result T E) (small : Result (Option T) F) → IfOk small (λ kept. IfSome kept (λ value. made ≡ Ok value))
@@ -38,37 +27,39 @@ small_weaker P Q follows (Ok (Some value)) holds = follows value holds
 small_weaker P Q follows (Ok None) holds = tt
 small_weaker P Q follows (Err fault) holds = tt
 
+pub of_some : {T : Type 0} (P : T → Type 0) (o : Option T) (x : T) → o ≡ Some x → IfSome o P → P x
+of_some {T} P o x is holds = let Q : Option T → Type 0 = λ p. IfSome p P in subst Q is holds
+
 -- and three facts of it give a fourth
 pub of_three : {T E : Type 0} (P Q R S : T → Type 0) → ((x : T) → P x → Q x → R x → S x) → (made : Result T E) → IfOk made P → IfOk made Q → IfOk made R → IfOk made S
 of_three P Q R S follows (Ok value) p q r = follows value p q r
 of_three P Q R S follows (Err fault) p q r = tt
 
-case_below : (values : List Bool) → case_number values < 2 ^ length values
-case_below [] = omega arith
-case_below (true ∷ values) = let rest = case_below values in let more = pow-succ' 2 (length values) in omega (arith, rest, more)
-case_below (false ∷ values) = let rest = case_below values in let more = pow-succ' 2 (length values) in omega (arith, rest, more)
-
-abbrev pub values_at : List Bool → List ℕ → List Bool
-values_at v picked = map (λ column. get_or v column false) picked
-
-pub have_values : (v : List Bool) (picked : List ℕ) → All (λ column. column < length v) picked → HaveValues (bits v) picked (values_at v picked)
-have_values v [] within = tt
-have_values v (column ∷ picked) within =
-    (bits-at v column (within 0 column (omega arith)), have_values v picked (λ k d inside. within (suc k) d (omega (arith, inside))))
-
-pub case_within : (v : List Bool) (picked : List ℕ) → case_number (values_at v picked) < 2 ^ length picked
-case_within v picked =
-    subst (λ (n : ℕ). case_number (values_at v picked) < 2 ^ n) (length-map picked (λ column. get_or v column false)) (case_below (values_at v picked))
-
--- So a netlist that is split by those which care vectors may have tells at each of them at least what the netlist does.
-pub is_split : (net split : Parts) (care : CareSet) (picked : List ℕ) (allowed : List Bool) → ((v : List Bool) → IsCareVector net care v → IsInCase picked allowed (bits v))
+-- So a netlist that is split by cases on care tells at each care vector at least what the netlist does.
+pub is_split : (net split : Parts) (care : CareSet) (cases : List Case) → ((v : List Bool) → IsCareVector net care v → IsInOneCase cases (bits v))
     → IsNetlist split → KeepsInterface net split
-    → ((v : List Trit) → length v ≡ columns net → IsInCase picked allowed v → TellsAsMuchAt net split v) → IsSplitOf net care split
-is_split net split care picked allowed cases valid interface tells = record {
+    → ((v : List Trit) → length v ≡ columns net → IsInOneCase cases v → TellsAsMuchAt net split v) → IsSplitOf net care split
+is_split net split care cases in_one valid interface tells = record {
   valid = valid;
   interface = interface;
   tells = record {
-    outputs = λ v counts. let at = tells (bits v) (length-bits v ∙ counts.width) (cases v counts) in at.outputs;
-    loads = λ v counts. let at = tells (bits v) (length-bits v ∙ counts.width) (cases v counts) in at.loads;
+    outputs = λ v counts. let at = tells (bits v) (length-bits v ∙ counts.width) (in_one v counts) in at.outputs;
+    loads = λ v counts. let at = tells (bits v) (length-bits v ∙ counts.width) (in_one v counts) in at.loads;
   };
 }
+
+-- ---- region by region
+
+pub inputs_kept : (net split : Parts) (care : CareSet) → IsSplitOf net care split → length net.inputs ≤ 4000000000 → length split.inputs ≤ 4000000000
+inputs_kept net split care is few = subst (λ (inputs : List (List ℕ)). length inputs ≤ 4000000000) is.interface.inputs few
+
+pub split_through : (net mid other : Parts) (care : CareSet) → IsSplitOf net care mid → IsSplitOf mid care other → IsSplitOf net care other
+split_through net mid other care first last = record {
+  valid = last.valid;
+  interface = keeps_through net mid other first.interface last.interface;
+  tells = tells_through net mid first.interface other care first.tells last.tells;
+}
+
+pub some_through : (net mid : Parts) (care : CareSet) (o : Option Parts) → IsSplitOf net care mid → IfSome o (IsSplitOf mid care) → IfSome o (IsSplitOf net care)
+some_through net mid care None first last = tt
+some_through net mid care (Some other) first last = split_through net mid other care first last

@@ -1,23 +1,20 @@
 //! Rewriting by cases.
 
-ghost use Rattle.std.specs.Prelude.{◌≡◌, ◌<◌, ◌≤◌, ◌^◌, length, All, IfOk, IfErr, IfSome};
+ghost use Rattle.std.specs.Prelude.{◌≡◌, ◌≤◌, length, IfOk, IfErr, IfSome};
 ghost use Rattle.care_sets.specs.Binding.{IsCareOf};
-ghost use Rattle.care_sets.specs.Care.{columns};
 ghost use Rattle.cyc_base.specs.declared.limits.TheConstants.{MAX_NODES as most_nodes};
 ghost use Rattle.netlist.specs.Netlists.{IsNetlist};
 ghost use Rattle.netlist.specs.Walks.{IsLoopFree};
 ghost use Rattle.refusals.specs.declared.observe.Observe.{Observe as Observed};
 ghost use Rattle.refusals.specs.Acceptance.{Accepts};
 ghost use Rattle.unroll.specs.Laws.{KeepsInterface};
-ghost use Rattle.verdict.specs.Verdicts.{AreSweepsOnCare, IsVerdict};
+ghost use Rattle.verdict.specs.Verdicts.{AreSweepsOnCare};
 ghost use Rattle.rewriting.specs.Rewriting.{rewritten_size as size_of, IsCaseFault, IsLoopFreeForm};
-ghost use Rattle.rewriting.specs.Splits.{IsSplitOf};
 
-use crate::allowed_cases::allowed_cases;
 use crate::rewriting::rewrite;
+use crate::splitting::split_netlist;
 use bdd_ops::Diagrams;
 use care_sets::Care;
-use case_split::{SplitFault, copied_marks, pick, split};
 use loops::{LoopedNetlist, SweepCounts, find_blocks, find_cut};
 use netlist::Netlist;
 use refusals::Observe;
@@ -34,76 +31,6 @@ fn rewritten_if_small(made: Result<Netlist, UnrollFault>) -> Result<Option<Netli
         Err(UnrollFault::TooLarge { size: _ }) => Ok(None),
         Err(UnrollFault::Memory) => Err(AllocError),
     }
-}
-
-/// What was split, or nothing where it might be too large.
-fn split_if_small(made: Result<Netlist, SplitFault>) -> Result<Option<Netlist>, AllocError>
-    ensures { IfOk result (λ small. IfSome small (λ other. made ≡ Ok other)) }
-{
-    match made {
-        Ok(other) => Ok(Some(other)),
-        Err(SplitFault::TooLarge { size: _ }) => Ok(None),
-        Err(SplitFault::Memory) => Err(AllocError),
-    }
-}
-
-/// The netlist split by the cases of these columns that a care vector may have.
-fn split_by(
-    alloc: Global,
-    net: &Netlist,
-    care: &Care,
-    copied: &[bool],
-    picked: &[u32],
-) -> Result<Option<Netlist>, AllocError>
-    requires care { IsCareOf net.now care.now }
-    requires copied { length copied.now ≡ length net.now.gates }
-    requires columns { All (λ column. column < columns net.now) picked.now }
-    requires few { 2 ^ length picked.now ≤ 4096 }
-    requires inputs { length net.now.inputs ≤ 4000000000 }
-    ensures { IfOk result (λ made. IfSome made (IsSplitOf net.now care.now)) }
-{
-    let allowed = allowed_cases(alloc, net, care, picked)?;
-    split_if_small(split(alloc, net, copied, picked, &allowed))
-}
-
-/// The netlist split by at most so many cases, in which these gates are copied, or nothing where no case breaks a loop.
-fn split_marked(
-    alloc: Global,
-    net: &Netlist,
-    care: &Care,
-    copied: &[bool],
-    cases: u32,
-) -> Result<Option<Netlist>, AllocError>
-    requires care { IsCareOf net.now care.now }
-    requires copied { length copied.now ≡ length net.now.gates }
-    requires some { 1 ≤ cases }
-    requires few { cases ≤ 4096 }
-    requires inputs { length net.now.inputs ≤ 4000000000 }
-    ensures { IfOk result (λ made. IfSome made (IsSplitOf net.now care.now)) }
-{
-    let picked = pick(alloc, net, copied, cases)?;
-    if picked.is_empty() {
-        return Ok(None);
-    }
-    split_by(alloc, net, care, copied, &picked)
-}
-
-/// The same, in which the gates of loops are copied, and those between loops.
-fn split_netlist(
-    alloc: Global,
-    looped: &LoopedNetlist<'_>,
-    care: &Care,
-    cases: u32,
-) -> Result<Option<Netlist>, AllocError>
-    requires care { IsCareOf looped.now.net care.now }
-    requires some { 1 ≤ cases }
-    requires few { cases ≤ 4096 }
-    requires inputs { length looped.now.net.inputs ≤ 4000000000 }
-    ensures { IfOk result (λ made. IfSome made (IsSplitOf looped.now.net care.now)) }
-{
-    let copied = copied_marks(alloc, looped)?;
-    let net = looped.net();
-    split_marked(alloc, net, care, &copied, cases)
 }
 
 /// The rewritten netlist of a split one whose blocks and cut wires are found. Where the decision gives up, there is none.
@@ -182,14 +109,15 @@ fn rewrite_in_cases(
     }
 }
 
-/// A netlist without loops in the place of an accepted one, made by at most so many cases.
+/// A netlist without loops in the place of an accepted one, made by at most so many cases in each region.
 ///
-/// Columns are picked whose values break loops; for each assignment of them the gates of loops and between loops are
-/// copied with these values put in, and the columns select among the copies (Shannon 1949). Assignments that the care
-/// models rule out alone, by ternary simulation, are left out. Loops that are left are unrolled by the sweeps that they
-/// need on the care set (Malik 1994). Paths are mostly shorter than those of the rewritten netlist, whose sweeps stand in
-/// series. Where no column breaks a loop, where the netlist so made would be too large, or where the decision about its
-/// loops meets the limit of nodes, it is the rewritten netlist, which needs the given sweeps.
+/// A region is gates of loops and between loops that walks along pins join. For each region columns are picked whose values
+/// break its loops, as a tree of splits, with the care models asked: a value that they rule out makes no case, and one that
+/// they force is put in. For each case the region's gates are copied with its values put in, and its columns select its copy
+/// (Shannon 1949), after the solver has shown that each care vector is in just one case. Loops that are left are unrolled by
+/// the sweeps that they need on the care set (Malik 1994). Paths are mostly shorter than those of the rewritten netlist, whose
+/// sweeps stand in series. Where no case breaks a loop or the solver gives up, where the netlist so made would be too large,
+/// or where the decision about its loops meets the limit of nodes, it is the rewritten netlist, which needs the given sweeps.
 ///
 /// It has no loop, and the names of inputs, latches and outputs, the inits and the clock of the netlist. Each run of the
 /// netlist within care and each run of the new one over the same inputs and from the same latches show the same at each
