@@ -12,7 +12,7 @@ const VARIABLES: u32 = 100;
 
 #[derive(Clone, Copy)]
 enum Step {
-    /// Five pigeons are in four holes, and no two in one.
+    /// Six pigeons are in six holes. No two are in one, nor with a seventh one.
     Pigeons,
     /// Each variable has the next one.
     Chain,
@@ -27,11 +27,20 @@ enum Step {
     Has(u32),
 }
 
-pub const CASES: u32 = 4;
+/// The seventh pigeon is in a hole, if the variable 99 is true.
+const SEVENTH: Step = Step::Clause(&[199, 72, 74, 76, 78, 80, 82]);
+
+pub const CASES: u32 = 6;
 
 fn steps_of(case: u32) -> &'static [Step] {
     match case {
-        0 => &[Step::Pigeons, Step::GivesUp(2), Step::NoModel(&[], 0)],
+        0 => &[
+            Step::Pigeons,
+            SEVENTH,
+            Step::Clause(&[198]),
+            Step::GivesUp(2),
+            Step::NoModel(&[], 0),
+        ],
         1 => &[
             Step::Chain,
             Step::Model(&[0]),
@@ -49,6 +58,28 @@ fn steps_of(case: u32) -> &'static [Step] {
             Step::Clause(&[0]),
             Step::NoModel(&[], 0),
             Step::NoModel(&[], 0),
+        ],
+        // the first call eliminates variables, and the next ones ask about one of them
+        3 => &[
+            Step::Pigeons,
+            SEVENTH,
+            Step::NoModel(&[198], 1),
+            Step::Model(&[0]),
+            Step::Has(0),
+            Step::Has(13),
+            Step::Has(199),
+            Step::NoModel(&[198], 1),
+        ],
+        // a clause of such a variable is added
+        4 => &[
+            Step::Pigeons,
+            SEVENTH,
+            Step::NoModel(&[198], 1),
+            Step::Clause(&[0]),
+            Step::Model(&[]),
+            Step::Has(0),
+            Step::Has(13),
+            Step::NoModel(&[0, 198], 1),
         ],
         // an assumption of another variable
         _ => &[
@@ -78,31 +109,33 @@ fn add(solver: &mut Solver, clause: &[Lit]) -> Result<(), AllocError> {
     Ok(())
 }
 
-/// That one of five pigeons is, or isn't, in one of four holes.
+/// That one of seven pigeons is, or isn't, in one of six holes.
 fn in_hole(pigeon: u32, hole: u32, is_not: bool) -> Lit
-    requires pigeon { pigeon < 5 }
-    requires hole { hole < 4 }
+    requires pigeon { pigeon < 7 }
+    requires hole { hole < 6 }
 {
-    Lit::of(4 * pigeon + hole, is_not)
+    Lit::of(6 * pigeon + hole, is_not)
 }
 
 fn add_pigeon(solver: &mut Solver, pigeon: u32) -> Result<(), AllocError>
-    requires { pigeon < 5 }
+    requires { pigeon < 7 }
 {
     let holes = [
         in_hole(pigeon, 0, false),
         in_hole(pigeon, 1, false),
         in_hole(pigeon, 2, false),
         in_hole(pigeon, 3, false),
+        in_hole(pigeon, 4, false),
+        in_hole(pigeon, 5, false),
     ];
     add(solver, holes.as_slice())
 }
 
 /// No two pigeons are in a hole.
 fn add_hole(solver: &mut Solver, hole: u32) -> Result<(), AllocError>
-    requires { hole < 4 }
+    requires { hole < 6 }
 {
-    for one in 0..5 {
+    for one in 0..7 {
         for other in 0..one {
             let pair = [in_hole(one, hole, true), in_hole(other, hole, true)];
             add(solver, pair.as_slice())?;
@@ -112,10 +145,10 @@ fn add_hole(solver: &mut Solver, hole: u32) -> Result<(), AllocError>
 }
 
 fn add_pigeons(solver: &mut Solver) -> Result<(), AllocError> {
-    for pigeon in 0..5 {
+    for pigeon in 0..6 {
         add_pigeon(solver, pigeon)?;
     }
-    for hole in 0..4 {
+    for hole in 0..6 {
         add_hole(solver, hole)?;
     }
     Ok(())
