@@ -110,7 +110,14 @@ fn picked_cases(
     }
 }
 
-/// The netlist split by cases in which these gates are copied, or nothing where no case breaks a loop.
+/// Whether a case puts a value in. One case does where the care set forces one.
+fn put_values_in(cases: &[Case]) -> bool {
+    cases
+        .iter()
+        .any(|case| !case.cube.is_empty() || !case.known.is_empty())
+}
+
+/// The netlist split by cases in which these gates are copied, or nothing where no value is put in.
 fn split_marked(
     alloc: Global,
     net: &Netlist,
@@ -125,7 +132,7 @@ fn split_marked(
 {
     let gates = marked_gates(alloc, net, copied)?;
     let cases = picked_cases(alloc, net, care, &gates, plan)?;
-    if cases.len() < 2 {
+    if !put_values_in(&cases) {
         return Ok(None);
     }
     split_by(alloc, net, care, copied, &cases)
@@ -228,7 +235,7 @@ fn split_marks(
 }
 
 /// The netlist split by at most so many cases in each region, in which the gates of loops are copied, and those between
-/// loops; or nothing where no case breaks a loop.
+/// loops; or nothing where no value is put in.
 pub(crate) fn split_netlist(
     alloc: Global,
     looped: &LoopedNetlist<'_>,
