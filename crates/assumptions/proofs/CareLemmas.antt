@@ -42,6 +42,31 @@ invariant_passes net care model is valid same = grind (arith, passes care.invari
     passes None b v = tt
     passes (Some m) b v = model_passes net (length net.inputs) m b v
 
+same_columns : (xs ys : List ℕ) → map Some xs ≡ map Some ys → xs ≡ ys
+same_columns [] [] e = refl
+same_columns [] (y ∷ ys) e = cc
+same_columns (x ∷ xs) [] e = cc
+same_columns (x ∷ xs) (y ∷ ys) e =
+    let here : x ≡ y = cc in
+    let there : map Some xs ≡ map Some ys = cc in
+    let rest = same_columns xs ys there in
+    cc
+
+same_model : (net : Parts) (first : ℕ) (a b : CareModel) → a.net ≡ b.net → IsBoundTo net first a → IsBoundTo net first b → a ≡ b
+same_model net first a b same bound_a bound_b =
+    let names : map Some a.columns ≡ map Some b.columns = bound_a.names.named ∙ ap (λ (n : Parts). map (column_of net) n.inputs) same ∙ sym bound_b.names.named in
+    let columns = same_columns a.columns b.columns names in
+    let start = bound_a.start ∙ sym bound_b.start in
+    grind arith
+
+same_invariant : (net : Parts) (first : ℕ) (old new : Option CareModel) → IfSome old (IsBoundTo net first) → BindsAny net first (option_map (λ m. m.net) old) new → new ≡ old
+same_invariant net first None None bound binds = refl
+same_invariant net first None (Some b) bound binds = absurd binds
+same_invariant net first (Some a) None bound binds = absurd binds
+same_invariant net first (Some a) (Some b) bound binds = ap Some (same_model net first b a binds.kept binds.to bound)
+
+-- ---- the care set of a model beside the invariant
+
 pub without_fault : (net : Parts) (model : Parts) (i : Option Parts) (fault : CareFault) → HasNoFault net 0 model → IfSome i (HasNoFault net (length net.inputs))
     → (fault ≡ Memory) ⊎ IsFirstFault net (Some model) i fault → fault ≡ Memory
 without_fault net model i fault sound_a sound_i h = grind arith
