@@ -10,7 +10,7 @@
 set -u
 top=$(cd "$(dirname "$0")/.." && pwd) || exit 1
 cyc=${CYC:-$top/crates/cyc/out/cyc}
-[ $# -gt 0 ] || set -- core 8 4 core 16 4 core 32 4 butterfly 8 2 two_way 25 2 carry 100 2 systolic 4 4 bus 16 1024 matching 8 16
+[ $# -gt 0 ] || set -- core 8 4 core 16 4 core 32 4 butterfly 8 2 two_way 25 2 carry 100 2 systolic 4 4 bus 16 16 matching 16 16 wavefront 16 16
 [ $(($# % 3)) -eq 0 ] || { sed -n '/^#   bench/s/^# *//p' "$0" >&2; exit 2; }
 dir=$(mktemp -d) || exit 1
 trap 'rm -rf "$dir"' EXIT
