@@ -12,7 +12,7 @@ use crate::search::{Search, meets};
 use std::alloc::{AllocError, Global};
 
 /// How many landmarks there are at most.
-const MOST: usize = 4;
+const MOST: usize = 32;
 
 /// A gate, and two searches from it that go on as gates are entered.
 #[derive(Debug)]
