@@ -7,28 +7,21 @@ pub use Rattle.cyc_io.proofs.TakenLemmas.{appended_cut, appended_equal, appended
 pub use Rattle.cyc_io.specs.Text.{text_bytes}
 pub use Rattle.dot_text.specs.LoopGraphs.{cut_cluster, labelled_cluster}
 pub use Rattle.loops.specs.Cones.{AddMarks, is_marked}
-pub use Rattle.loops.proofs.ListLemmas.{all_came, comes_at}
-pub use Rattle.loops.specs.Blocks.{AreBlocksOf}
-pub use Rattle.loops.specs.Cuts.{IsCutOf}
+pub use Rattle.loops.proofs.ListLemmas.{comes_at}
 pub use Rattle.loops.specs.Found.{loops_of}
 pub use Rattle.loops.specs.Left.{loops_left}
 pub use Rattle.loops.specs.Listed.{begins_with, gate_numbers, loop_of}
-pub use Rattle.loops.specs.Looped.{IsLooped}
 pub use Rattle.loops.specs.Sweeps.{first_gate}
-pub use Rattle.loops.specs.declared.structure.Blocks.{Blocks}
-pub use Rattle.loops.specs.declared.structure.Cut.{Cut}
-pub use Rattle.loops.specs.declared.structure.SweepCounts.{SweepCounts}
 pub use Rattle.netlist.specs.Netlists.{gate_at}
 pub use Rattle.netlist.specs.declared.parts.Parts.{Parts}
 pub use Rattle.refusals.proofs.ObservedLemmas.{among, member}
 pub use Rattle.report.proofs.LoopTextLemmas.{told_first}
 pub use Rattle.report.specs.LoopTexts.{loop_lines}
 pub use Rattle.rewriting.proofs.RewrittenLemmas.{counts_are_needed}
-pub use Rattle.rewriting.specs.Rewriting.{sweeps_needed}
+pub use Rattle.rewriting.specs.Rewriting.{sweeps_needed, IsCountedOnCare}
 pub use Rattle.std.proofs.lemmas.Bool.{and_from, and_parts, eqb-true}
 pub use Rattle.std.proofs.lemmas.List.FromFn.{length-range_with_len}
 pub use Rattle.std.proofs.lemmas.Result.{IfOk-weaker}
 pub use Rattle.std.specs.List.{range_with_len}
 pub use Rattle.std.specs.Prelude.{if◌then◌else◌}
-pub use Rattle.unroll.specs.Unrolled.{sweeps_of}
-pub use Rattle.verdict.specs.Verdicts.{AreSweepsOnCare}
+pub use Rattle.unroll.specs.Counted.{Counted, counted_sweeps, IsCounted}

@@ -1,7 +1,7 @@
 -- The graph of loops.
 use Rattle.std.proofs.Common.{◌≡◌, ◌<◌, ◌≤◌, ℕ, Bool, List, ◌++◌, length, ap, ◌∙◌, append_assoc, arith}
 use Rattle.std.proofs.lemmas.Bool.{lt-ltb}
-use Rattle.accepted_loops.proofs.Common.{CareSet, Blocks, Cut, SweepCounts, AreBlocksOf, IsCutOf, loops_of, gate_numbers, loop_of, begins_with, Parts, sweeps_needed, counts_are_needed, sweeps_of, AreSweepsOnCare, if◌then◌else◌, short_cluster, told_cluster, whole_cluster}
+use Rattle.accepted_loops.proofs.Common.{CareSet, loops_of, gate_numbers, loop_of, begins_with, Parts, sweeps_needed, counts_are_needed, Counted, counted_sweeps, IsCounted, IsCountedOnCare, if◌then◌else◌, short_cluster, told_cluster, whole_cluster}
 use Rattle.accepted_loops.specs.Graphs.{told_clusters}
 use Rattle.accepted_loops.proofs.LineLemmas.{begun-passes, numbered-alike}
 
@@ -15,13 +15,14 @@ three_told old one two new front middle back first second third =
     ∙ append_assoc old front (middle ++ back)
 
 -- the sweeps that are needed
-pub drawn_on_care : (net : Parts) (blocks : Blocks) (cut : Cut) (care : CareSet) (counts : SweepCounts) → AreBlocksOf net blocks → IsCutOf net cut
-    → AreSweepsOnCare net blocks cut care counts → told_clusters net (sweeps_of blocks counts) ≡ told_clusters net (sweeps_needed net care)
-drawn_on_care net blocks cut care counts are is on_care =
-    numbered-alike (told_cluster net (sweeps_of blocks counts)) (told_cluster net (sweeps_needed net care)) (λ n. begins_with (loop_of net n) n)
+pub drawn_on_care : (counted : Counted) (care : CareSet) → IsCounted counted → IsCountedOnCare counted care
+    → told_clusters counted.net (counted_sweeps counted) ≡ told_clusters counted.net (sweeps_needed counted.net care)
+drawn_on_care counted care is on_care =
+    let net = counted.net in
+    numbered-alike (told_cluster net (counted_sweeps counted)) (told_cluster net (sweeps_needed net care)) (λ n. begins_with (loop_of net n) n)
     (λ k n begun.
     ap (λ (m : ℕ). told_cluster net (λ gate. m) k n)
-    (counts_are_needed net blocks cut care counts are is on_care n (begun-passes ((loops_of net).same n) (gate_numbers net) n begun)))
+    (counts_are_needed net counted.blocks counted.cut care counted.sweeps is.blocks is.cut on_care n (begun-passes ((loops_of net).same n) (gate_numbers net) n begun)))
     (gate_numbers net) 1
 
 -- which of the two is drawn

@@ -1,6 +1,6 @@
 -- The lines of loops, one after another.
 use Rattle.std.proofs.Common.{◌≡◌, ◌<◌, ℕ, ◌+◌, Bool, true, false, cond, List, [], ◌∷◌, ◌++◌, length, filter, refl, sym, ap, ap₂, ◌∙◌, arith, append_assoc, true≢false}
-use Rattle.accepted_loops.proofs.Common.{eqb-true, Parts, Blocks, Cut, SweepCounts, AreBlocksOf, IsCutOf, loops_of, gate_numbers, loop_of, begins_with, first_gate, CareSet, is_marked, loops_left, loop_lines, told_first, sweeps_needed, counts_are_needed, sweeps_of, AreSweepsOnCare, columns_read, is_read, marked_columns, AreColumnsRead, sweeps_line, columns_line, told_lines}
+use Rattle.accepted_loops.proofs.Common.{eqb-true, Parts, loops_of, gate_numbers, loop_of, begins_with, first_gate, CareSet, is_marked, loops_left, loop_lines, told_first, sweeps_needed, counts_are_needed, Counted, counted_sweeps, IsCounted, IsCountedOnCare, columns_read, is_read, marked_columns, AreColumnsRead, sweeps_line, columns_line, told_lines}
 use Rattle.loops.specs.Listed.{first_gates}
 use Rattle.std.specs.Iterator.{Yields, YieldsFirstBy}
 use Rattle.std.specs.Prelude.{Some}
@@ -58,19 +58,12 @@ numbered-alike one two test agree (n ∷ ns) k = by (test n) refl (numbered-alik
     by true passes rest = ap₂ (λ (text others : List ℕ). text ++ others) (agree k n passes) (rest (k + 1))
     by false fails rest = rest k
 
--- texts of loops that agree where there is a loop
-pub each_alike : (one two : ℕ → ℕ → List ℕ) (net : Parts) → (0 < length (listed_loops net) → each_loop one net ≡ each_loop two net) → each_loop one net ≡ each_loop two net
-each_alike one two net agree = by (first_gates net) refl
-  where
-    by : (gates : List ℕ) → first_gates net ≡ gates → each_loop one net ≡ each_loop two net
-    by [] none = ap (numbered_loops one 1) none ∙ sym (ap (numbered_loops two 1) none)
-    by (gate ∷ gates) some = agree (let e = ap (λ (gs : List ℕ). length (numbered net 1 gs)) some in omega (arith, e))
-
-pub told_on_care : (net : Parts) (blocks : Blocks) (cut : Cut) (care : CareSet) (counts : SweepCounts) → AreBlocksOf net blocks → IsCutOf net cut
-    → AreSweepsOnCare net blocks cut care counts → told_loops net (sweeps_of blocks counts) ≡ told_loops net (sweeps_needed net care)
-told_on_care net blocks cut care counts are is on_care =
-    numbered-alike (told_lines net (sweeps_of blocks counts)) (told_lines net (sweeps_needed net care)) (λ n. begins_with (loop_of net n) n)
+pub told_on_care : (counted : Counted) (care : CareSet) → IsCounted counted → IsCountedOnCare counted care
+    → told_loops counted.net (counted_sweeps counted) ≡ told_loops counted.net (sweeps_needed counted.net care)
+told_on_care counted care is on_care =
+    let net = counted.net in
+    numbered-alike (told_lines net (counted_sweeps counted)) (told_lines net (sweeps_needed net care)) (λ n. begins_with (loop_of net n) n)
     (λ k n begun.
     ap (λ (m : ℕ). loop_lines net k n ++ (sweeps_line k m ++ columns_line net k (columns_read net n)))
-    (counts_are_needed net blocks cut care counts are is on_care n (begun-passes ((loops_of net).same n) (gate_numbers net) n begun)))
+    (counts_are_needed net counted.blocks counted.cut care counted.sweeps is.blocks is.cut on_care n (begun-passes ((loops_of net).same n) (gate_numbers net) n begun)))
     (gate_numbers net) 1

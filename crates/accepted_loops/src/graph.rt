@@ -7,19 +7,18 @@ ghost use Rattle.dot_text.specs.Dot.{graph_head};
 ghost use Rattle.dot_text.specs.LoopGraphs.{cut_cluster, labelled_cluster};
 ghost use Rattle.loops.specs.Found.{loops_of};
 ghost use Rattle.loops.specs.Left.{loop_seen};
-ghost use Rattle.loops.specs.Looped.{IsLooped};
 ghost use Rattle.loops.specs.Numbered.{IsLoopOf};
-ghost use Rattle.rewriting.specs.Rewriting.{sweeps_needed};
-ghost use Rattle.unroll.specs.Unrolled.{sweeps_of};
-ghost use Rattle.verdict.specs.Verdicts.{AreSweepsOnCare};
+ghost use Rattle.rewriting.specs.Rewriting.{sweeps_needed, IsCountedOnCare};
+ghost use Rattle.unroll.specs.Counted.{counted_sweeps};
 ghost use Rattle.accepted_loops.specs.Graphs.{short_cluster, told_cluster, told_clusters, told_graph, whole_cluster};
 ghost use Rattle.accepted_loops.specs.Lines.{sweeps_line, told_lines};
 
-use crate::lines::{put_sweeps_line, sweeps_at, tell_loop};
+use crate::lines::{put_sweeps_line, tell_loop};
 use cyc_io::{TextSink, write_whole};
 use dot_text::{open_graph, put_cut_cluster, put_labelled_cluster};
-use loops::{ListedLoop, LoopedNetlist, SweepCounts};
+use loops::{ListedLoop, LoopedNetlist};
 use std::alloc::{AllocError, Global};
+use unroll::CountedLoops;
 
 // The most gates of a loop that are drawn.
 const MOST_DRAWN: usize = 32;
@@ -27,17 +26,14 @@ const MOST_DRAWN: usize = 32;
 // The lines of a loop.
 fn lines_of(
     alloc: Global,
-    looped: &LoopedNetlist<'_>,
-    sweeps: &SweepCounts,
+    counted: &CountedLoops<'_>,
     listed: ListedLoop<'_>,
 ) -> Result<Vec<u8>, AllocError>
-    requires sweeps { length sweeps.now.per_block ≡ length looped.now.blocks.list }
-    requires listed { IsLoopOf looped.now.net (loop_seen listed) }
-    ensures told { IfOk result (λ text. text.items ≡ told_lines looped.now.net (sweeps_of looped.now.blocks sweeps.now) listed.entry.number listed.entry.first) }
-    ensures looped { OnOk result (IsLooped looped.now) }
+    requires { IsLoopOf counted.now.net (loop_seen listed) }
+    ensures { IfOk result (λ text. text.items ≡ told_lines counted.now.net (counted_sweeps counted.now) listed.entry.number listed.entry.first) }
 {
     let mut sink = TextSink::new(alloc);
-    tell_loop(alloc, looped, sweeps, listed, &mut sink)?;
+    tell_loop(alloc, counted, listed, &mut sink)?;
     Ok(sink.into_vec())
 }
 
@@ -61,33 +57,27 @@ fn tell_labelled(
 // The cluster of a loop, with its gates.
 fn tell_whole(
     alloc: Global,
-    looped: &LoopedNetlist<'_>,
-    sweeps: &SweepCounts,
+    counted: &CountedLoops<'_>,
     listed: ListedLoop<'_>,
     sink: &mut TextSink,
 ) -> Result<(), AllocError>
-    requires sweeps { length sweeps.now.per_block ≡ length looped.now.blocks.list }
-    requires listed { IsLoopOf looped.now.net (loop_seen listed) }
-    ensures told { OnOk result (text_bytes sink.new ≡ text_bytes sink.old ++ whole_cluster looped.now.net (sweeps_of looped.now.blocks sweeps.now) listed.entry.number listed.entry.first) }
-    ensures looped { OnOk result (IsLooped looped.now) }
+    requires { IsLoopOf counted.now.net (loop_seen listed) }
+    ensures { OnOk result (text_bytes sink.new ≡ text_bytes sink.old ++ whole_cluster counted.now.net (counted_sweeps counted.now) listed.entry.number listed.entry.first) }
 {
-    let lines = lines_of(alloc, looped, sweeps, listed)?;
-    tell_labelled(looped, listed.number, &lines, listed.gates, sink)
+    let lines = lines_of(alloc, counted, listed)?;
+    tell_labelled(counted.looped(), listed.number, &lines, listed.gates, sink)
 }
 
 // The line of the sweeps that a loop needs.
 fn sweeps_text(
     alloc: Global,
-    looped: &LoopedNetlist<'_>,
-    sweeps: &SweepCounts,
+    counted: &CountedLoops<'_>,
     listed: ListedLoop<'_>,
 ) -> Result<Vec<u8>, AllocError>
-    requires sweeps { length sweeps.now.per_block ≡ length looped.now.blocks.list }
-    requires listed { IsLoopOf looped.now.net (loop_seen listed) }
-    ensures told { IfOk result (λ text. text.items ≡ sweeps_line listed.entry.number (sweeps_of looped.now.blocks sweeps.now listed.entry.first)) }
-    ensures looped { OnOk result (IsLooped looped.now) }
+    requires { IsLoopOf counted.now.net (loop_seen listed) }
+    ensures { IfOk result (λ text. text.items ≡ sweeps_line listed.entry.number (counted_sweeps counted.now listed.entry.first)) }
 {
-    let count = sweeps_at(looped, sweeps, listed.first);
+    let count = counted.sweeps_of(listed.first);
     let mut sink = TextSink::new(alloc);
     match put_sweeps_line(&mut sink, listed.number, count) {
         Ok(()) => Ok(sink.into_vec()),
@@ -115,55 +105,47 @@ fn tell_cuts(
 // The cluster of a loop, with its cut wires.
 fn tell_short(
     alloc: Global,
-    looped: &LoopedNetlist<'_>,
-    sweeps: &SweepCounts,
+    counted: &CountedLoops<'_>,
     listed: ListedLoop<'_>,
     sink: &mut TextSink,
 ) -> Result<(), AllocError>
-    requires sweeps { length sweeps.now.per_block ≡ length looped.now.blocks.list }
-    requires listed { IsLoopOf looped.now.net (loop_seen listed) }
-    ensures told { OnOk result (text_bytes sink.new ≡ text_bytes sink.old ++ short_cluster looped.now.net (sweeps_of looped.now.blocks sweeps.now) listed.entry.number listed.entry.first) }
-    ensures looped { OnOk result (IsLooped looped.now) }
+    requires { IsLoopOf counted.now.net (loop_seen listed) }
+    ensures { OnOk result (text_bytes sink.new ≡ text_bytes sink.old ++ short_cluster counted.now.net (counted_sweeps counted.now) listed.entry.number listed.entry.first) }
 {
-    let line = sweeps_text(alloc, looped, sweeps, listed)?;
-    tell_cuts(looped, listed.number, &line, listed.gates, sink)
+    let line = sweeps_text(alloc, counted, listed)?;
+    tell_cuts(counted.looped(), listed.number, &line, listed.gates, sink)
 }
 
 // The cluster of a loop.
 #[tactic(auto, using(crate::proofs::GraphLemmas::short_told, crate::proofs::GraphLemmas::whole_told))]
 fn tell_cluster(
     alloc: Global,
-    looped: &LoopedNetlist<'_>,
-    sweeps: &SweepCounts,
+    counted: &CountedLoops<'_>,
     listed: ListedLoop<'_>,
     sink: &mut TextSink,
 ) -> Result<(), AllocError>
-    requires sweeps { length sweeps.now.per_block ≡ length looped.now.blocks.list }
-    requires listed { IsLoopOf looped.now.net (loop_seen listed) }
-    ensures told { OnOk result (text_bytes sink.new ≡ text_bytes sink.old ++ told_cluster looped.now.net (sweeps_of looped.now.blocks sweeps.now) listed.entry.number listed.entry.first) }
-    ensures looped { OnOk result (IsLooped looped.now) }
+    requires { IsLoopOf counted.now.net (loop_seen listed) }
+    ensures { OnOk result (text_bytes sink.new ≡ text_bytes sink.old ++ told_cluster counted.now.net (counted_sweeps counted.now) listed.entry.number listed.entry.first) }
 {
     if listed.gates.len() > MOST_DRAWN {
-        tell_short(alloc, looped, sweeps, listed, sink)
+        tell_short(alloc, counted, listed, sink)
     } else {
-        tell_whole(alloc, looped, sweeps, listed, sink)
+        tell_whole(alloc, counted, listed, sink)
     }
 }
 
 // The clusters of all loops.
 fn tell_clusters(
     alloc: Global,
-    looped: &LoopedNetlist<'_>,
-    sweeps: &SweepCounts,
+    counted: &CountedLoops<'_>,
     sink: &mut TextSink,
 ) -> Result<(), AllocError>
-    requires { length sweeps.now.per_block ≡ length looped.now.blocks.list }
-    ensures told { OnOk result (text_bytes sink.new ≡ text_bytes sink.old ++ told_clusters looped.now.net (sweeps_of looped.now.blocks sweeps.now)) }
-    ensures on_care { OnOk result ((care : CareSet) → AreSweepsOnCare looped.now.net looped.now.blocks looped.now.cut care sweeps.now →
-        text_bytes sink.new ≡ text_bytes sink.old ++ told_clusters looped.now.net (sweeps_needed looped.now.net care)) }
+    ensures told { OnOk result (text_bytes sink.new ≡ text_bytes sink.old ++ told_clusters counted.now.net (counted_sweeps counted.now)) }
+    ensures on_care { OnOk result ((care : CareSet) → IsCountedOnCare counted.now care → text_bytes sink.new ≡ text_bytes sink.old ++ told_clusters counted.now.net (sweeps_needed counted.now.net care)) }
 {
+    let looped = counted.looped();
     for listed in looped.in_order() {
-        tell_cluster(alloc, looped, sweeps, listed, sink)?;
+        tell_cluster(alloc, counted, listed, sink)?;
     }
     Ok(())
 }
@@ -192,25 +174,21 @@ fn tell_end(sink: &mut TextSink) -> Result<(), AllocError>
 /// gates. The label of a cluster has the lines that `tell_loops` tells of its loop. A loop of over 32 gates is drawn by its
 /// cut wires and the number of the gates between, and its label has the line of its sweeps alone.
 ///
-/// The condition is that there is a number for each block. It takes time in proportion to the loops times the gates and
-/// pins.
+/// It takes time in proportion to the loops times the gates and pins.
 ///
 /// # Errors
 ///
 /// `AllocError` for want of memory alone.
 pub fn tell_loops_graph(
     alloc: Global,
-    looped: &LoopedNetlist<'_>,
-    sweeps: &SweepCounts,
+    counted: &CountedLoops<'_>,
     label: &[u8],
     sink: &mut TextSink,
 ) -> Result<(), AllocError>
-    requires { length sweeps.now.per_block ≡ length looped.now.blocks.list }
-    ensures told { OnOk result (text_bytes sink.new ≡ text_bytes sink.old ++ told_graph looped.now.net label.now (sweeps_of looped.now.blocks sweeps.now)) }
-    ensures on_care { OnOk result ((care : CareSet) → AreSweepsOnCare looped.now.net looped.now.blocks looped.now.cut care sweeps.now →
-        text_bytes sink.new ≡ text_bytes sink.old ++ told_graph looped.now.net label.now (sweeps_needed looped.now.net care)) }
+    ensures told { OnOk result (text_bytes sink.new ≡ text_bytes sink.old ++ told_graph counted.now.net label.now (counted_sweeps counted.now)) }
+    ensures on_care { OnOk result ((care : CareSet) → IsCountedOnCare counted.now care → text_bytes sink.new ≡ text_bytes sink.old ++ told_graph counted.now.net label.now (sweeps_needed counted.now.net care)) }
 {
     tell_head(label, sink)?;
-    tell_clusters(alloc, looped, sweeps, sink)?;
+    tell_clusters(alloc, counted, sink)?;
     tell_end(sink)
 }

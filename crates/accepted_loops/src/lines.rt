@@ -8,24 +8,23 @@ ghost use Rattle.cyc_io.specs.Text.{text_bytes};
 ghost use Rattle.loops.specs.Cones.{is_marked};
 ghost use Rattle.loops.specs.Sweeps.{first_gate};
 ghost use Rattle.loops.specs.Left.{loop_seen};
-ghost use Rattle.loops.specs.Looped.{IsLooped};
 ghost use Rattle.loops.specs.Numbered.{IsLoopOf};
 ghost use Rattle.netlist.specs.Netlists.{signal};
 ghost use Rattle.report.specs.LoopTexts.{loop_lines};
 ghost use Rattle.report.specs.Verdicts.{signal_name};
-ghost use Rattle.rewriting.specs.Rewriting.{sweeps_needed};
-ghost use Rattle.unroll.specs.Unrolled.{sweeps_of};
-ghost use Rattle.verdict.specs.Verdicts.{AreSweepsOnCare};
+ghost use Rattle.rewriting.specs.Rewriting.{sweeps_needed, IsCountedOnCare};
+ghost use Rattle.unroll.specs.Counted.{counted_sweeps};
 ghost use Rattle.accepted_loops.specs.Columns.{marked_columns, AreColumnsRead};
 ghost use Rattle.accepted_loops.specs.Lines.{column_name as column_text, columns_line, sweeps_line, told_lines, told_loops};
 
 use crate::columns::columns_read;
 use cyc_base::{Name, Sig};
 use cyc_io::{Failed, Sink, TextSink, put_numbered, put_two, write_whole};
-use loops::{ListedLoop, LoopedNetlist, SweepCounts};
+use loops::{ListedLoop, LoopedNetlist};
 use netlist::Netlist;
 use report::put_loop;
 use std::alloc::{AllocError, Global};
+use unroll::CountedLoops;
 
 fn column_name(net: &Netlist, column: u32) -> &Name
     requires { column < first_gate net.now }
@@ -112,50 +111,33 @@ fn put_told<K: Sink>(
     put_columns_line(sink, looped.net(), listed.number, read)
 }
 
-// How many sweeps the loop of a gate needs.
-pub(crate) fn sweeps_at(looped: &LoopedNetlist<'_>, sweeps: &SweepCounts, gate: u32) -> u32
-    requires sweeps { length sweeps.now.per_block ≡ length looped.now.blocks.list }
-    requires gate { gate < length looped.now.net.gates }
-    ensures sweeps { result ≡ sweeps_of looped.now.blocks sweeps.now gate }
-    ensures looped { IsLooped looped.now }
-{
-    let home = looped.blocks().home.items()[gate as usize];
-    sweeps.per_block.items()[home as usize]
-}
-
 // The lines of a loop that speaks of the marked columns.
 fn put_loop_told<K: Sink>(
     sink: &mut K,
-    looped: &LoopedNetlist<'_>,
-    sweeps: &SweepCounts,
+    counted: &CountedLoops<'_>,
     listed: ListedLoop<'_>,
     read: &[bool],
 ) -> Result<(), Failed>
-    requires sweeps { length sweeps.now.per_block ≡ length looped.now.blocks.list }
-    requires listed { IsLoopOf looped.now.net (loop_seen listed) }
-    requires read { AreColumnsRead looped.now.net listed.first read.now }
-    ensures told { IsAppended (told_lines looped.now.net (sweeps_of looped.now.blocks sweeps.now) listed.entry.number listed.entry.first) (sink_call K.put K.faults sink.old sink.new) result }
-    ensures looped { IsLooped looped.now }
+    requires listed { IsLoopOf counted.now.net (loop_seen listed) }
+    requires read { AreColumnsRead counted.now.net listed.first read.now }
+    ensures { IsAppended (told_lines counted.now.net (counted_sweeps counted.now) listed.entry.number listed.entry.first) (sink_call K.put K.faults sink.old sink.new) result }
 {
-    let count = sweeps_at(looped, sweeps, listed.first);
-    put_told(sink, looped, listed, count, read)
+    let sweeps = counted.sweeps_of(listed.first);
+    put_told(sink, counted.looped(), listed, sweeps, read)
 }
 
 // The lines of a loop.
 pub(crate) fn tell_loop(
     alloc: Global,
-    looped: &LoopedNetlist<'_>,
-    sweeps: &SweepCounts,
+    counted: &CountedLoops<'_>,
     listed: ListedLoop<'_>,
     sink: &mut TextSink,
 ) -> Result<(), AllocError>
-    requires sweeps { length sweeps.now.per_block ≡ length looped.now.blocks.list }
-    requires listed { IsLoopOf looped.now.net (loop_seen listed) }
-    ensures told { OnOk result (text_bytes sink.new ≡ text_bytes sink.old ++ told_lines looped.now.net (sweeps_of looped.now.blocks sweeps.now) listed.entry.number listed.entry.first) }
-    ensures looped { OnOk result (IsLooped looped.now) }
+    requires { IsLoopOf counted.now.net (loop_seen listed) }
+    ensures { OnOk result (text_bytes sink.new ≡ text_bytes sink.old ++ told_lines counted.now.net (counted_sweeps counted.now) listed.entry.number listed.entry.first) }
 {
-    let read = columns_read(alloc, looped, listed.first)?;
-    if put_loop_told(sink, looped, sweeps, listed, &read).is_err() {
+    let read = columns_read(alloc, counted.looped(), listed.first)?;
+    if put_loop_told(sink, counted, listed, &read).is_err() {
         return Err(AllocError);
     }
     Ok(())
@@ -164,25 +146,22 @@ pub(crate) fn tell_loop(
 /// Appends the lines of all loops of a netlist, in the order of their first gates: for each those of `loops`, then how many
 /// sweeps it needs, then the columns that are read by a gate of it or by what drives it.
 ///
-/// The condition is that there is a number for each block. It takes time in proportion to the loops times the gates and
-/// pins.
+/// It takes time in proportion to the loops times the gates and pins.
 ///
 /// # Errors
 ///
 /// `AllocError` for want of memory alone.
 pub fn tell_loops(
     alloc: Global,
-    looped: &LoopedNetlist<'_>,
-    sweeps: &SweepCounts,
+    counted: &CountedLoops<'_>,
     sink: &mut TextSink,
 ) -> Result<(), AllocError>
-    requires { length sweeps.now.per_block ≡ length looped.now.blocks.list }
-    ensures told { OnOk result (text_bytes sink.new ≡ text_bytes sink.old ++ told_loops looped.now.net (sweeps_of looped.now.blocks sweeps.now)) }
-    ensures on_care { OnOk result ((care : CareSet) → AreSweepsOnCare looped.now.net looped.now.blocks looped.now.cut care sweeps.now →
-        text_bytes sink.new ≡ text_bytes sink.old ++ told_loops looped.now.net (sweeps_needed looped.now.net care)) }
+    ensures told { OnOk result (text_bytes sink.new ≡ text_bytes sink.old ++ told_loops counted.now.net (counted_sweeps counted.now)) }
+    ensures on_care { OnOk result ((care : CareSet) → IsCountedOnCare counted.now care → text_bytes sink.new ≡ text_bytes sink.old ++ told_loops counted.now.net (sweeps_needed counted.now.net care)) }
 {
+    let looped = counted.looped();
     for listed in looped.in_order() {
-        tell_loop(alloc, looped, sweeps, listed, sink)?;
+        tell_loop(alloc, counted, listed, sink)?;
     }
     Ok(())
 }

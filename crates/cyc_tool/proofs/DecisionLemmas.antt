@@ -18,16 +18,16 @@ use Rattle.refusals.specs.declared.observe.Observe.{Observe}
 use Rattle.refusals.specs.declared.refusal.Refusal.TheVariants.{Initial, EmptyCare, Leaves as LeavesCare}
 use Rattle.refusals.proofs.LawLemmas.{accepted_without_refusal, refusal_is_shown}
 use Rattle.report.specs.Verdicts.{accepted_text, ring_line}
-use Rattle.rewriting.specs.Graphs.{graph_of, most_ands, IsGraphIn, IsGraphing}
-use Rattle.rewriting.specs.Rewriting.{rewritten, rewritten_size, IsCaseFault, IsLoopFreeForm, IsRewriting}
+use Rattle.rewriting.specs.Graphs.{graph_of, most_ands, most_columns, IsGraphIn, IsGraphing}
+use Rattle.rewriting.specs.Rewriting.{rewritten, rewritten_size, IsCaseFault, IsCountedOnCare, IsLoopFreeForm, IsRewriting}
+use Rattle.unroll.specs.Counted.{Counted}
 use Rattle.unroll.specs.Laws.{KeepsInterface}
 use Rattle.unroll.specs.Unrolled.{IsUnrollFault}
 use Rattle.unroll.specs.declared.fault.UnrollFault.{UnrollFault}
 use Rattle.unroll.specs.declared.fault.UnrollFault.TheVariants.{TooLarge, Memory}
 use Rattle.loops.specs.declared.structure.Blocks.{Blocks}
 use Rattle.loops.specs.declared.structure.Cut.{Cut}
-use Rattle.loops.specs.declared.structure.SweepCounts.{SweepCounts}
-use Rattle.verdict.specs.Verdicts.{AreLoose, AreSweepsOnCare, IsJudgement, IsVerdict}
+use Rattle.verdict.specs.Verdicts.{AreLoose, IsJudgement, IsVerdict}
 use Rattle.verdict.specs.Causes.{IsOutOfNodes}
 use Rattle.verdict.specs.Enough.{IsBelowEnough}
 use Rattle.verdict.specs.declared.fault.DecideFault.{DecideFault}
@@ -164,29 +164,29 @@ demonstrated net care limit what cells gates end same is = record {
 }
 
 -- the gates of a netlist that was made by rewriting
-pub gates_counted : (net : Parts) (blocks : Blocks) (cut : Cut) (counts : SweepCounts) (made : Result Parts UnrollFault) (other : Parts) (gates : ℕ)
-    → made ≡ Ok other → gates ≡ length other.gates
-    → IfOk made (λ other. (care : CareSet) (what : Observe) → Accepts net care what → AreSweepsOnCare net blocks cut care counts → IsRewriting net care other)
-    → (care : CareSet) (what : Observe) → Accepts net care what → AreSweepsOnCare net blocks cut care counts → gates ≡ length (rewritten net care).gates
-gates_counted net blocks cut counts made other gates is same rewriting care what accepts sweeps =
-    let P : Result Parts UnrollFault → Type 0 = λ r. IfOk r (λ other. (care : CareSet) (what : Observe) → Accepts net care what
-    → AreSweepsOnCare net blocks cut care counts → IsRewriting net care other) in
-    let here : (care : CareSet) (what : Observe) → Accepts net care what → AreSweepsOnCare net blocks cut care counts → IsRewriting net care other = subst P is rewriting in
+pub gates_counted : (counted : Counted) (made : Result Parts UnrollFault) (other : Parts) (gates : ℕ) → made ≡ Ok other → gates ≡ length other.gates
+    → IfOk made (λ other. (care : CareSet) (what : Observe) → Accepts counted.net care what → IsCountedOnCare counted care → IsRewriting counted.net care other)
+    → (care : CareSet) (what : Observe) → Accepts counted.net care what → IsCountedOnCare counted care → gates ≡ length (rewritten counted.net care).gates
+gates_counted counted made other gates is same rewriting care what accepts sweeps =
+    let P : Result Parts UnrollFault → Type 0 = λ r. IfOk r (λ other. (care : CareSet) (what : Observe) → Accepts counted.net care what
+    → IsCountedOnCare counted care → IsRewriting counted.net care other) in
+    let here : (care : CareSet) (what : Observe) → Accepts counted.net care what → IsCountedOnCare counted care → IsRewriting counted.net care other = subst P is rewriting in
     same ∙ ap (λ (n : Parts). length n.gates) (here care what accepts sweeps).is
 
-is_within : (size : ℕ) → size ≤ 4000000 → nat_le size MAX_REWRITTEN_ITEMS ≡ true
+is_within : (size : ℕ) → size ≤ MAX_REWRITTEN_ITEMS → nat_le size MAX_REWRITTEN_ITEMS ≡ true
 is_within size small = grind (arith, small)
 
-is_over : (size : ℕ) → 4000000 < size → nat_le size MAX_REWRITTEN_ITEMS ≡ false
+is_over : (size : ℕ) → MAX_REWRITTEN_ITEMS < size → nat_le size MAX_REWRITTEN_ITEMS ≡ false
 is_over size over = grind (arith, over)
 
-pub was_rewritten : (net : Parts) (blocks : Blocks) (cut : Cut) (counts : SweepCounts) (care : CareSet) (limit : ℕ) (what : Observe)
-    (made : Result Parts UnrollFault) (end : Told) → IsToldOf made end → Accepts net care what → AreSweepsOnCare net blocks cut care counts
-    → IfOk made (λ other. (care : CareSet) (what : Observe) → Accepts net care what → AreSweepsOnCare net blocks cut care counts → IsRewriting net care other)
-    → OnOk made ((care : CareSet) → AreSweepsOnCare net blocks cut care counts → rewritten_size net care ≤ 4000000)
-    → IfErr made (λ fault. (care : CareSet) → AreSweepsOnCare net blocks cut care counts → IsUnrollFault (rewritten_size net care) fault)
-    → IsAccepted (decision_of net care limit what) (Rewrites None) (outcome_of end)
-was_rewritten net blocks cut counts care limit what (Ok other) end same accepts sweeps rewriting small fault =
+pub was_rewritten : (counted : Counted) (care : CareSet) (limit : ℕ) (what : Observe)
+    (made : Result Parts UnrollFault) (end : Told) → IsToldOf made end → Accepts counted.net care what → IsCountedOnCare counted care
+    → IfOk made (λ other. (care : CareSet) (what : Observe) → Accepts counted.net care what → IsCountedOnCare counted care → IsRewriting counted.net care other)
+    → OnOk made ((care : CareSet) → IsCountedOnCare counted care → rewritten_size counted.net care ≤ MAX_REWRITTEN_ITEMS)
+    → IfErr made (λ fault. (care : CareSet) → IsCountedOnCare counted care → IsUnrollFault (rewritten_size counted.net care) fault)
+    → IsAccepted (decision_of counted.net care limit what) (Rewrites None) (outcome_of end)
+was_rewritten counted care limit what (Ok other) end same accepts sweeps rewriting small fault =
+    let net = counted.net in
     let is = rewriting care what accepts sweeps in
     record {
       is = same ∙ ap (λ (n : Parts). told (Prints (written n))) is.is
@@ -194,7 +194,8 @@ was_rewritten net blocks cut counts care limit what (Ok other) end same accepts 
           (is_within (rewritten_size net care) (small care sweeps)));
       made = λ within. subst (IsRewriting net care) is.is is;
     }
-was_rewritten net blocks cut counts care limit what (Err (TooLarge size)) end same accepts sweeps rewriting small fault =
+was_rewritten counted care limit what (Err (TooLarge size)) end same accepts sweeps rewriting small fault =
+    let net = counted.net in
     let is = fault care sweeps in
     record {
       is = same ∙ ap (λ (n : ℕ). told (Outgrows n)) is.1
@@ -202,10 +203,10 @@ was_rewritten net blocks cut counts care limit what (Err (TooLarge size)) end sa
           (is_over (rewritten_size net care) is.0));
       made = λ within. absurd (let over = is.0 in omega (arith, over, within));
     }
-was_rewritten net blocks cut counts care limit what (Err Memory) end same accepts sweeps rewriting small fault = absurd same
+was_rewritten counted care limit what (Err Memory) end same accepts sweeps rewriting small fault = absurd same
 
 -- how many columns a netlist has that keeps the interface
-pub kept_columns : (net other : Parts) → KeepsInterface net other → columns net ≤ 1000000000 → columns other ≤ 1000000000
+pub kept_columns : (net other : Parts) → KeepsInterface net other → columns net ≤ most_columns → columns other ≤ most_columns
 kept_columns net other keeps few =
     let inputs = ap length keeps.inputs in
     let names = ap length keeps.latches in
@@ -232,7 +233,7 @@ told_where encoding net care limit what t is =
 
 -- what is told of the graph of a netlist that was made by rewriting
 pub was_graphed : (encoding : Encoding) (net : Parts) (care : CareSet) (limit : ℕ) (what : Observe) (other : Parts) (made : Result Built AigFault) (end : Told) → IsToldOfGraph encoding other made end
-    → IsNetlist net → Accepts net care what → rewritten_size net care ≤ 4000000 → IsRewriting net care other
+    → IsNetlist net → Accepts net care what → rewritten_size net care ≤ MAX_REWRITTEN_ITEMS → IsRewriting net care other
     → IfOk made (λ graph. graph ≡ built other) → IfOk made (λ graph. length graph.aig.ands ≤ most_ands)
     → IfOk made (λ graph. (net : Parts) (care : CareSet) (what : Observe) → IsNetlist net → Accepts net care what → IsLoopFreeForm net care other → IsGraphIn net care other graph)
     → IfErr made (λ fault. fault ≡ ManyAnds → most_ands < length (built other).aig.ands)

@@ -7,7 +7,7 @@ ghost use Rattle.care_sets.specs.Binding.{IsCareOf};
 ghost use Rattle.care_sets.specs.Care.{CareSet};
 ghost use Rattle.commands.specs.Seen.{cells_seen, making_seen, purpose_seen, telling_seen};
 ghost use Rattle.commands.specs.Words.{Rewrites, WritesGraph};
-ghost use Rattle.cyc_base.specs.declared.limits.TheConstants.{MAX_NODES as most_nodes};
+ghost use Rattle.cyc_base.specs.declared.limits.TheConstants.{MAX_NODES as most_nodes, MAX_REWRITTEN_ITEMS};
 ghost use Rattle.netlist.specs.Netlists.{IsNetlist};
 ghost use Rattle.netlist.specs.Walks.{IsLoopFree};
 ghost use Rattle.netlist.specs.declared.parts.Parts.{Parts};
@@ -15,8 +15,9 @@ ghost use Rattle.refusals.specs.Acceptance.{Accepts};
 ghost use Rattle.refusals.specs.Refusals.{IsRefusalOf};
 ghost use Rattle.refusals.specs.declared.observe.Observe.{Observe as Observed};
 ghost use Rattle.report.specs.Verdicts.{accepted_text, ring_line};
-ghost use Rattle.rewriting.specs.Rewriting.{rewritten as rewritten_netlist, rewritten_size as rewritten_size_of, IsRewriting};
-ghost use Rattle.verdict.specs.Verdicts.{AreLoose, AreSweepsOnCare, IsAcceptance, IsJudgement, IsVerdict};
+ghost use Rattle.rewriting.specs.Graphs.{most_columns};
+ghost use Rattle.rewriting.specs.Rewriting.{rewritten as rewritten_netlist, rewritten_size as rewritten_size_of, IsCountedOnCare, IsRewriting};
+ghost use Rattle.verdict.specs.Verdicts.{AreLoose, IsAcceptance, IsJudgement, IsVerdict};
 ghost use Rattle.cyc_tool.specs.Answer.{told as done};
 ghost use Rattle.cyc_tool.specs.Calls.{IsAccepted, IsDecided};
 ghost use Rattle.cyc_tool.specs.Endings.{count_of_loops, where_outputs};
@@ -36,14 +37,13 @@ use bdd_ops::Diagrams;
 use care_sets::Care;
 use commands::{Cells, Encoding, Making, Purpose, Telling};
 use cyc_io::TextSink;
-use fixpoint::SweepCounts;
 use loops::{LoopedNetlist, find_blocks, find_cut};
 use netlist::Netlist;
 use refusals::{Observe, Refusal};
 use report::put_ring;
 use rewriting::{AigFault, Built, graph, rewrite, rewritten_gates};
 use std::alloc::{AllocError, Global};
-use unroll::UnrollFault;
+use unroll::{CountedLoops, UnrollFault};
 use verdict::{DecideFault, Judgement, Verdict, decide, judge};
 
 // The first number of ANDs that a graph can't have.
@@ -116,16 +116,14 @@ pub(crate) fn tell_rewriting(
 // Rewrites an accepted netlist, and tells what comes of it.
 pub(crate) fn tell_rewritten(
     alloc: Global,
-    looped: &LoopedNetlist<'_>,
-    sweeps: &SweepCounts,
+    counted: &CountedLoops<'_>,
 ) -> Result<Outcome, AllocError>
-    requires sweeps { length sweeps.now.per_block ≡ length looped.now.blocks.list }
-    requires columns { columns looped.now.net ≤ 1000000000 }
-    ensures { IfOk result (λ told. (care : CareSet) (observe : Observed) (limit : ℕ) → Accepts looped.now.net care observe →
-        AreSweepsOnCare looped.now.net looped.now.blocks looped.now.cut care sweeps.now →
-        IsAccepted record { net = looped.now.net; care = care; limit = limit; observe = observe } (Rewrites None) (outcome_of told)) }
+    requires columns { columns counted.now.net ≤ most_columns }
+    ensures { IfOk result (λ told. (care : CareSet) (observe : Observed) (limit : ℕ) → Accepts counted.now.net care observe →
+        IsCountedOnCare counted.now care →
+        IsAccepted record { net = counted.now.net; care = care; limit = limit; observe = observe } (Rewrites None) (outcome_of told)) }
 {
-    let rewriting = rewrite(alloc, looped, sweeps);
+    let rewriting = rewrite(alloc, counted);
     tell_rewriting(alloc, &rewriting)
 }
 
@@ -158,9 +156,9 @@ pub(crate) fn tell_graph(
 // Makes the graph of a netlist without loops, and tells what comes of it.
 fn tell_graph_of(alloc: Global, other: &Netlist, encoding: Encoding) -> Result<Outcome, AllocError>
     requires loop_free { IsLoopFree other.now }
-    requires columns { columns other.now ≤ 1000000000 }
+    requires columns { columns other.now ≤ most_columns }
     ensures { IfOk result (λ told. (net : Parts) (care : CareSet) (observe : Observed) (limit : ℕ) → IsNetlist net → Accepts net care observe →
-        rewritten_size_of net care ≤ 4000000 → IsRewriting net care other.now →
+        rewritten_size_of net care ≤ MAX_REWRITTEN_ITEMS → IsRewriting net care other.now →
         IsAccepted record { net = net; care = care; limit = limit; observe = observe } (WritesGraph encoding None) (outcome_of told)) }
 {
     let made = graph(alloc, other);
@@ -170,18 +168,16 @@ fn tell_graph_of(alloc: Global, other: &Netlist, encoding: Encoding) -> Result<O
 // Rewrites an accepted netlist, and tells what comes of its graph.
 pub(crate) fn tell_graphed(
     alloc: Global,
-    looped: &LoopedNetlist<'_>,
-    sweeps: &SweepCounts,
+    counted: &CountedLoops<'_>,
     encoding: Encoding,
 ) -> Result<Outcome, AllocError>
-    requires valid { IsNetlist looped.now.net }
-    requires sweeps { length sweeps.now.per_block ≡ length looped.now.blocks.list }
-    requires columns { columns looped.now.net ≤ 1000000000 }
-    ensures { IfOk result (λ told. (care : CareSet) (observe : Observed) (limit : ℕ) → Accepts looped.now.net care observe →
-        AreSweepsOnCare looped.now.net looped.now.blocks looped.now.cut care sweeps.now →
-        IsAccepted record { net = looped.now.net; care = care; limit = limit; observe = observe } (WritesGraph encoding None) (outcome_of told)) }
+    requires valid { IsNetlist counted.now.net }
+    requires columns { columns counted.now.net ≤ most_columns }
+    ensures { IfOk result (λ told. (care : CareSet) (observe : Observed) (limit : ℕ) → Accepts counted.now.net care observe →
+        IsCountedOnCare counted.now care →
+        IsAccepted record { net = counted.now.net; care = care; limit = limit; observe = observe } (WritesGraph encoding None) (outcome_of told)) }
 {
-    let rewriting = rewrite(alloc, looped, sweeps);
+    let rewriting = rewrite(alloc, counted);
     match &rewriting {
         Ok(other) => tell_graph_of(alloc, other, encoding),
         Err(fault) => tell_outgrown(alloc, fault),
@@ -189,19 +185,14 @@ pub(crate) fn tell_graphed(
 }
 
 // How many gates the rewritten netlist of an accepted one has. It is made, unless it is too large.
-fn count_rewritten(
-    alloc: Global,
-    looped: &LoopedNetlist<'_>,
-    sweeps: &SweepCounts,
-) -> Result<u64, AllocError>
-    requires sweeps { length sweeps.now.per_block ≡ length looped.now.blocks.list }
-    requires columns { columns looped.now.net ≤ 1000000000 }
-    ensures { IfOk result (λ gates. (care : CareSet) (observe : Observed) → Accepts looped.now.net care observe →
-        AreSweepsOnCare looped.now.net looped.now.blocks looped.now.cut care sweeps.now → gates ≡ length (rewritten_netlist looped.now.net care).gates) }
+fn count_rewritten(alloc: Global, counted: &CountedLoops<'_>) -> Result<u64, AllocError>
+    requires columns { columns counted.now.net ≤ most_columns }
+    ensures { IfOk result (λ gates. (care : CareSet) (observe : Observed) → Accepts counted.now.net care observe →
+        IsCountedOnCare counted.now care → gates ≡ length (rewritten_netlist counted.now.net care).gates) }
 {
-    match rewrite(alloc, looped, sweeps) {
+    match rewrite(alloc, counted) {
         Ok(other) => Ok(u64::from(other.gates())),
-        Err(UnrollFault::TooLarge { size: _ }) => Ok(rewritten_gates(looped, sweeps)),
+        Err(UnrollFault::TooLarge { size: _ }) => Ok(rewritten_gates(counted)),
         Err(UnrollFault::Memory) => Err(AllocError),
     }
 }
@@ -284,36 +275,32 @@ fn tell_judgement(
 // What is told of an accepted netlist of which something is made.
 fn tell_acceptance(
     alloc: Global,
-    looped: &LoopedNetlist<'_>,
+    counted: &CountedLoops<'_>,
     care: &Care,
     task: Task,
     making: Making,
-    sweeps: &SweepCounts,
     loose: u32,
     d: &mut Diagrams,
 ) -> Result<Outcome, AllocError>
-    requires valid { IsNetlist looped.now.net }
-    requires sweeps { length sweeps.now.per_block ≡ length looped.now.blocks.list }
-    requires columns { columns looped.now.net ≤ 1000000000 }
-    requires care { IsCareOf looped.now.net care.now }
+    requires valid { IsNetlist counted.now.net }
+    requires columns { columns counted.now.net ≤ most_columns }
+    requires care { IsCareOf counted.now.net care.now }
     requires limit { task.limit ≤ most_nodes }
-    ensures { IfOk result (λ told. IsAcceptance looped.now.net looped.now.blocks looped.now.cut care.now task.observe sweeps.now loose → (limit : ℕ) →
-        IsAccepted record { net = looped.now.net; care = care.now; limit = limit; observe = task.observe } (making_seen making) (outcome_of told)) }
+    ensures { IfOk result (λ told. IsAcceptance counted.now.net counted.now.blocks counted.now.cut care.now task.observe counted.now.sweeps loose → (limit : ℕ) →
+        IsAccepted record { net = counted.now.net; care = care.now; limit = limit; observe = task.observe } (making_seen making) (outcome_of told)) }
 {
     match making {
-        Making::Rewrite(split) => {
-            tell_rewritten_in(alloc, looped, care, task.limit, split, sweeps, d)
-        }
+        Making::Rewrite(split) => { tell_rewritten_in(alloc, counted, care, task.limit, split, d) }
         Making::Aiger(encoding, split) => {
-            tell_graphed_in(alloc, looped, care, task.limit, split, sweeps, encoding, d)
+            tell_graphed_in(alloc, counted, care, task.limit, split, encoding, d)
         }
         Making::Explain(form) => {
             let number = loose_told(task.observe, loose);
-            tell_loops_explained(alloc, looped, sweeps, number, form)
+            tell_loops_explained(alloc, counted, number, form)
         }
         Making::Demonstrate(cells) => {
-            let rewritten = count_rewritten(alloc, looped, sweeps)?;
-            tell_ring(alloc, cells, looped, rewritten)
+            let rewritten = count_rewritten(alloc, counted)?;
+            tell_ring(alloc, cells, counted.looped(), rewritten)
         }
     }
 }
@@ -348,7 +335,7 @@ fn tell_verdict(
     d: &mut Diagrams,
 ) -> Result<Outcome, AllocError>
     requires valid { IsNetlist looped.now.net }
-    requires columns { columns looped.now.net ≤ 1000000000 }
+    requires columns { columns looped.now.net ≤ most_columns }
     requires care { IsCareOf looped.now.net care.now }
     requires limit { task.limit ≤ most_nodes }
     requires fits { IsTellable looped.now.net looped.now.blocks verdict.now }
@@ -357,7 +344,8 @@ fn tell_verdict(
 {
     match verdict {
         Verdict::Accepted { sweeps, loose } => {
-            tell_acceptance(alloc, looped, care, task, making, sweeps, *loose, d)
+            let counted = CountedLoops::new(looped, sweeps);
+            tell_acceptance(alloc, &counted, care, task, making, *loose, d)
         }
         Verdict::Refused(refusal) => tell_refusal(alloc, looped, making, refusal),
     }
@@ -408,7 +396,7 @@ fn tell_decided(
     d: &mut Diagrams,
 ) -> Result<Outcome, AllocError>
     requires valid { IsNetlist looped.now.net }
-    requires columns { columns looped.now.net ≤ 1000000000 }
+    requires columns { columns looped.now.net ≤ most_columns }
     requires care { IsCareOf looped.now.net care.now }
     requires limit { task.limit ≤ most_nodes }
     ensures { IfOk result (λ told. IsDecided record { net = looped.now.net; care = care.now; limit = task.limit; observe = task.observe }
@@ -434,7 +422,7 @@ pub(crate) fn tell_decision(
     d: &mut Diagrams,
 ) -> Result<Outcome, AllocError>
     requires valid { IsNetlist net.now }
-    requires columns { columns net.now ≤ 1000000000 }
+    requires columns { columns net.now ≤ most_columns }
     requires care { IsCareOf net.now care.now }
     requires limit { task.limit ≤ most_nodes }
     ensures { IfOk result (λ told. IsDecided record { net = net.now; care = care.now; limit = task.limit; observe = task.observe }

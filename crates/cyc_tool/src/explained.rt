@@ -6,14 +6,13 @@ ghost use Rattle.cyc_base.specs.declared.trit.Trit.TheVariants.{X};
 ghost use Rattle.cyc_base.specs.Values.{bits};
 ghost use Rattle.accepted_loops.specs.Graphs.{told_graph};
 ghost use Rattle.explanations.specs.Explained.{Explains};
-ghost use Rattle.rewriting.specs.Rewriting.{sweeps_needed};
+ghost use Rattle.rewriting.specs.Rewriting.{sweeps_needed, IsCountedOnCare};
 ghost use Rattle.loops.specs.Sweeps.{gate_of};
 ghost use Rattle.netlist.specs.Fixpoint.{fix, wire as wire_of};
 ghost use Rattle.netlist.specs.Netlists.{IsNetlist};
 ghost use Rattle.refusals.specs.Refusals.{IsAt, IsRefusalOf};
 ghost use Rattle.refusals.specs.declared.refusal.Refusal.TheVariants.{Undetermined};
 ghost use Rattle.report.specs.Explanations.{IsExplanationOf};
-ghost use Rattle.verdict.specs.Verdicts.{AreSweepsOnCare};
 ghost use Rattle.cyc_tool.specs.Answer.{told as done, IsWireExplained};
 ghost use Rattle.cyc_tool.specs.Endings.{loops_explained, refusal_shown, wire_explained};
 ghost use Rattle.cyc_tool.specs.Plans.{Prints, Refuses};
@@ -28,12 +27,12 @@ use cyc_base::Sig;
 use cyc_io::TextSink;
 use dot_text::{put_refusal_graph, tell_explanation_graph};
 use explanations::{Explanation, explain};
-use fixpoint::SweepCounts;
 use loops::LoopedNetlist;
 use netlist::Netlist;
 use refusals::Refusal;
 use report::put_explained;
 use std::alloc::{AllocError, Global};
+use unroll::CountedLoops;
 
 // A wire that is refused at a vector.
 #[derive(Drop)]
@@ -186,67 +185,59 @@ pub(crate) fn tell_explained(
 // The line of an accepted netlist, and behind it those of its loops.
 fn list_loops(
     alloc: Global,
-    looped: &LoopedNetlist<'_>,
-    sweeps: &SweepCounts,
+    counted: &CountedLoops<'_>,
     loose: Option<u32>,
 ) -> Result<Outcome, AllocError>
-    requires { length sweeps.now.per_block ≡ length looped.now.blocks.list }
-    ensures { IfOk result (λ told. (care : CareSet) → AreSweepsOnCare looped.now.net looped.now.blocks looped.now.cut care sweeps.now →
-        outcome_of told ≡ done (Prints (loops_explained Lines looped.now.net care loose))) }
+    ensures { IfOk result (λ told. (care : CareSet) → IsCountedOnCare counted.now care →
+        outcome_of told ≡ done (Prints (loops_explained Lines counted.now.net care loose))) }
 {
     let mut sink = TextSink::new(alloc);
-    if put_accepted_line(looped, loose, &mut sink).is_err() {
+    if put_accepted_line(counted.looped(), loose, &mut sink).is_err() {
         return Err(AllocError);
     }
-    tell_loops(alloc, looped, sweeps, &mut sink)?;
+    tell_loops(alloc, counted, &mut sink)?;
     Ok(on_out(alloc, status::DONE, sink.into_vec()))
 }
 
 // The graph of the loops, with this text as its label.
 fn draw_labelled(
     alloc: Global,
-    looped: &LoopedNetlist<'_>,
-    sweeps: &SweepCounts,
+    counted: &CountedLoops<'_>,
     label: &[u8],
 ) -> Result<Outcome, AllocError>
-    requires { length sweeps.now.per_block ≡ length looped.now.blocks.list }
-    ensures { IfOk result (λ told. (care : CareSet) → AreSweepsOnCare looped.now.net looped.now.blocks looped.now.cut care sweeps.now →
-        outcome_of told ≡ done (Prints (told_graph looped.now.net label.now (sweeps_needed looped.now.net care)))) }
+    ensures { IfOk result (λ told. (care : CareSet) → IsCountedOnCare counted.now care →
+        outcome_of told ≡ done (Prints (told_graph counted.now.net label.now (sweeps_needed counted.now.net care)))) }
 {
     let mut sink = TextSink::new(alloc);
-    tell_loops_graph(alloc, looped, sweeps, label, &mut sink)?;
+    tell_loops_graph(alloc, counted, label, &mut sink)?;
     Ok(on_out(alloc, status::DONE, sink.into_vec()))
 }
 
 // The same with the line of an accepted netlist as its label.
 fn draw_loops(
     alloc: Global,
-    looped: &LoopedNetlist<'_>,
-    sweeps: &SweepCounts,
+    counted: &CountedLoops<'_>,
     loose: Option<u32>,
 ) -> Result<Outcome, AllocError>
-    requires { length sweeps.now.per_block ≡ length looped.now.blocks.list }
-    ensures { IfOk result (λ told. (care : CareSet) → AreSweepsOnCare looped.now.net looped.now.blocks looped.now.cut care sweeps.now →
-        outcome_of told ≡ done (Prints (loops_explained Dot looped.now.net care loose))) }
+    ensures { IfOk result (λ told. (care : CareSet) → IsCountedOnCare counted.now care →
+        outcome_of told ≡ done (Prints (loops_explained Dot counted.now.net care loose))) }
 {
-    let label = accepted_line(alloc, looped, loose)?;
-    draw_labelled(alloc, looped, sweeps, &label)
+    let label = accepted_line(alloc, counted.looped(), loose)?;
+    draw_labelled(alloc, counted, &label)
 }
 
 // What is told of an accepted netlist and of its loops, as lines or as a graph.
 pub(crate) fn tell_loops_explained(
     alloc: Global,
-    looped: &LoopedNetlist<'_>,
-    sweeps: &SweepCounts,
+    counted: &CountedLoops<'_>,
     loose: Option<u32>,
     form: Form,
 ) -> Result<Outcome, AllocError>
-    requires { length sweeps.now.per_block ≡ length looped.now.blocks.list }
-    ensures { IfOk result (λ told. (care : CareSet) → AreSweepsOnCare looped.now.net looped.now.blocks looped.now.cut care sweeps.now →
-        outcome_of told ≡ done (Prints (loops_explained form looped.now.net care loose))) }
+    ensures { IfOk result (λ told. (care : CareSet) → IsCountedOnCare counted.now care →
+        outcome_of told ≡ done (Prints (loops_explained form counted.now.net care loose))) }
 {
     match form {
-        Form::Lines => list_loops(alloc, looped, sweeps, loose),
-        Form::Dot => draw_loops(alloc, looped, sweeps, loose),
+        Form::Lines => list_loops(alloc, counted, loose),
+        Form::Dot => draw_loops(alloc, counted, loose),
     }
 }

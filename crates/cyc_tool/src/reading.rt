@@ -4,6 +4,7 @@ ghost use Rattle.netlist.specs.Netlists.{IsNetlist};
 ghost use Rattle.aig_core.specs.Building.{columns};
 ghost use Rattle.care_sets.specs.Binding.{IsCareOf};
 ghost use Rattle.parsed_files.specs.Seen.{error_seen};
+ghost use Rattle.rewriting.specs.Graphs.{most_columns};
 ghost use Rattle.cyc_io.specs.Faults.{ChangesCountOf};
 ghost use Rattle.cyc_tool.specs.Calls.{shelf_call};
 ghost use Rattle.cyc_tool.specs.Plans.{with_care, with_netlist, with_schedule, with_vectors};
@@ -59,7 +60,7 @@ pub(crate) fn read_netlist<S: Shelf>(
 ) -> Result<Netlist, Stop>
     ensures good { IfOk result (λ net. GoesOn (with_netlist file.now) net (shelf_call S.files S.faults shelf.old shelf.new)) }
     ensures valid { IfOk result IsNetlist }
-    ensures columns { IfOk result (λ net. columns net ≤ 1000000000) }
+    ensures columns { IfOk result (λ net. columns net ≤ most_columns) }
     ensures bad { IfErr result (λ stop. StopsIn (with_netlist file.now) (shelf_call S.files S.faults shelf.old shelf.new) (stop_outcome stop)) }
     ensures same { S.files shelf.new ≡ S.files shelf.old }
 {

@@ -8,6 +8,7 @@ ghost use Rattle.parsed_files.specs.NetlistFiles.{netlist_of as netlist_meant};
 ghost use Rattle.maker.specs.Faults.{AreTexts};
 ghost use Rattle.maker.specs.Ring.{ring_text, care_text};
 ghost use Rattle.netlist.specs.Netlists.{IsNetlist};
+ghost use Rattle.rewriting.specs.Graphs.{most_columns};
 ghost use Rattle.cyc_tool.specs.Plans.{ring_care_file, ring_deciding, ring_deciding_on, ring_file};
 ghost use Rattle.cyc_tool.specs.Reading.{FollowsStill, IsStoppedBy};
 ghost use Rattle.cyc_tool.specs.Seen.{end_of, stop_outcome};
@@ -38,7 +39,7 @@ fn ring_texts(alloc: Global, cells: Cells) -> Result<(Vec<u8>, Vec<u8>), AllocEr
 fn ring_netlist(alloc: Global, text: Vec<u8>) -> Result<Netlist, Stop>
     ensures good { IfOk result (λ net. netlist_meant text.items ≡ Ok net) }
     ensures valid { IfOk result IsNetlist }
-    ensures columns { IfOk result (λ net. columns net ≤ 1000000000) }
+    ensures columns { IfOk result (λ net. columns net ≤ most_columns) }
     ensures bad { IfErr result (λ stop. IsStoppedBy ring_file (netlist_meant text.items) (stop_outcome stop)) }
 {
     let file = Name::copied_from(alloc, b"ring.blif")?;
@@ -69,7 +70,7 @@ fn decide_ring_on(
     d: &mut Diagrams,
 ) -> Result<Outcome, Stop>
     requires valid { IsNetlist net.now }
-    requires columns { columns net.now ≤ 1000000000 }
+    requires columns { columns net.now ≤ most_columns }
     requires care { care.now ≡ care_text (cells_seen cells) }
     ensures { FollowsStill (ring_deciding_on (cells_seen cells) net.now) d.new (end_of result) }
 {

@@ -1,5 +1,5 @@
 // Accepted netlists that are split by cases.
-ghost use Rattle.std.specs.Prelude.{◌≡◌, ◌≤◌, ℕ, IfOk, Some, length};
+ghost use Rattle.std.specs.Prelude.{◌≤◌, ℕ, IfOk, Some};
 ghost use Rattle.aig_core.specs.Building.{columns};
 ghost use Rattle.care_sets.specs.Binding.{IsCareOf};
 ghost use Rattle.care_sets.specs.Care.{CareSet};
@@ -11,8 +11,8 @@ ghost use Rattle.netlist.specs.Walks.{IsLoopFree};
 ghost use Rattle.netlist.specs.declared.parts.Parts.{Parts};
 ghost use Rattle.refusals.specs.Acceptance.{Accepts};
 ghost use Rattle.refusals.specs.declared.observe.Observe.{Observe as Observed};
-ghost use Rattle.rewriting.specs.Rewriting.{IsLoopFreeForm};
-ghost use Rattle.verdict.specs.Verdicts.{AreSweepsOnCare};
+ghost use Rattle.rewriting.specs.Graphs.{most_columns};
+ghost use Rattle.rewriting.specs.Rewriting.{IsCountedOnCare, IsLoopFreeForm};
 ghost use Rattle.cyc_tool.specs.Calls.{IsAccepted};
 ghost use Rattle.cyc_tool.specs.Seen.{outcome_of};
 
@@ -21,31 +21,28 @@ use crate::outcome::Outcome;
 use bdd_ops::Diagrams;
 use care_sets::Care;
 use commands::{Cases, Encoding};
-use loops::{LoopedNetlist, SweepCounts};
 use netlist::Netlist;
 use rewriting::{graph, rewrite_by_cases};
 use std::alloc::{AllocError, Global};
+use unroll::CountedLoops;
 
 // Rewrites an accepted netlist by cases, and tells what comes of it.
 fn tell_split(
     alloc: Global,
-    looped: &LoopedNetlist<'_>,
+    counted: &CountedLoops<'_>,
     care: &Care,
     nodes: u32,
     cases: Cases,
-    sweeps: &SweepCounts,
     d: &mut Diagrams,
 ) -> Result<Outcome, AllocError>
-    requires valid { IsNetlist looped.now.net }
-    requires sweeps { length sweeps.now.per_block ≡ length looped.now.blocks.list }
-    requires columns { columns looped.now.net ≤ 1000000000 }
-    requires care { IsCareOf looped.now.net care.now }
+    requires columns { columns counted.now.net ≤ most_columns }
+    requires care { IsCareOf counted.now.net care.now }
     requires nodes { nodes ≤ most_nodes }
-    ensures { IfOk result (λ told. (observe : Observed) (limit : ℕ) → Accepts looped.now.net care.now observe →
-        AreSweepsOnCare looped.now.net looped.now.blocks looped.now.cut care.now sweeps.now →
-        IsAccepted record { net = looped.now.net; care = care.now; limit = limit; observe = observe } (Rewrites (Some cases.number)) (outcome_of told)) }
+    ensures { IfOk result (λ told. (observe : Observed) (limit : ℕ) → Accepts counted.now.net care.now observe →
+        IsCountedOnCare counted.now care.now →
+        IsAccepted record { net = counted.now.net; care = care.now; limit = limit; observe = observe } (Rewrites (Some cases.number)) (outcome_of told)) }
 {
-    let rewriting = rewrite_by_cases(alloc, d, looped, sweeps, care, nodes, cases.number);
+    let rewriting = rewrite_by_cases(alloc, d, counted, care, nodes, cases.number);
     tell_rewriting(alloc, &rewriting)
 }
 
@@ -56,7 +53,7 @@ fn tell_split_graph_of(
     encoding: Encoding,
 ) -> Result<Outcome, AllocError>
     requires loop_free { IsLoopFree other.now }
-    requires columns { columns other.now ≤ 1000000000 }
+    requires columns { columns other.now ≤ most_columns }
     ensures { IfOk result (λ told. (net : Parts) (care : CareSet) (observe : Observed) (limit cases : ℕ) → IsNetlist net → Accepts net care observe →
         IsLoopFreeForm net care other.now →
         IsAccepted record { net = net; care = care; limit = limit; observe = observe } (WritesGraph encoding (Some cases)) (outcome_of told)) }
@@ -68,24 +65,22 @@ fn tell_split_graph_of(
 // Rewrites an accepted netlist by cases, and tells what comes of its graph.
 fn tell_split_graph(
     alloc: Global,
-    looped: &LoopedNetlist<'_>,
+    counted: &CountedLoops<'_>,
     care: &Care,
     nodes: u32,
     cases: Cases,
-    sweeps: &SweepCounts,
     encoding: Encoding,
     d: &mut Diagrams,
 ) -> Result<Outcome, AllocError>
-    requires valid { IsNetlist looped.now.net }
-    requires sweeps { length sweeps.now.per_block ≡ length looped.now.blocks.list }
-    requires columns { columns looped.now.net ≤ 1000000000 }
-    requires care { IsCareOf looped.now.net care.now }
+    requires valid { IsNetlist counted.now.net }
+    requires columns { columns counted.now.net ≤ most_columns }
+    requires care { IsCareOf counted.now.net care.now }
     requires nodes { nodes ≤ most_nodes }
-    ensures { IfOk result (λ told. (observe : Observed) (limit : ℕ) → Accepts looped.now.net care.now observe →
-        AreSweepsOnCare looped.now.net looped.now.blocks looped.now.cut care.now sweeps.now →
-        IsAccepted record { net = looped.now.net; care = care.now; limit = limit; observe = observe } (WritesGraph encoding (Some cases.number)) (outcome_of told)) }
+    ensures { IfOk result (λ told. (observe : Observed) (limit : ℕ) → Accepts counted.now.net care.now observe →
+        IsCountedOnCare counted.now care.now →
+        IsAccepted record { net = counted.now.net; care = care.now; limit = limit; observe = observe } (WritesGraph encoding (Some cases.number)) (outcome_of told)) }
 {
-    let rewriting = rewrite_by_cases(alloc, d, looped, sweeps, care, nodes, cases.number);
+    let rewriting = rewrite_by_cases(alloc, d, counted, care, nodes, cases.number);
     match &rewriting {
         Ok(other) => tell_split_graph_of(alloc, other, encoding),
         Err(fault) => tell_outgrown(alloc, fault),
@@ -95,50 +90,45 @@ fn tell_split_graph(
 // Rewrites an accepted netlist, by cases where there are some, and tells what comes of it.
 pub(crate) fn tell_rewritten_in(
     alloc: Global,
-    looped: &LoopedNetlist<'_>,
+    counted: &CountedLoops<'_>,
     care: &Care,
     nodes: u32,
     split: Option<Cases>,
-    sweeps: &SweepCounts,
     d: &mut Diagrams,
 ) -> Result<Outcome, AllocError>
-    requires valid { IsNetlist looped.now.net }
-    requires sweeps { length sweeps.now.per_block ≡ length looped.now.blocks.list }
-    requires columns { columns looped.now.net ≤ 1000000000 }
-    requires care { IsCareOf looped.now.net care.now }
+    requires columns { columns counted.now.net ≤ most_columns }
+    requires care { IsCareOf counted.now.net care.now }
     requires nodes { nodes ≤ most_nodes }
-    ensures { IfOk result (λ told. (observe : Observed) (limit : ℕ) → Accepts looped.now.net care.now observe →
-        AreSweepsOnCare looped.now.net looped.now.blocks looped.now.cut care.now sweeps.now →
-        IsAccepted record { net = looped.now.net; care = care.now; limit = limit; observe = observe } (Rewrites (split_seen split)) (outcome_of told)) }
+    ensures { IfOk result (λ told. (observe : Observed) (limit : ℕ) → Accepts counted.now.net care.now observe →
+        IsCountedOnCare counted.now care.now →
+        IsAccepted record { net = counted.now.net; care = care.now; limit = limit; observe = observe } (Rewrites (split_seen split)) (outcome_of told)) }
 {
     match split {
-        None => tell_rewritten(alloc, looped, sweeps),
-        Some(cases) => tell_split(alloc, looped, care, nodes, cases, sweeps, d),
+        None => tell_rewritten(alloc, counted),
+        Some(cases) => tell_split(alloc, counted, care, nodes, cases, d),
     }
 }
 
 // The same of its graph.
 pub(crate) fn tell_graphed_in(
     alloc: Global,
-    looped: &LoopedNetlist<'_>,
+    counted: &CountedLoops<'_>,
     care: &Care,
     nodes: u32,
     split: Option<Cases>,
-    sweeps: &SweepCounts,
     encoding: Encoding,
     d: &mut Diagrams,
 ) -> Result<Outcome, AllocError>
-    requires valid { IsNetlist looped.now.net }
-    requires sweeps { length sweeps.now.per_block ≡ length looped.now.blocks.list }
-    requires columns { columns looped.now.net ≤ 1000000000 }
-    requires care { IsCareOf looped.now.net care.now }
+    requires valid { IsNetlist counted.now.net }
+    requires columns { columns counted.now.net ≤ most_columns }
+    requires care { IsCareOf counted.now.net care.now }
     requires nodes { nodes ≤ most_nodes }
-    ensures { IfOk result (λ told. (observe : Observed) (limit : ℕ) → Accepts looped.now.net care.now observe →
-        AreSweepsOnCare looped.now.net looped.now.blocks looped.now.cut care.now sweeps.now →
-        IsAccepted record { net = looped.now.net; care = care.now; limit = limit; observe = observe } (WritesGraph encoding (split_seen split)) (outcome_of told)) }
+    ensures { IfOk result (λ told. (observe : Observed) (limit : ℕ) → Accepts counted.now.net care.now observe →
+        IsCountedOnCare counted.now care.now →
+        IsAccepted record { net = counted.now.net; care = care.now; limit = limit; observe = observe } (WritesGraph encoding (split_seen split)) (outcome_of told)) }
 {
     match split {
-        None => tell_graphed(alloc, looped, sweeps, encoding),
-        Some(cases) => tell_split_graph(alloc, looped, care, nodes, cases, sweeps, encoding, d),
+        None => tell_graphed(alloc, counted, encoding),
+        Some(cases) => tell_split_graph(alloc, counted, care, nodes, cases, encoding, d),
     }
 }

@@ -1,6 +1,7 @@
 -- What is proved of the rewritten netlist.
 use Rattle.std.proofs.Common.{◌≡◌, ℕ, ◌+◌, ◌≤◌, true, Bool, List, length, sym, ap, ◌∙◌, subst, arith}
 use Rattle.std.proofs.lemmas.List.{length-map}
+use Rattle.cyc_base.specs.declared.limits.TheConstants.{MAX_REWRITTEN_ITEMS}
 use Rattle.cyc_base.specs.declared.trit.Trit.{Trit}
 use Rattle.cyc_base.specs.Values.{bits}
 use Rattle.netlist.specs.declared.parts.Parts.{Parts}
@@ -63,7 +64,7 @@ rewritten_shows_the_same net care what valid accepts = grind (arith, same_by_fix
 
 -- what a user has of it
 pub is_rewriting : (net : Parts) (care : CareSet) (what : Observe) (other : Parts) → IsNetlist net → HasCovers net → Accepts net care what →
-    other ≡ rewritten net care → IsNetlist other → rewritten_size net care ≤ 4000000 → IsRewriting net care other
+    other ≡ rewritten net care → IsNetlist other → rewritten_size net care ≤ MAX_REWRITTEN_ITEMS → IsRewriting net care other
 is_rewriting net care what other valid have accepts is other_valid small = record {
   is = is;
   form = record {

@@ -18,6 +18,10 @@ graph_of net care = built (rewritten net care)
 abbrev pub most_ands : ℕ
 most_ands = 4000000
 
+-- the most columns of a netlist whose graph is made
+abbrev pub most_columns : ℕ
+most_columns = 1000000000
+
 -- The machine of a graph: at the inputs followed by the latches it shows the values of the outputs' edges, and loads those
 -- of the latches' edges.
 abbrev pub machine_of : Built → Machine

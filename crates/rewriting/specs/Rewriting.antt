@@ -1,6 +1,7 @@
 -- The netlist without loops that an accepted netlist is rewritten into, on its care set, and what a user has of it.
 use Rattle.std.specs.Prelude.{◌≡◌, ◌<◌, ℕ, Bool, true, false, List, length}
 use Rattle.std.specs.List.{list_all, position_or_len, range_with_len}
+use Rattle.cyc_base.specs.declared.limits.TheConstants.{MAX_REWRITTEN_ITEMS}
 use Rattle.cyc_base.specs.declared.trit.Trit.{Trit}
 use Rattle.cyc_base.specs.declared.trit.Trit.TheVariants.{Zero, One, X}
 use Rattle.cyc_base.specs.Values.{bits}
@@ -13,9 +14,11 @@ use Rattle.care_sets.specs.Care.{CareSet}
 use Rattle.refusals.specs.Refusals.{care_vectors}
 use Rattle.schedules.specs.Accepted.{TellsAsMuch}
 use Rattle.schedules.specs.Settling.{Same}
+use Rattle.unroll.specs.Counted.{Counted}
 use Rattle.unroll.specs.Unrolled.{unrolled, unrolled_size}
 use Rattle.unroll.specs.declared.fault.UnrollFault.{UnrollFault}
 use Rattle.unroll.specs.declared.fault.UnrollFault.TheVariants.{TooLarge, Memory}
+use Rattle.verdict.specs.Verdicts.{AreSweepsOnCare}
 use Rattle.blif_write.specs.Laws.{ReadsBack}
 
 -- two values are one
@@ -43,6 +46,10 @@ is_enough net care n k = list_all (are_fixed net n k) (care_vectors net care)
 abbrev pub sweeps_needed : Parts → CareSet → ℕ → ℕ
 sweeps_needed net care n = position_or_len (is_enough net care n) (range_with_len 0 (length (cut_wires net n)))
 
+-- each loop is counted with the sweeps that it needs on care
+abbrev pub IsCountedOnCare : Counted → CareSet → Type 0
+IsCountedOnCare counted care = AreSweepsOnCare counted.net counted.blocks counted.cut care counted.sweeps
+
 -- the rewritten netlist: for each sweep that a loop needs on care a copy of the loop's gates, and then the gates
 abbrev pub rewritten : Parts → CareSet → Parts
 rewritten net care = unrolled net (loops_of net) (sweeps_needed net care)
@@ -69,5 +76,5 @@ pub record IsRewriting (net : Parts) (care : CareSet) (other : Parts) : Type 0 w
 
 -- a fault of rewriting by cases, where the rewritten netlist has this size: it is too large, or memory ran out
 abbrev pub IsCaseFault : ℕ → UnrollFault → Type 0
-IsCaseFault size (TooLarge answered) = (4000000 < size) × (answered ≡ size)
+IsCaseFault size (TooLarge answered) = (MAX_REWRITTEN_ITEMS < size) × (answered ≡ size)
 IsCaseFault size Memory = Unit {0}

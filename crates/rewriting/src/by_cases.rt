@@ -8,18 +8,17 @@ ghost use Rattle.netlist.specs.Walks.{IsLoopFree};
 ghost use Rattle.refusals.specs.declared.observe.Observe.{Observe as Observed};
 ghost use Rattle.refusals.specs.Acceptance.{Accepts};
 ghost use Rattle.unroll.specs.Laws.{KeepsInterface};
-ghost use Rattle.verdict.specs.Verdicts.{AreSweepsOnCare};
-ghost use Rattle.rewriting.specs.Rewriting.{rewritten_size as size_of, IsCaseFault, IsLoopFreeForm};
+ghost use Rattle.rewriting.specs.Rewriting.{rewritten_size as size_of, IsCaseFault, IsCountedOnCare, IsLoopFreeForm};
 
 use crate::rewriting::rewrite;
 use crate::splitting::split_netlist;
 use bdd_ops::Diagrams;
 use care_sets::Care;
-use loops::{LoopedNetlist, SweepCounts, find_blocks, find_cut};
+use loops::{LoopedNetlist, find_blocks, find_cut};
 use netlist::Netlist;
 use refusals::Observe;
 use std::alloc::{AllocError, Global};
-use unroll::UnrollFault;
+use unroll::{CountedLoops, UnrollFault};
 use verdict::{DecideFault, Verdict, decide};
 
 /// What was made, or nothing where it would be too large.
@@ -54,7 +53,8 @@ fn rewrite_looped(
     match &decision {
         Ok(verdict) => match verdict {
             Verdict::Accepted { sweeps, loose: _ } => {
-                rewritten_if_small(rewrite(alloc, looped, sweeps))
+                let counted = CountedLoops::new(looped, sweeps);
+                rewritten_if_small(rewrite(alloc, &counted))
             }
             Verdict::Refused(_) => Ok(None),
         },
@@ -123,8 +123,8 @@ fn rewrite_in_cases(
 /// netlist within care and each run of the new one over the same inputs and from the same latches show the same at each
 /// tick, whatever their windows, pasts and fair schedules. Its text reads back as it.
 ///
-/// The condition is that the care is the netlist's, that there is a number for each block, that there are at most
-/// 4,000,000,000 inputs, from 1 to 4,096 cases, and at most 50,000,000 nodes.
+/// The condition is that the care is the netlist's, that there are at most 4,000,000,000 inputs, from 1 to 4,096 cases, and
+/// at most 50,000,000 nodes.
 ///
 /// # Errors
 ///
@@ -133,28 +133,23 @@ fn rewrite_in_cases(
 pub fn rewrite_by_cases(
     alloc: Global,
     d: &mut Diagrams,
-    looped: &LoopedNetlist<'_>,
-    sweeps: &SweepCounts,
+    counted: &CountedLoops<'_>,
     care: &Care,
     nodes: u32,
     cases: u32,
 ) -> Result<Netlist, UnrollFault>
-    requires sweeps { length sweeps.now.per_block ≡ length looped.now.blocks.list }
-    requires valid { IsNetlist looped.now.net }
     requires some { 1 ≤ cases }
     requires few { cases ≤ 4096 }
-    requires inputs { length looped.now.net.inputs ≤ 4000000000 }
-    requires care { IsCareOf looped.now.net care.now }
+    requires inputs { length counted.now.net.inputs ≤ 4000000000 }
+    requires care { IsCareOf counted.now.net care.now }
     requires nodes { nodes ≤ most_nodes }
-    ensures form { IfOk result (λ other. (what : Observed) → Accepts looped.now.net care.now what →
-        AreSweepsOnCare looped.now.net looped.now.blocks looped.now.cut care.now sweeps.now → IsLoopFreeForm looped.now.net care.now other) }
-    ensures fault { IfErr result (λ fault. AreSweepsOnCare looped.now.net looped.now.blocks looped.now.cut care.now sweeps.now →
-        IsCaseFault (size_of looped.now.net care.now) fault) }
+    ensures form { IfOk result (λ other. (what : Observed) → Accepts counted.now.net care.now what → IsCountedOnCare counted.now care.now → IsLoopFreeForm counted.now.net care.now other) }
+    ensures fault { IfErr result (λ fault. IsCountedOnCare counted.now care.now → IsCaseFault (size_of counted.now.net care.now) fault) }
     ensures loop_free { IfOk result IsLoopFree }
-    ensures interface { IfOk result (KeepsInterface looped.now.net) }
+    ensures interface { IfOk result (KeepsInterface counted.now.net) }
 {
-    match rewrite_in_cases(alloc, d, looped, care, nodes, cases)? {
+    match rewrite_in_cases(alloc, d, counted.looped(), care, nodes, cases)? {
         Some(other) => Ok(other),
-        None => rewrite(alloc, looped, sweeps),
+        None => rewrite(alloc, counted),
     }
 }

@@ -9,7 +9,7 @@ ghost use Rattle.netlist.specs.Walks.{IsLoopFree};
 ghost use Rattle.netlist.specs.declared.parts.Parts.{Parts};
 ghost use Rattle.refusals.specs.Acceptance.{Accepts};
 ghost use Rattle.refusals.specs.declared.observe.Observe.{Observe};
-ghost use Rattle.rewriting.specs.Graphs.{most_ands, IsGraphIn};
+ghost use Rattle.rewriting.specs.Graphs.{most_ands, most_columns, IsGraphIn};
 ghost use Rattle.rewriting.specs.Rewriting.{IsLoopFreeForm};
 
 use aig_core::{AigFault, Built, build};
@@ -28,7 +28,7 @@ use std::alloc::Global;
 /// `TooLarge` exactly where the graph has over 4,000,000 ANDs; else `Memory` where memory runs out.
 pub fn graph(alloc: Global, other: &Netlist) -> Result<Built, AigFault>
     requires loop_free { IsLoopFree other.now }
-    requires columns { columns other.now ≤ 1000000000 }
+    requires columns { columns other.now ≤ most_columns }
     ensures built { IfOk result (λ graph. graph ≡ built other.now) }
     ensures few { IfOk result (λ graph. length graph.aig.ands ≤ most_ands) }
     ensures fits { IfOk result (FitsNetlist other.now) }

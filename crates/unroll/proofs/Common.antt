@@ -2,6 +2,7 @@
 pub use Rattle.cover_logic.specs.Extensions.{ext}
 pub use Rattle.cyc_base.proofs.ListLemmas.{all_append, all_map, all_weaker, map-map}
 pub use Rattle.cyc_base.specs.Names.{IsBlifName}
+pub use Rattle.cyc_base.specs.declared.limits.TheConstants.{MAX_REWRITTEN_ITEMS}
 pub use Rattle.cyc_base.specs.declared.sig.Sig.{Sig}
 pub use Rattle.cyc_base.specs.declared.trit.Trit.{Trit}
 pub use Rattle.cyc_base.specs.declared.trit.Trit.TheVariants.{X}
@@ -31,6 +32,7 @@ pub use Rattle.std.specs.Str.{bytes_eq}
 pub use Rattle.std.specs.declared.option.Option.{Option}
 pub use Rattle.tildes.proofs.RunLemmas.{longest-append}
 pub use Rattle.tildes.specs.Runs.{longest_run, longest_run_of}
+pub use Rattle.unroll.specs.Counted.{Counted, counted_loops, counted_sweeps, looped_in, IsCounted}
 pub use Rattle.unroll.specs.Marks.{clock_names, copy_name, longest_run_in, mark, zero_name}
 pub use Rattle.unroll.specs.Plans.{loops_in, net_of, sweeps_in}
 pub use Rattle.unroll.specs.Tables.{AreMade, at_table, copy_gate_by, copy_pin_by, entered}

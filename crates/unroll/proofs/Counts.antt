@@ -1,6 +1,6 @@
 -- The number of a gate's block is one for each loop.
 use Rattle.std.proofs.Common.{arith}
-use Rattle.unroll.proofs.Common.{Parts, AreLoopsOf, loops_by, sweeps_of, IsOfLoops, Looped, IsLooped}
+use Rattle.unroll.proofs.Common.{Parts, AreLoopsOf, loops_by, sweeps_of, IsOfLoops, Counted, counted_loops, counted_sweeps, IsCounted}
 use Rattle.loops.specs.declared.structure.Blocks.{Blocks}
 use Rattle.loops.specs.declared.structure.Cut.{Cut}
 use Rattle.loops.specs.declared.structure.SweepCounts.{SweepCounts}
@@ -14,9 +14,9 @@ sweeps_are_of_loops net blocks cut counts are a b e = grind (arith, told_parts n
 pub enough_by_blocks : EnoughByBlocks
 enough_by_blocks net blocks cut counts are v width fixed = grind arith
 
--- so it is of a netlist with its blocks and its cut wires
-pub looped_loops : (l : Looped) → IsLooped l → AreLoopsOf l.net (loops_by l.blocks l.cut)
-looped_loops l is = blocks_tell_loops l.net l.blocks l.cut is.blocks is.cut
+-- so it is of a netlist with its loops and their sweeps
+pub loops_are : (c : Counted) → IsCounted c → AreLoopsOf c.net (counted_loops c)
+loops_are c is = blocks_tell_loops c.net c.blocks c.cut is.blocks is.cut
 
-pub looped_sweeps : (l : Looped) → IsLooped l → (counts : SweepCounts) → IsOfLoops (loops_by l.blocks l.cut) (sweeps_of l.blocks counts)
-looped_sweeps l is counts = sweeps_are_of_loops l.net l.blocks l.cut counts is.blocks
+pub sweeps_are : (c : Counted) → IsCounted c → IsOfLoops (counted_loops c) (counted_sweeps c)
+sweeps_are c is = sweeps_are_of_loops c.net c.blocks c.cut c.sweeps is.blocks

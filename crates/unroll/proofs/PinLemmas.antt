@@ -1,12 +1,15 @@
 -- What the source of a pin says of the pin.
-use Rattle.std.proofs.Common.{◌≡◌, ℕ, Bool, true, false, if◌then◌else◌, Some, None, arith}
+use Rattle.std.proofs.Common.{◌≡◌, ℕ, Bool, true, false, if◌then◌else◌, Some, None, sym, ap, ◌∙◌, arith}
 use Rattle.unroll.proofs.Common.{Sig, loops_by, gate_of, in_loop_of, Option, loops_of, Looped, IsLooped}
-use Rattle.loops.proofs.LoopedLemmas.{one_loop_is_told}
+use Rattle.loops.proofs.LoopedLemmas.{cut_is_told, one_loop_is_told}
 
 -- the same by the blocks and the cut wires
 pub source_by_blocks : (l : Looped) → IsLooped l → (n : ℕ) (s : Sig) (source : Option ℕ) → source ≡ (if in_loop_of l.net (loops_of l.net) n s then Some (gate_of l.net s) else None)
     → source ≡ (if in_loop_of l.net (loops_by l.blocks l.cut) n s then Some (gate_of l.net s) else None)
 source_by_blocks l is n s source told = grind (arith, one_loop_is_told)
+
+pub cut_by_blocks : (l told : Looped) → told ≡ l → IsLooped l → (n : ℕ) (cut : Bool) → cut ≡ (loops_of told.net).cut n → cut ≡ (loops_by l.blocks l.cut).cut n
+cut_by_blocks l told same is n cut e = e ∙ ap (λ (k : Looped). (loops_of k.net).cut n) same ∙ sym (cut_is_told l is n)
 
 -- what a choice gave
 pub some_if : (b : Bool) (g x : ℕ) → Some x ≡ (if b then Some g else None) → (b ≡ true) × (g ≡ x)

@@ -1,6 +1,6 @@
 -- The unrolled netlist is a netlist.
 use Rattle.std.proofs.Common.{◌≡◌, inl, inr, ℕ, zero, suc, ◌+◌, ◌^◌, ◌<◌, ◌≤◌, Bool, true, false, if◌then◌else◌, List, [], ◌∷◌, ◌++◌, length, map, get_or, IfSome, ap, ap₂, sym, ◌∙◌, subst, arith, All}
-use Rattle.unroll.proofs.Common.{cases_lt, append_assoc, get_or_append_left, get_or-map, length-append, length-map, map-append, get_or-append-add, get_or-range_with_len, length-range_with_len, AllByRecursion, list_any, range_with_len, IsDistinct, Sig, all_weaker, map-map, all_append, all_map, longest_run, longest_run_of, Gate, Parts, gate_at, signal_names, Loops, AreLoopsOf, first_gate, gate_of, in_loop_of, in_loop_from, same_within, mark, copy_name, longest_run_in, clock_names, zero_name, Copy, copy_of, copies_of, copies, most, constants, shift, moved, old_signal, kept_latch, unrolled, IsOfLoops, unrolled_size, All-from_recursion, All-map, option_map_or, bytes_eq, Option, IsBlifName, longest-append, Clock}
+use Rattle.unroll.proofs.Common.{cases_lt, append_assoc, get_or_append_left, get_or-map, length-append, length-map, map-append, get_or-append-add, get_or-range_with_len, length-range_with_len, AllByRecursion, list_any, range_with_len, IsDistinct, MAX_REWRITTEN_ITEMS, Sig, all_weaker, map-map, all_append, all_map, longest_run, longest_run_of, Gate, Parts, gate_at, signal_names, Loops, AreLoopsOf, first_gate, gate_of, in_loop_of, in_loop_from, same_within, mark, copy_name, longest_run_in, clock_names, zero_name, Copy, copy_of, copies_of, copies, most, constants, shift, moved, old_signal, kept_latch, unrolled, IsOfLoops, unrolled_size, All-from_recursion, All-map, option_map_or, bytes_eq, Option, IsBlifName, longest-append, Clock}
 use Rattle.std.proofs.lemmas.Bool.{cases_order, eqb-false, ne_eqb, or_from, or_parts}
 use Rattle.std.proofs.lemmas.List.FromFn.{fill_by_all}
 use Rattle.cyc_base.proofs.ListLemmas.{list_any-map}
@@ -125,14 +125,14 @@ module _ (net : Parts) (loops : Loops) (m : ℕ → ℕ) where
           | inr (inr more) ↦ absurd (apart (first_gate net + j) (first_gate net + i) [] (omega arith) (omega arith) (at_j ∙ sym e ∙ sym at_i))
         ]
 
-    module _ (are : AreLoopsOf net loops) (of_loops : IsOfLoops loops m) (small : unrolled_size net loops.same m ≤ 4000000) where
+    module _ (are : AreLoopsOf net loops) (of_loops : IsOfLoops loops m) (small : unrolled_size net loops.same m ≤ MAX_REWRITTEN_ITEMS) where
       abbrev IsCopyHere : Copy → Type 0
       IsCopyHere copy = IsCopy net loops m (most loops.same m (length net.gates)) copy
 
       copies_are : All IsCopyHere (copies net loops m)
       copies_are = upto_are net loops m (most loops.same m (length net.gates))
 
-      few_copies : (n : ℕ) → n < length net.gates → copies_of loops.same m n ≤ 4000000
+      few_copies : (n : ℕ) → n < length net.gates → copies_of loops.same m n ≤ MAX_REWRITTEN_ITEMS
       few_copies n l =
           let r = range_with_len 0 (length net.gates) in
           grind (arith, length-range_with_len 0 (length net.gates), get_or-le-sum_by (copies_of loops.same m) r n 0, get_or-range_with_len 0 (length net.gates) n 0 l)

@@ -1,5 +1,6 @@
 -- The laws of unrolling.
 use Rattle.std.specs.Prelude.{◌≡◌, ◌<◌, ◌≤◌, ◌+◌, ℕ, true, List, [], length, map, slice_index_or}
+use Rattle.cyc_base.specs.declared.limits.TheConstants.{MAX_REWRITTEN_ITEMS}
 use Rattle.cyc_base.specs.declared.sig.Sig.{Sig}
 use Rattle.cyc_base.specs.declared.trit.Trit.{Trit}
 use Rattle.cyc_base.specs.Values.{Below, EachBelow}
@@ -35,7 +36,7 @@ GatesStandAtTheirSignals = OfUnrolled (λ net loops m.
 -- it is a netlist: the names of copies are new, and each pin reads a signal
 abbrev pub UnrolledIsNetlist : Type 0
 UnrolledIsNetlist = OfUnrolled (λ net loops m.
-    IsNetlist net → length net.inputs ≤ 4000000000 → unrolled_size net loops.same m ≤ 4000000 → IsNetlist (unrolled net loops m))
+    IsNetlist net → length net.inputs ≤ 4000000000 → unrolled_size net loops.same m ≤ MAX_REWRITTEN_ITEMS → IsNetlist (unrolled net loops m))
 
 -- it has no loop
 abbrev pub UnrolledIsLoopFree : Type 0

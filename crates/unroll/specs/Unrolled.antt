@@ -3,6 +3,7 @@
 -- of gate n needs, and is one number for each loop.
 use Rattle.std.specs.Prelude.{◌≡◌, ℕ, zero, suc, ◌+◌, ◌<◌, ◌≤◌, max, nat_le, Bool, ◌==◌, ◌&&◌, true, if◌then◌else◌, List, [], ◌∷◌, ◌++◌, length, map, filter, slice_index_or}
 use Rattle.std.specs.List.{range_with_len, list_any, sum_by}
+use Rattle.cyc_base.specs.declared.limits.TheConstants.{MAX_REWRITTEN_ITEMS}
 use Rattle.cyc_base.specs.declared.sig.Sig.{Sig}
 use Rattle.netlist.specs.declared.parts.Gate.{Gate}
 use Rattle.netlist.specs.declared.parts.Latch.{Latch}
@@ -154,5 +155,5 @@ IsOfLoops loops m = (a b : ℕ) → loops.same a b ≡ true → m a ≡ m b
 
 -- the size is over 4,000,000, or it isn't and memory ran out
 abbrev pub IsUnrollFault : ℕ → UnrollFault → Type 0
-IsUnrollFault size (TooLarge answered) = (4000000 < size) × (answered ≡ size)
-IsUnrollFault size Memory = size ≤ 4000000
+IsUnrollFault size (TooLarge answered) = (MAX_REWRITTEN_ITEMS < size) × (answered ≡ size)
+IsUnrollFault size Memory = size ≤ MAX_REWRITTEN_ITEMS

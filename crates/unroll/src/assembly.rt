@@ -3,18 +3,18 @@
 ghost use Rattle.std.specs.Prelude.{◌≡◌, ◌≤◌, ◌+◌, ◌++◌, [], length, map, IfOk, OnOk};
 ghost use Rattle.std.specs.List.{range_with_len};
 ghost use Rattle.netlist.specs.Netlists.{count};
-ghost use Rattle.loops.specs.Cuts.{loops_by};
+ghost use Rattle.unroll.specs.Counted.{counted_loops, counted_sweeps, unrolled_by};
 ghost use Rattle.unroll.specs.Plans.{loops_in, net_of, sweeps_in};
-ghost use Rattle.unroll.specs.Unrolled.{sweeps_of, shift, constants as constants_of, kept_gate as kept_gate_of, kept_latch as kept_latch_by, moved as moved_by, unrolled};
+ghost use Rattle.unroll.specs.Unrolled.{shift, constants as constants_of, kept_gate as kept_gate_of, kept_latch as kept_latch_by, moved as moved_by, unrolled};
 ghost use Rattle.unroll.specs.Tables.{AreLast};
 
 use crate::copies::add_copies;
+use crate::counted_loops::CountedLoops;
 use crate::gates::{kept_gate, zero_gate};
 use crate::names::mark;
 use crate::pins::{Tables, moved};
 use crate::plan::Plan;
 use cyc_base::{Items, Sig};
-use loops::{LoopedNetlist, SweepCounts};
 use netlist::{Gate, Latch, Netlist, Parts, copy_clock, copy_inputs};
 use std::alloc::{AllocError, Global};
 
@@ -73,7 +73,7 @@ fn add_kept(
     requires { AreLast (net_of plan.now) (loops_in plan.now) (sweeps_in plan.now) tables.now.earlier.items tables.now.current.items }
     ensures { OnOk result (gates.new.items ≡ gates.old.items ++ map (kept_gate_of (net_of plan.now) (loops_in plan.now) (sweeps_in plan.now)) (range_with_len 0 (length (net_of plan.now).gates))) }
 {
-    for gate in 0..plan.looped.net().gates() {
+    for gate in 0..plan.counted.net().gates() {
         gates.push(kept_gate(alloc, plan, tables, gate)?)?;
     }
     Ok(())
@@ -121,7 +121,7 @@ fn parts_without_gates(alloc: Global, net: &Netlist, by: u32) -> Result<Parts, A
 fn planned_parts(alloc: Global, plan: &Plan<'_>) -> Result<Parts, AllocError>
     ensures { IfOk result (λ parts. parts ≡ unrolled (net_of plan.now) (loops_in plan.now) (sweeps_in plan.now)) }
 {
-    let mut parts = parts_without_gates(alloc, plan.looped.net(), plan.by)?;
+    let mut parts = parts_without_gates(alloc, plan.counted.net(), plan.by)?;
     parts.gates = Items::of(unrolled_gates(alloc, plan)?);
     Ok(parts)
 }
@@ -129,21 +129,14 @@ fn planned_parts(alloc: Global, plan: &Plan<'_>) -> Result<Parts, AllocError>
 /// The parts of the unrolled netlist, where so many gates stand before the netlist's own.
 pub(crate) fn unrolled_parts(
     alloc: Global,
-    looped: &LoopedNetlist<'_>,
-    sweeps: &SweepCounts,
+    counted: &CountedLoops<'_>,
     by: u32,
 ) -> Result<Parts, AllocError>
-    requires sweeps { length sweeps.now.per_block ≡ length looped.now.blocks.list }
-    requires by { by ≡ shift looped.now.net (loops_by looped.now.blocks looped.now.cut) (sweeps_of looped.now.blocks sweeps.now) }
-    requires fits { count looped.now.net + by ≤ 4294967295 }
-    ensures { IfOk result (λ parts. parts ≡ unrolled looped.now.net (loops_by looped.now.blocks looped.now.cut) (sweeps_of looped.now.blocks sweeps.now)) }
+    requires by { by ≡ shift counted.now.net (counted_loops counted.now) (counted_sweeps counted.now) }
+    requires fits { count counted.now.net + by ≤ 4294967295 }
+    ensures { IfOk result (λ parts. parts ≡ unrolled_by counted.now) }
 {
-    let mark = mark(alloc, looped.net())?;
-    let plan = Plan {
-        looped,
-        sweeps,
-        mark,
-        by,
-    };
+    let mark = mark(alloc, counted.net())?;
+    let plan = Plan { counted, mark, by };
     planned_parts(alloc, &plan)
 }

@@ -92,7 +92,7 @@ fn add_round(
     ensures gates { OnOk result (gates.new.items ≡ gates.old.items ++ map (copy_gate_by (net_of plan.now) (loops_in plan.now) plan.now.mark plan.now.by tables.old.earlier.items (entered tables.old.current.items active.now (first_gate (net_of plan.now) + length gates.old.items)) number) active.now) }
     ensures widths { OnOk result ((length tables.new.earlier.items ≡ length (net_of plan.now).gates) × (length tables.new.current.items ≡ length (net_of plan.now).gates)) }
 {
-    let first = plan.looped.net().columns() + gates.len() as u32;
+    let first = plan.counted.net().columns() + gates.len() as u32;
     enter(&mut tables.current, active, first);
     add_gates(alloc, plan, tables, number, active, gates)?;
     enter(&mut tables.earlier, active, first);
@@ -103,7 +103,7 @@ fn add_round(
 fn copied_gates(alloc: Global, plan: &Plan<'_>) -> Result<Vec<u32>, AllocError>
     ensures { IfOk result (λ gates. gates.items ≡ filter (λ n. nat_lt 0 (copies_of (loops_in plan.now).same (sweeps_in plan.now) n)) (range_with_len 0 (length (net_of plan.now).gates))) }
 {
-    let all = numbers_from(alloc, 0, plan.looped.net().gates())?;
+    let all = numbers_from(alloc, 0, plan.counted.net().gates())?;
     with_more_copies(alloc, plan, &all, 0)
 }
 
@@ -155,7 +155,7 @@ pub(crate) fn add_copies(
         ++ map (copy_gate_of (net_of plan.now) (loops_in plan.now) (sweeps_in plan.now)) (copies (net_of plan.now) (loops_in plan.now) (sweeps_in plan.now))) }
     ensures last { IfOk result (λ tables. AreLast (net_of plan.now) (loops_in plan.now) (sweeps_in plan.now) tables.earlier.items tables.current.items) }
 {
-    let net = plan.looped.net();
+    let net = plan.counted.net();
     let mut tables = first_tables(alloc, net)?;
     add_rounds(alloc, plan, &mut tables, gates)?;
     tables.current = numbers_from(alloc, net.columns() + plan.by, net.gates())?;

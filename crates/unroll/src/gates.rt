@@ -50,7 +50,7 @@ fn gate_by(
     ensures { IfOk result (λ other. other ≡ gate_by_tables (net_of plan.now) (loops_in plan.now) plan.now.by tables.now.earlier.items tables.now.current.items name gate) }
 {
     let pins = Items::of(pins_by(alloc, plan, tables, gate)?);
-    let cover = plan.looped.net().gate(gate).cover.copy()?;
+    let cover = plan.counted.net().gate(gate).cover.copy()?;
     Ok(Gate { name, pins, cover })
 }
 
@@ -67,7 +67,7 @@ pub(crate) fn copy_gate(
     requires gate { gate < length (net_of plan.now).gates }
     ensures { IfOk result (λ copy. copy ≡ copy_gate_by (net_of plan.now) (loops_in plan.now) plan.now.mark plan.now.by tables.now.earlier.items tables.now.current.items number gate) }
 {
-    let own = plan.looped.net().gate(gate);
+    let own = plan.counted.net().gate(gate);
     let name = copy_name(alloc, &plan.mark, number, &own.name)?;
     gate_by(alloc, plan, tables, name, gate)
 }
@@ -84,6 +84,6 @@ pub(crate) fn kept_gate(
     requires gate { gate < length (net_of plan.now).gates }
     ensures { IfOk result (λ kept. kept ≡ gate_by_tables (net_of plan.now) (loops_in plan.now) plan.now.by tables.now.earlier.items tables.now.current.items (gate_at (net_of plan.now) gate).name gate) }
 {
-    let name = plan.looped.net().gate(gate).name.copy()?;
+    let name = plan.counted.net().gate(gate).name.copy()?;
     gate_by(alloc, plan, tables, name, gate)
 }

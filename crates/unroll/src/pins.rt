@@ -54,9 +54,10 @@ fn pin_by(plan: &Plan<'_>, tables: &Tables, gate: u32, pin: Sig) -> Sig
     requires pin { IsSignal (net_of plan.now) pin }
     ensures { result ≡ pin_by_tables (net_of plan.now) (loops_in plan.now) plan.now.by tables.now.earlier.items tables.now.current.items gate pin }
 {
-    match source_in_loop(plan.looped, gate, pin) {
-        Some(source) => table_read(tables, source, plan.looped.is_cut(source)),
-        None => moved(plan.looped.net(), plan.by, pin),
+    let looped = plan.counted.looped();
+    match source_in_loop(looped, gate, pin) {
+        Some(source) => table_read(tables, source, looped.is_cut(source)),
+        None => moved(looped.net(), plan.by, pin),
     }
 }
 
@@ -72,7 +73,7 @@ pub(crate) fn pins_by(
     requires gate { gate < length (net_of plan.now).gates }
     ensures { IfOk result (λ pins. pins.items ≡ map (pin_by_tables (net_of plan.now) (loops_in plan.now) plan.now.by tables.now.earlier.items tables.now.current.items gate) (gate_at (net_of plan.now) gate).pins) }
 {
-    let net = plan.looped.net();
+    let net = plan.counted.net();
     net.gate(gate)
         .pins
         .items()

@@ -2,12 +2,12 @@
 
 ghost use Rattle.std.specs.Prelude.{◌≡◌, ◌<◌, ◌≤◌, ◌*◌, length};
 ghost use Rattle.std.specs.List.{range_with_len, sum_by};
-ghost use Rattle.netlist.specs.Netlists.{IsNetlist};
 ghost use Rattle.loops.specs.Cuts.{in_one_loop};
-ghost use Rattle.loops.specs.Looped.{IsLooped};
-ghost use Rattle.unroll.specs.Unrolled.{sweeps_of, copies_of as copies_of_gate, has_loop as has_some_loop, unrolled_size as size_of};
+ghost use Rattle.unroll.specs.Counted.{counted_sweeps, unrolled_size_by, IsCounted};
+ghost use Rattle.unroll.specs.Unrolled.{copies_of as copies_of_gate, has_loop as has_some_loop};
 
-use loops::{LoopedNetlist, SweepCounts};
+use crate::counted_loops::CountedLoops;
+use loops::LoopedNetlist;
 
 /// Whether a gate is in a loop.
 fn is_looped(looped: &LoopedNetlist<'_>, gate: u32) -> bool
@@ -20,28 +20,25 @@ fn is_looped(looped: &LoopedNetlist<'_>, gate: u32) -> bool
 }
 
 /// How many copies a gate has: one for each sweep of its loop, and none outside of loops.
-pub(crate) fn copies_of(looped: &LoopedNetlist<'_>, sweeps: &SweepCounts, gate: u32) -> u32
-    requires sweeps { length sweeps.now.per_block ≡ length looped.now.blocks.list }
-    requires gate { gate < length looped.now.net.gates }
-    ensures { result ≡ copies_of_gate (in_one_loop looped.now.blocks) (sweeps_of looped.now.blocks sweeps.now) gate }
+pub(crate) fn copies_of(counted: &CountedLoops<'_>, gate: u32) -> u32
+    requires { gate < length counted.now.net.gates }
+    ensures { result ≡ copies_of_gate (in_one_loop counted.now.blocks) (counted_sweeps counted.now) gate }
 {
-    if is_looped(looped, gate) {
-        let home = looped.blocks().home.items()[gate as usize];
-        sweeps.per_block.items()[home as usize]
+    if is_looped(counted.looped(), gate) {
+        counted.sweeps_of(gate)
     } else {
         0
     }
 }
 
 #[tactic(auto, using(crate::proofs::SizeLemmas::sum_next))]
-fn all_copies(looped: &LoopedNetlist<'_>, sweeps: &SweepCounts) -> u64
-    requires { length sweeps.now.per_block ≡ length looped.now.blocks.list }
-    ensures all { result ≡ sum_by (copies_of_gate (in_one_loop looped.now.blocks) (sweeps_of looped.now.blocks sweeps.now)) (range_with_len 0 (length looped.now.net.gates)) }
-    ensures bound { result ≤ length looped.now.net.gates * 4294967295 }
+fn all_copies(counted: &CountedLoops<'_>) -> u64
+    ensures all { result ≡ sum_by (copies_of_gate (in_one_loop counted.now.blocks) (counted_sweeps counted.now)) (range_with_len 0 (length counted.now.net.gates)) }
+    ensures bound { result ≤ length counted.now.net.gates * 4294967295 }
 {
     let mut all = 0;
-    for gate in 0..looped.net().gates() {
-        all += u64::from(copies_of(looped, sweeps, gate));
+    for gate in 0..counted.net().gates() {
+        all += u64::from(copies_of(counted, gate));
     }
     all
 }
@@ -55,16 +52,16 @@ pub(crate) fn has_loop(looped: &LoopedNetlist<'_>) -> bool
 
 /// How many gates and latches the unrolled netlist has, also where these are too many for `unroll`. No memory is
 /// taken.
-///
-/// The condition is that there is a number for each block.
-pub fn unrolled_size(looped: &LoopedNetlist<'_>, sweeps: &SweepCounts) -> u64
-    requires { length sweeps.now.per_block ≡ length looped.now.blocks.list }
-    ensures size { result ≡ size_of looped.now.net (in_one_loop looped.now.blocks) (sweeps_of looped.now.blocks sweeps.now) }
-    ensures valid { IsNetlist looped.now.net }
-    ensures looped { IsLooped looped.now }
+pub fn unrolled_size(counted: &CountedLoops<'_>) -> u64
+    ensures size { result ≡ unrolled_size_by counted.now }
+    ensures is { IsCounted counted.now }
 {
-    let net = looped.net();
+    let net = counted.net();
     let own = u64::from(net.gates()) + u64::from(net.latches());
-    let size = own + all_copies(looped, sweeps);
-    if has_loop(looped) { size + 1 } else { size }
+    let size = own + all_copies(counted);
+    if has_loop(counted.looped()) {
+        size + 1
+    } else {
+        size
+    }
 }

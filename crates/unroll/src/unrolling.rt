@@ -6,11 +6,12 @@ ghost use Rattle.netlist.specs.Netlists.{IsNetlist};
 ghost use Rattle.netlist.specs.Walks.{IsLoopFree};
 ghost use Rattle.loops.specs.Blocks.{AreBlocksOf};
 ghost use Rattle.loops.specs.Cuts.{IsCutOf, in_one_loop, loops_by};
-ghost use Rattle.loops.specs.Looped.{IsLooped};
+ghost use Rattle.unroll.specs.Counted.{counted_loops, counted_sweeps, unrolled_by, unrolled_size_by, IsCounted};
 ghost use Rattle.unroll.specs.Laws.{AreEnough, KeepsInterface, TellsAsMuchAt};
 ghost use Rattle.unroll.specs.Unrolled.{sweeps_of, unrolled, unrolled_size as size_of, IsUnrollFault};
 
 use crate::assembly::unrolled_parts;
+use crate::counted_loops::CountedLoops;
 use crate::fault::UnrollFault;
 use crate::sizes::unrolled_size;
 use cyc_base::MAX_REWRITTEN_ITEMS;
@@ -27,20 +28,17 @@ fn want_of_memory(_fault: PartsFault) -> UnrollFault
 }
 
 /// How many gates stand before the netlist's own, if the unrolled netlist isn't too large.
-fn shift_of(looped: &LoopedNetlist<'_>, sweeps: &SweepCounts) -> Result<u32, UnrollFault>
-    requires { length sweeps.now.per_block ≡ length looped.now.blocks.list }
-    ensures by { IfOk result (λ by. length looped.now.net.gates + length looped.now.net.latches + by ≡ size_of looped.now.net (in_one_loop looped.now.blocks) (sweeps_of looped.now.blocks sweeps.now)) }
-    ensures small { OnOk result (size_of looped.now.net (in_one_loop looped.now.blocks) (sweeps_of looped.now.blocks sweeps.now) ≤ 4000000) }
-    ensures fault { IfErr result (λ fault. (fault ≡ UnrollFault.TooLarge (size_of looped.now.net (in_one_loop looped.now.blocks) (sweeps_of looped.now.blocks sweeps.now)))
-        × (4000000 < size_of looped.now.net (in_one_loop looped.now.blocks) (sweeps_of looped.now.blocks sweeps.now))) }
-    ensures valid { IsNetlist looped.now.net }
-    ensures looped { IsLooped looped.now }
+fn shift_of(counted: &CountedLoops<'_>) -> Result<u32, UnrollFault>
+    ensures by { IfOk result (λ by. length counted.now.net.gates + length counted.now.net.latches + by ≡ unrolled_size_by counted.now) }
+    ensures small { OnOk result (unrolled_size_by counted.now ≤ MAX_REWRITTEN_ITEMS) }
+    ensures fault { IfErr result (λ fault. (fault ≡ UnrollFault.TooLarge (unrolled_size_by counted.now)) × (MAX_REWRITTEN_ITEMS < unrolled_size_by counted.now)) }
+    ensures is { IsCounted counted.now }
 {
-    let size = unrolled_size(looped, sweeps);
+    let size = unrolled_size(counted);
     if size > u64::from(MAX_REWRITTEN_ITEMS) {
         return Err(UnrollFault::TooLarge { size });
     }
-    let net = looped.net();
+    let net = counted.net();
     Ok(size as u32 - net.gates() - net.latches())
 }
 
@@ -52,43 +50,37 @@ fn shift_of(looped: &LoopedNetlist<'_>, sweeps: &SweepCounts) -> Result<u32, Unr
 /// itself from the last copy (Malik 1994). Where the sweeps bring the cut wires to the fixpoint, each signal of
 /// the netlist has in the new one a value above its value here.
 ///
-/// The condition is that there is a number for each block, and that there are at most 4,000,000,000 inputs. The
-/// time is linear in what it makes.
+/// The condition is that there are at most 4,000,000,000 inputs. The time is linear in what it makes.
 ///
 /// # Errors
 ///
 /// `TooLarge` exactly where the new netlist has over 4,000,000 gates and latches, with their number; else
 /// `Memory` where memory runs out.
-pub fn unroll_looped(
-    alloc: Global,
-    looped: &LoopedNetlist<'_>,
-    sweeps: &SweepCounts,
-) -> Result<Netlist, UnrollFault>
-    requires sweeps { length sweeps.now.per_block ≡ length looped.now.blocks.list }
-    requires inputs { length looped.now.net.inputs ≤ 4000000000 }
-    ensures unrolled { IfOk result (λ other. other ≡ unrolled looped.now.net (loops_by looped.now.blocks looped.now.cut) (sweeps_of looped.now.blocks sweeps.now)) }
-    ensures small { OnOk result (size_of looped.now.net (in_one_loop looped.now.blocks) (sweeps_of looped.now.blocks sweeps.now) ≤ 4000000) }
-    ensures fault { IfErr result (IsUnrollFault (size_of looped.now.net (in_one_loop looped.now.blocks) (sweeps_of looped.now.blocks sweeps.now))) }
+pub fn unroll_counted(alloc: Global, counted: &CountedLoops<'_>) -> Result<Netlist, UnrollFault>
+    requires { length counted.now.net.inputs ≤ 4000000000 }
+    ensures unrolled { IfOk result (λ other. other ≡ unrolled_by counted.now) }
+    ensures small { OnOk result (unrolled_size_by counted.now ≤ MAX_REWRITTEN_ITEMS) }
+    ensures fault { IfErr result (IsUnrollFault (unrolled_size_by counted.now)) }
     ensures valid { IfOk result IsNetlist }
     ensures loop_free { IfOk result IsLoopFree }
-    ensures interface { IfOk result (KeepsInterface looped.now.net) }
-    ensures tells { IfOk result (λ other. (v : List Trit) → AreEnough looped.now.net (loops_by looped.now.blocks looped.now.cut) (sweeps_of looped.now.blocks sweeps.now) v → TellsAsMuchAt looped.now.net other v) }
+    ensures interface { IfOk result (KeepsInterface counted.now.net) }
+    ensures tells { IfOk result (λ other. (v : List Trit) → AreEnough counted.now.net (counted_loops counted.now) (counted_sweeps counted.now) v → TellsAsMuchAt counted.now.net other v) }
 {
-    let by = shift_of(looped, sweeps)?;
-    let parts = unrolled_parts(alloc, looped, sweeps, by)?;
+    let by = shift_of(counted)?;
+    let parts = unrolled_parts(alloc, counted, by)?;
     match Netlist::new(alloc, parts) {
         Ok(other) => Ok(other),
         Err(fault) => Err(want_of_memory(fault)),
     }
 }
 
-/// `unroll_looped` of a netlist, its blocks and its cut wires.
+/// `unroll_counted` of a netlist, its blocks, its cut wires and their sweeps.
 ///
-/// The condition is also that the blocks and the cut are the netlist's.
+/// The condition is also that the blocks and the cut are the netlist's, and that there is a number for each block.
 ///
 /// # Errors
 ///
-/// Those of `unroll_looped`.
+/// Those of `unroll_counted`.
 pub fn unroll(
     alloc: Global,
     net: &Netlist,
@@ -101,7 +93,7 @@ pub fn unroll(
     requires sweeps { length sweeps.now.per_block ≡ length blocks.now.list }
     requires inputs { length net.now.inputs ≤ 4000000000 }
     ensures unrolled { IfOk result (λ other. other ≡ unrolled net.now (loops_by blocks.now cut.now) (sweeps_of blocks.now sweeps.now)) }
-    ensures small { OnOk result (size_of net.now (in_one_loop blocks.now) (sweeps_of blocks.now sweeps.now) ≤ 4000000) }
+    ensures small { OnOk result (size_of net.now (in_one_loop blocks.now) (sweeps_of blocks.now sweeps.now) ≤ MAX_REWRITTEN_ITEMS) }
     ensures fault { IfErr result (IsUnrollFault (size_of net.now (in_one_loop blocks.now) (sweeps_of blocks.now sweeps.now))) }
     ensures valid { IfOk result IsNetlist }
     ensures loop_free { IfOk result IsLoopFree }
@@ -109,5 +101,6 @@ pub fn unroll(
     ensures tells { IfOk result (λ other. (v : List Trit) → AreEnough net.now (loops_by blocks.now cut.now) (sweeps_of blocks.now sweeps.now) v → TellsAsMuchAt net.now other v) }
 {
     let looped = LoopedNetlist::new(net, blocks, cut);
-    unroll_looped(alloc, &looped, sweeps)
+    let counted = CountedLoops::new(&looped, sweeps);
+    unroll_counted(alloc, &counted)
 }

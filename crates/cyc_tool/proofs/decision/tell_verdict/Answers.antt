@@ -9,7 +9,7 @@ returns-in-Accepted c =
     let acceptance = rw c.in-Accepted.is at is in
     accepted_decides c.args.looped.now.net c.args.care.now limit c.args.task.observe (making_seen c.args.making) nodes (outcome_of told) c.requires.valid acceptance.accepts
     (accepted acceptance limit))
-    c.tell_acceptance.ensures
+    (rw c.new-counted.ensures at c.tell_acceptance.ensures)
 
 pub returns-in-Refused : goal.returns-in-Refused
 returns-in-Refused c =

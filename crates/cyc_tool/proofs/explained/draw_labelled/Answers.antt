@@ -10,4 +10,4 @@ returns c = λ care on_care.
     ∙ ap (λ text. on_out 0 text)
     (c.into_vec.ensures
     ∙ c.in_ok-tell_loops_graph.ensures.on_care care on_care
-    ∙ ap (λ text. text ++ told_graph c.args.looped.now.net c.args.label.now (sweeps_needed c.args.looped.now.net care)) c.new-sink.ensures.empty)
+    ∙ ap (λ text. text ++ told_graph c.args.counted.now.net c.args.label.now (sweeps_needed c.args.counted.now.net care)) c.new-sink.ensures.empty)

@@ -7,5 +7,5 @@ use Rattle.cyc_tool.proofs.explained.draw_loops.Goals as goal
 pub returns : goal.returns
 returns c =
     IfOk-weaker c.draw_labelled.result _ _ (λ told is care on_care.
-    is care on_care ∙ ap (λ label. done (Prints (told_graph c.args.looped.now.net label (sweeps_needed c.args.looped.now.net care)))) (c.deref.ensures.value ∙ c.in_ok-label.ensures))
+    is care on_care ∙ ap (λ label. done (Prints (told_graph c.args.counted.now.net label (sweeps_needed c.args.counted.now.net care)))) (c.deref.ensures.value ∙ (rw c.looped.ensures.looped at c.in_ok-label.ensures)))
     c.draw_labelled.ensures

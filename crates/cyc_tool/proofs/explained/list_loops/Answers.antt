@@ -13,8 +13,8 @@ unfailed (Err e) P is told = absurd (true≢false (sym is))
 
 pub returns : goal.returns
 returns c = λ care on_care.
-    let net = c.args.looped.now.net in
-    let line = unfailed c.put_accepted_line.result _ c.if-is_err.ensures.value c.put_accepted_line.ensures in
+    let net = c.args.counted.now.net in
+    let line = unfailed c.put_accepted_line.result _ c.if-is_err.ensures.value (rw c.looped.ensures.looped at c.put_accepted_line.ensures) in
     c.on_out.ensures
     ∙ ap (λ text. on_out 0 text)
     (c.into_vec.ensures

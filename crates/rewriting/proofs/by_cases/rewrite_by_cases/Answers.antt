@@ -12,4 +12,4 @@ returns-in-None-clause-form c =
 
 pub returns-in-None-clause-fault : goal.returns-in-None-clause-fault
 returns-in-None-clause-fault c =
-    IfErr-weaker c.rewrite.result _ _ (λ fault over sweeps. case_fault (rewritten_size c.args.looped.now.net c.args.care.now) fault (over c.args.care.now sweeps)) c.rewrite.ensures.fault
+    IfErr-weaker c.rewrite.result _ _ (λ fault over sweeps. case_fault (rewritten_size c.args.counted.now.net c.args.care.now) fault (over c.args.care.now sweeps)) c.rewrite.ensures.fault

@@ -2,7 +2,7 @@ use Rattle.std.proofs.Common.{◌≡◌, ◌≤◌, ◌++◌, suc, length, map, 
 use Rattle.unroll.proofs.Common.{length-replicate, first_gate, loops_in, net_of, sweeps_in, most, constants, copies_upto, copy_gate}
 use Rattle.unroll.proofs.Places.{copied_within}
 use Rattle.unroll.proofs.Rounds.{none_made, none_entered, all_entered, round_fits, made_next}
-use Rattle.unroll.proofs.Counts.{looped_loops, looped_sweeps}
+use Rattle.unroll.proofs.Counts.{loops_are, sweeps_are}
 use Rattle.unroll.proofs.copies.add_rounds.Goals as goal
 
 pub loop-number-init : goal.loop-number-init
@@ -40,8 +40,8 @@ loop-number-preserved c =
     let test = c.loop-number-test.true in
     let top_is = c.most_copies-number-end.ensures.most in
     let top : suc k ≤ most loops.same m (length net.gates) = omega arith in
-    let are = looped_loops _ c.most_copies-number-end.ensures.looped in
-    let of_loops = looped_sweeps _ c.most_copies-number-end.ensures.looped c.args.plan.now.sweeps.now in
+    let are = loops_are c.args.plan.now.counted.now c.most_copies-number-end.ensures.is in
+    let of_loops = sweeps_are c.args.plan.now.counted.now c.most_copies-number-end.ensures.is in
     made_next net loops m are of_loops k c.args.plan.now.by c.args.plan.now.mark
     c.loop-number.active.items c.deref.result.now c.deref-in-loop-number.result.now c.in_ok-active-2.active.items
     c.loop-number.gates.items c.add_round.new.gates.items

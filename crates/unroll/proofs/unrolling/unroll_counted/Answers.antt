@@ -1,44 +1,44 @@
 use Rattle.std.proofs.Common.{◌≡◌, ℕ, sym, subst, ◌∙◌, arith}
-use Rattle.unroll.proofs.Common.{Parts, Loops, AreLoopsOf, loops_by, sweeps_of, unrolled, IsOfLoops}
+use Rattle.unroll.proofs.Common.{Parts, Loops, AreLoopsOf, unrolled, IsOfLoops, counted_loops, counted_sweeps}
 use Rattle.netlist.specs.Walks.{IsLoopFree}
 use Rattle.netlist.proofs.Validity.{no_fault_of_netlist}
 use Rattle.unroll.specs.Laws.{KeepsInterface}
-use Rattle.unroll.proofs.Counts.{looped_loops, looped_sweeps}
+use Rattle.unroll.proofs.Counts.{loops_are, sweeps_are}
 use Rattle.unroll.proofs.Measures.{size_is_shift}
 use Rattle.unroll.proofs.Opened.{unrolled_is_loop_free}
 use Rattle.unroll.proofs.Telling.{unrolled_keeps_interface, unrolled_tells_as_much}
 use Rattle.unroll.proofs.Valid.{unrolled_is_netlist}
-use Rattle.unroll.proofs.unrolling.unroll_looped.Goals as goal
+use Rattle.unroll.proofs.unrolling.unroll_counted.Goals as goal
 
 pub unrolled_parts-requires-clause-by : goal.unrolled_parts-requires-clause-by
 unrolled_parts-requires-clause-by c =
-    let l = c.args.looped.now in
-    grind (arith, size_is_shift l.net (loops_by l.blocks l.cut) (sweeps_of l.blocks c.args.sweeps.now))
+    let counted = c.args.counted.now in
+    grind (arith, size_is_shift counted.net (counted_loops counted) (counted_sweeps counted))
 
 pub want_of_memory-requires : goal.want_of_memory-requires
 want_of_memory-requires c =
-    let l = c.args.looped.now in
-    let loops = loops_by l.blocks l.cut in
-    let m = sweeps_of l.blocks c.args.sweeps.now in
-    let is = c.shift_of.ensures.looped in
-    grind (arith, unrolled_is_netlist l.net loops m c.shift_of.ensures.valid (looped_loops l is) (looped_sweeps l is c.args.sweeps.now) c.in_ok-by.ensures.small c.requires.inputs, looped_loops l is, looped_sweeps l is c.args.sweeps.now, no_fault_of_netlist (unrolled l.net loops m))
+    let counted = c.args.counted.now in
+    let loops = counted_loops counted in
+    let m = counted_sweeps counted in
+    let is = c.shift_of.ensures.is in
+    grind (arith, unrolled_is_netlist counted.net loops m is.valid (loops_are counted is) (sweeps_are counted is) c.in_ok-by.ensures.small c.requires, loops_are counted is, sweeps_are counted is, no_fault_of_netlist (unrolled counted.net loops m))
 
 -- what holds of the unrolled netlist holds of the answer
 module _ (c : goal.In-Ok) where
   abbrev net : Parts
-  net = c.args.looped.now.net
+  net = c.args.counted.now.net
 
   abbrev loops : Loops
-  loops = loops_by c.args.looped.now.blocks c.args.looped.now.cut
+  loops = counted_loops c.args.counted.now
 
   abbrev m : ℕ → ℕ
-  m = sweeps_of c.args.looped.now.blocks c.args.sweeps.now
+  m = counted_sweeps c.args.counted.now
 
   are : AreLoopsOf net loops
-  are = looped_loops c.args.looped.now c.shift_of.ensures.looped
+  are = loops_are c.args.counted.now c.shift_of.ensures.is
 
   of_loops : IsOfLoops loops m
-  of_loops = looped_sweeps c.args.looped.now c.shift_of.ensures.looped c.args.sweeps.now
+  of_loops = sweeps_are c.args.counted.now c.shift_of.ensures.is
 
   answer_is : c.in-Ok.other ≡ unrolled net loops m
   answer_is = c.in-Ok.ensures.parts ∙ c.in_ok-parts.ensures
