@@ -4,7 +4,7 @@ use Rattle.rewriting.proofs.CaseLemmas.{case_fault}
 use Rattle.rewriting.proofs.by_cases.rewrite_by_cases.Goals as goal
 
 pub returns-in-Some-clause-form : goal.returns-in-Some-clause-form
-returns-in-Some-clause-form c what accepts sweeps = let form = rw c.in-Some.is at c.in_ok-other.ensures.form in form what accepts
+returns-in-Some-clause-form c what accepts sweeps = let form = rw (c.in-Some.is, c.looped.ensures.looped) at c.in_ok-other.ensures.form in form what accepts
 
 pub returns-in-None-clause-form : goal.returns-in-None-clause-form
 returns-in-None-clause-form c =

@@ -11,4 +11,4 @@ returns-in-Accepted-clause-form c =
     let told = rw (c.net-net.ensures.net, c.blocks-blocks.ensures.blocks, c.cut-cut.ensures.cut) at (rw c.in-Ok.is at c.decide-decision.ensures.verdict) in
     let accepted = rw c.in-Accepted.is at told in
     of_small (IsLoopFreeForm net care) c.rewrite.result c.rewritten_if_small.result c.rewritten_if_small.ensures
-    (IfOk-weaker c.rewrite.result _ _ (λ other rewriting. let is = rewriting care Outputs accepted.accepts accepted.sweeps in is.form) c.rewrite.ensures.rewriting)
+    (IfOk-weaker c.rewrite.result _ _ (λ other rewriting. let is = rewriting care Outputs accepted.accepts accepted.sweeps in is.form) (rw c.new-counted.ensures at c.rewrite.ensures.rewriting))
