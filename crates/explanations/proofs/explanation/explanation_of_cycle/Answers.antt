@@ -2,7 +2,7 @@ use Rattle.std.proofs.Common.{arith}
 use Rattle.cyc_base.specs.Values.{bits}
 use Rattle.netlist.specs.Fixpoint.{fix}
 use Rattle.explanations.proofs.GraphLemmas.{all_first, stands_open}
-use Rattle.explanations.proofs.explanation.explained.Goals as goal
+use Rattle.explanations.proofs.explanation.explanation_of_cycle.Goals as goal
 
 pub sides-requires-clause-cycle : goal.sides-requires-clause-cycle
 sides-requires-clause-cycle c =

@@ -3,7 +3,7 @@ use Rattle.delay_core.proofs.Common.{get_or-map, length-map, take_all, newest, b
 use Rattle.std.proofs.lemmas.Option.{get_or_from_slice_get}
 use Rattle.netlist.specs.declared.parts.Latch.{Latch}
 use Rattle.delay_core.proofs.ReadingLemmas.{pushed}
-use Rattle.delay_core.proofs.opening.loaded.Goals as goal
+use Rattle.delay_core.proofs.opening.loaded_latches.Goals as goal
 
 pub loop-number-preserved : goal.loop-number-preserved
 loop-number-preserved c =
