@@ -1,7 +1,7 @@
 use Rattle.std.proofs.Common.{List, Bool, refl, ap, length, arith}
 use Rattle.care_rows.proofs.KeepLemmas.{placed_is}
 use Rattle.care_rows.proofs.RankLemmas.{rank_within}
-use Rattle.care_rows.proofs.keeping.placed.Goals as goal
+use Rattle.care_rows.proofs.keeping.kept_of_marks.Goals as goal
 
 pub add_places-requires-2 : goal.add_places-requires-2
 add_places-requires-2 c =
