@@ -6,8 +6,8 @@ use Rattle.care_sets.specs.Binding.{IsCareOf}
 use Rattle.care_sets.specs.Care.{CareSet}
 use Rattle.refusals.specs.declared.observe.Observe.{Observe}
 use Rattle.care_rows.specs.declared.rows.Row.{Row}
-use Rattle.verdict.specs.Causes.{IsOutOfNodes}
-use Rattle.verdict.specs.Enough.{IsBelowEnough}
+use Rattle.diagram_decision.specs.Causes.{IsOutOfNodes}
+use Rattle.diagram_decision.specs.Enough.{IsBelowEnough}
 use Rattle.assumptions.specs.Assumptions.{AreFound}
 use Rattle.assumptions.specs.Limits.{RunsOutOfNodes}
 use Rattle.assumptions.specs.Making.{Excludes}

@@ -5,8 +5,8 @@ use Rattle.netlist.specs.declared.parts.Parts.{Parts}
 use Rattle.care_sets.specs.Care.{CareSet}
 use Rattle.refusals.specs.declared.observe.Observe.{Observe}
 use Rattle.care_rows.specs.declared.rows.Row.{Row}
-use Rattle.verdict.specs.Causes.{IsOutOfNodes}
-use Rattle.verdict.specs.Enough.{IsBelowEnough}
+use Rattle.diagram_decision.specs.Causes.{IsOutOfNodes}
+use Rattle.diagram_decision.specs.Enough.{IsBelowEnough}
 use Rattle.assumptions.specs.Assumptions.{IsStrengthened}
 
 -- a judgement on the care set with some rows excluded runs out of nodes

@@ -3,8 +3,8 @@
 ghost use Rattle.std.specs.Prelude.{◌≡◌, ◌⊎◌, ◌≤◌, ◌↔◌, [], true, length, is_some, IfOk, IfErr, IfSome, IfNone};
 ghost use Rattle.care_sets.specs.Binding.{IsCareOf};
 ghost use Rattle.care_rows.specs.Rows.{AreSteadyMarks};
-ghost use Rattle.verdict.specs.Causes.{IsOutOfNodes};
-ghost use Rattle.verdict.specs.Enough.{IsBelowEnough};
+ghost use Rattle.diagram_decision.specs.Causes.{IsOutOfNodes};
+ghost use Rattle.diagram_decision.specs.Enough.{IsBelowEnough};
 ghost use Rattle.verdict.specs.Witnessed.{IsSomeJudgement};
 ghost use Rattle.assumptions.specs.Assumptions.{AreFound, IsAssumption, IsUndetermined as IsForUndetermined};
 ghost use Rattle.assumptions.specs.Limits.{RunsOutOfNodes};

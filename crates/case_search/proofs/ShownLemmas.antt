@@ -14,11 +14,11 @@ use Rattle.care_sets.specs.Care.{columns, CareSet, IsCareVector}
 use Rattle.case_split.specs.declared.cases.Case.{Case}
 use Rattle.case_split.specs.declared.cases.ColumnValue.{ColumnValue}
 use Rattle.case_split.specs.Cases.{AreOfColumns, Holds, IsContradicted, IsInCase, IsInOneCase, IsRuledOut, IsUsable}
-use Rattle.clause_decision.specs.declared.cubes.Cube.{Cube}
-use Rattle.clause_decision.specs.declared.pairs.Fixed.{Fixed}
-use Rattle.clause_decision.specs.Apart.{HasFixed, IsCubeOf, IsInCube}
-use Rattle.clause_decision.specs.Cubes.{AskedCare, AsksCare, LeaveNoneOut}
-use Rattle.clause_decision.specs.Cubes as cubes
+use Rattle.clause_pairs.specs.declared.cubes.Cube.{Cube}
+use Rattle.clause_pairs.specs.declared.pairs.Fixed.{Fixed}
+use Rattle.clause_pairs.specs.Apart.{HasFixed, IsCubeOf, IsInCube}
+use Rattle.clause_pairs.specs.Cubes.{AskedCare, AsksCare, LeaveNoneOut}
+use Rattle.clause_pairs.specs.Cubes as cubes
 use Rattle.case_search.specs.Cases.{cube_of, fixed_of, opposite_of, AreApart, AreShown, ForcesKnown, HasAll, HaveNone, IsApartFromEach, ToldBy}
 
 -- the vector has a value

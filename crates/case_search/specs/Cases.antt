@@ -4,9 +4,9 @@ use Rattle.netlist.specs.declared.parts.Parts.{Parts}
 use Rattle.care_sets.specs.Care.{CareSet, IsCareVector}
 use Rattle.case_split.specs.declared.cases.Case.{Case}
 use Rattle.case_split.specs.declared.cases.ColumnValue.{ColumnValue}
-use Rattle.clause_decision.specs.Cubes.{AskedCare, AsksCare}
-use Rattle.clause_decision.specs.declared.cubes.Cube.{Cube}
-use Rattle.clause_decision.specs.declared.pairs.Fixed.{Fixed}
+use Rattle.clause_pairs.specs.Cubes.{AskedCare, AsksCare}
+use Rattle.clause_pairs.specs.declared.cubes.Cube.{Cube}
+use Rattle.clause_pairs.specs.declared.pairs.Fixed.{Fixed}
 
 -- a value, as it is asked for
 abbrev pub fixed_of : ColumnValue → Fixed

@@ -4,7 +4,7 @@ ghost use Rattle.std.specs.Prelude.{◌≡◌, ◌++◌, ◌∷◌, [], true, ma
 ghost use Rattle.case_search.specs.Cases.{fixed_of, opposite_of, HaveNone, ToldBy};
 
 use case_split::ColumnValue;
-use clause_decision::{CareQuestions, Fixed};
+use clause_pairs::{CareQuestions, Fixed};
 use std::alloc::{AllocError, Global};
 
 /// How many conflicts a search may meet for one question.

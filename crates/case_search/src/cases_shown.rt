@@ -4,7 +4,7 @@ ghost use Rattle.std.specs.Prelude.{◌≡◌, ◌≤◌, ◌∷◌, [], List, B
 ghost use Rattle.care_sets.specs.Binding.{IsCareOf};
 ghost use Rattle.care_sets.specs.Care.{IsCareVector};
 ghost use Rattle.case_split.specs.Cases.{AreOfColumns, IsInOneCase, IsUsable};
-ghost use Rattle.clause_decision.specs.Cubes.{AsksCare};
+ghost use Rattle.clause_pairs.specs.Cubes.{AsksCare};
 ghost use Rattle.cyc_base.specs.Values.{bits};
 ghost use Rattle.loops.specs.Sweeps.{first_gate};
 ghost use Rattle.case_search.specs.Cases.{cube_of, AreApart, AreShown, ForcesKnown, HasAll, IsApartFromEach, ToldBy};
@@ -12,7 +12,7 @@ ghost use Rattle.case_search.specs.Cases.{cube_of, AreApart, AreShown, ForcesKno
 use crate::asking::{CONFLICTS, fixed_values, is_ruled_out, joined, opposite, with};
 use care_sets::Care;
 use case_split::{Case, ColumnValue};
-use clause_decision::{CareQuestions, Cube, leave_none_out};
+use clause_pairs::{CareQuestions, Cube, leave_none_out};
 use cyc_base::Items;
 use netlist::Netlist;
 use std::alloc::{AllocError, Global};

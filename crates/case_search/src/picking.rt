@@ -8,7 +8,7 @@ use crate::cases_shown::has_columns;
 use crate::reducing::reduced_case;
 use care_sets::Care;
 use case_split::{Case, ColumnValue, LeftOver, left_in_loops, near_columns};
-use clause_decision::CareQuestions;
+use clause_pairs::CareQuestions;
 use netlist::Netlist;
 use std::alloc::{AllocError, Global};
 use ternary_run::Fanout;

@@ -2,7 +2,7 @@
 
 use crate::asking::{is_ruled_out, joined, opposite, with};
 use case_split::{Case, ColumnValue};
-use clause_decision::CareQuestions;
+use clause_pairs::CareQuestions;
 use std::alloc::{AllocError, Global};
 
 /// Whether each care vector that has the values of both lists has this one too. False says nothing.

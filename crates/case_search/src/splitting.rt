@@ -2,7 +2,7 @@
 
 ghost use Rattle.std.specs.Prelude.{◌≡◌, ◌<◌, ◌≤◌, length, All, IfOk, IfSome};
 ghost use Rattle.care_sets.specs.Binding.{IsCareOf};
-ghost use Rattle.clause_decision.specs.Cubes.{AsksCare};
+ghost use Rattle.clause_pairs.specs.Cubes.{AsksCare};
 ghost use Rattle.case_search.specs.Splits.{IsSplitOf};
 
 use crate::cases_shown::are_cases;
@@ -10,7 +10,7 @@ use crate::picking::pick_cases;
 use crate::regions::regions_of;
 use care_sets::Care;
 use case_split::{Case, SplitFault, copied_marks, marked_gates, split};
-use clause_decision::CareQuestions;
+use clause_pairs::CareQuestions;
 use cyc_base::MAX_REWRITTEN_ITEMS;
 use loops::{GateList, LoopedNetlist};
 use netlist::Netlist;

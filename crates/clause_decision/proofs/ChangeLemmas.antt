@@ -10,7 +10,7 @@ use Rattle.clause_queries.specs.declared.query.Reply.TheVariants as replies
 use Rattle.clause_decision.specs.Changes.{HasChange, ChangesAfter, StandAfter, TellsChange, TellsChangeAfter}
 use Rattle.clause_decision.proofs.ConeLemmas.{care-holds, care-read}
 use Rattle.clause_decision.proofs.SignalLemmas.{gate-read, three}
-use Rattle.clause_decision.proofs.LoopLemmas.{moved-unfixed, of-loop, unmoved-fixed}
+use Rattle.loop_simulation.proofs.LoopLemmas.{moved-unfixed, of-loop, unmoved-fixed}
 use Rattle.clause_decision.proofs.SweepingLemmas.{fed-read, outside-of-fix}
 use Rattle.clause_decision.proofs.UnknownLemmas.{unknown-value}
 

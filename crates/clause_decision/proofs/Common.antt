@@ -3,17 +3,15 @@ pub use Rattle.care_sets.specs.Care.{CareSet, IsCareVector, columns, holds_at, i
 pub use Rattle.care_sets.specs.declared.model.CareModel.{CareModel}
 pub use Rattle.clause_decision.specs.Changes.{AreFedKnown, change_literals}
 pub use Rattle.clause_decision.specs.Cones.{IsCone, ReadsAbove, ReadsFix, column_rails, vector_in}
-pub use Rattle.clause_decision.specs.Countings.{AreTooFewAt, NeedAtLeast, TellsTooFew, first_number}
-pub use Rattle.clause_decision.specs.Events.{AreUnseen, IsReady, IsSweeping}
+pub use Rattle.clause_decision.specs.Countings.{AreTooFewAt, TellsTooFew, first_number}
+pub use Rattle.loop_simulation.specs.Climbing.{NeedAtLeast}
 pub use Rattle.clause_decision.specs.Formulas.{IsOver, ReadsWithin, SaysTest}
-pub use Rattle.clause_decision.specs.LoopsAt.{AreCutPlaces, AreCutPlacesBelow, IsLoopAt, LoopAt, gates_in, loops_in}
-pub use Rattle.clause_decision.specs.Pairs.{AddLiterals, SayPairs}
+pub use Rattle.loop_simulation.specs.LoopsAt.{AreCutPlaces, IsLoopAt, LoopAt, gates_in, loops_in}
 pub use Rattle.clause_decision.specs.Questions.{IsQuestionOf}
-pub use Rattle.clause_decision.specs.Readers.{AreReaders, HasGainedReader}
 pub use Rattle.clause_decision.specs.Scopes.{AreClosed, is_marked}
-pub use Rattle.clause_decision.specs.Simulations.{IsCountAt}
+pub use Rattle.loop_simulation.specs.Simulations.{IsCountAt}
 pub use Rattle.clause_decision.specs.Starts.{asked_starts}
-pub use Rattle.clause_decision.specs.Sweeping.{IsLeastCount}
+pub use Rattle.loop_simulation.specs.Sweeping.{IsLeastCount}
 pub use Rattle.clause_decision.specs.Sweepings.{IsSwept}
 pub use Rattle.clause_decision.specs.Unknowns.{unknown_literals}
 pub use Rattle.clause_decision.specs.declared.question.Question.{Question}
@@ -22,30 +20,26 @@ pub use Rattle.clause_queries.specs.Clauses.{IsWithin}
 pub use Rattle.clause_queries.specs.Queries.{HasNoModelUnder, IsModelUnder, Problem, problem}
 pub use Rattle.clause_queries.specs.Vectors.{Asks}
 pub use Rattle.cyc_base.proofs.OrderLemmas.{Below-known}
-pub use Rattle.cyc_base.specs.Values.{Below, bit, bits}
+pub use Rattle.cyc_base.specs.Values.{bit, bits}
 pub use Rattle.cyc_base.specs.declared.sig.Sig.{Sig}
 pub use Rattle.cyc_base.specs.declared.trit.Trit.TheVariants.{One, X, Zero}
 pub use Rattle.cyc_base.specs.declared.trit.Trit.{Trit}
 pub use Rattle.loops.proofs.Reading.{map_agree}
 pub use Rattle.loops.proofs.Sweeps.{cut_values_agree, fixed_cuts_give_fix}
 pub use Rattle.loops.proofs.Told.{gate_home}
-pub use Rattle.loops.specs.Blocks.{block_at, home_of}
+pub use Rattle.loops.specs.Blocks.{block_at}
 pub use Rattle.loops.specs.Cuts.{Loops, is_cut}
-pub use Rattle.loops.specs.Looped.{Looped}
 pub use Rattle.loops.specs.Sweeps.{CutsAreFixed, cuts_of, first_gate, gate_of, sweeps, value_in}
-pub use Rattle.loops.specs.declared.structure.Blocks.{Blocks}
-pub use Rattle.loops.specs.declared.structure.Cut.{Cut}
 pub use Rattle.netlist.specs.Fixpoint.{fix, fix_gates, wire}
 pub use Rattle.netlist.specs.Netlists.{IsNetlist, count, gate_at, gate_sig, no_gate, signal}
 pub use Rattle.netlist.specs.declared.parts.Latch.{Latch}
 pub use Rattle.netlist.specs.declared.parts.Parts.{Parts}
-pub use Rattle.std.proofs.lemmas.Bool.{and_parts, cases_lt, eq-eqb}
-pub use Rattle.std.proofs.lemmas.List.Elements.{All-cons, All-contains, All-get_or, All-map, All-nil, All-push, All-take, All-weaker, Contains-append_left, Contains-get_or, Contains-push, Contains-push_cases}
-pub use Rattle.std.proofs.lemmas.List.{get_or-map, get_or-take, get_or_default, length-map, length-set, length-take-le, take_all, take_more}
+pub use Rattle.std.proofs.lemmas.Bool.{and_parts, cases_lt}
+pub use Rattle.std.proofs.lemmas.List.Elements.{All-cons, All-contains, All-get_or, All-map, All-nil, All-push, All-take, All-weaker, Contains-get_or}
+pub use Rattle.std.proofs.lemmas.List.{get_or-map, get_or-take, get_or_default, length-map, length-take-le, take_all, take_more}
 pub use Rattle.std.proofs.lemmas.Result.{IfOk-weaker}
 pub use Rattle.std.specs.List.{list_all}
 pub use Rattle.std.specs.Option.{option_map_or}
-pub use Rattle.std.specs.Prelude.{IfOk}
 pub use Rattle.ternary_clauses.proofs.ClauseLemmas.{says-negation}
 pub use Rattle.ternary_clauses.proofs.ReadingLemmas.{All-within-more, ReadsAll-at, ReadsAll-more}
 pub use Rattle.ternary_clauses.specs.Columns.{SaysColumns}

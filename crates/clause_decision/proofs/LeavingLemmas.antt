@@ -14,9 +14,10 @@ use Rattle.clause_queries.specs.Queries.{is_model}
 use Rattle.clause_queries.specs.Vectors.{HasVector}
 use Rattle.clause_decision.specs.declared.scope.Scope.{Scope}
 use Rattle.clause_decision.specs.Formulas.{accepts}
-use Rattle.clause_decision.specs.Loads.{HasLoads, LoadsAreKnown}
+use Rattle.clause_decision.specs.Loads.{HasLoads}
+use Rattle.refusals.specs.Tests.{LoadsAreKnown}
 use Rattle.clause_decision.specs.NextStates.{no_latch, latch_of, load_rails, loads_rails, AreLatchColumns}
-use Rattle.clause_decision.specs.Tests.{is_leaving}
+use Rattle.refusals.specs.Tests.{is_leaving}
 use Rattle.clause_decision.proofs.FormulaLemmas.{ones-read, question-of, reads-map}
 use Rattle.clause_decision.proofs.ConeLemmas.{care-read}
 use Rattle.clause_decision.proofs.ModelLemmas.{invariant-reads, of-there}

@@ -1,16 +1,10 @@
 pub mod Common
-pub mod ApartLemmas
 pub mod ChangeLemmas
 pub mod ConeLemmas
-pub mod CubeLemmas
-pub mod EventLemmas
 pub mod FormulaLemmas
 pub mod LeavingLemmas
-pub mod LoopLemmas
 pub mod ModelLemmas
-pub mod ReaderLemmas
 pub mod SignalLemmas
-pub mod SimulationLemmas
 pub mod StartLemmas
 pub mod SweepingLemmas
 pub mod UnknownLemmas

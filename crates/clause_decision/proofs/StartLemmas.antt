@@ -10,7 +10,7 @@ use Rattle.cyc_base.proofs.TruthLemmas.{and_comm}
 use Rattle.netlist.specs.declared.parts.Init.{Init}
 use Rattle.refusals.specs.Refusals.{is_initial, may_start}
 use Rattle.clause_decision.specs.Starts.{asked_of}
-use Rattle.clause_decision.specs.Tests.{is_outside}
+use Rattle.refusals.specs.Tests.{is_outside}
 
 -- ---- latch by latch
 

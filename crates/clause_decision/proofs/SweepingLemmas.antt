@@ -24,7 +24,7 @@ use Rattle.clause_decision.specs.Countings.{Serves}
 use Rattle.clause_decision.specs.Scopes.{AreKnownOnCare}
 use Rattle.clause_decision.specs.Sweepings.{open_literals, AreKnownAfter, IsOpenAt, SaysOpen, TellsOpen}
 use Rattle.clause_decision.proofs.ConeLemmas.{care-read, care-under, cone-grows}
-use Rattle.clause_decision.proofs.LoopLemmas.{are-loops, cut-of, cuts-enough, gate-fits, of-loop}
+use Rattle.loop_simulation.proofs.LoopLemmas.{are-loops, cut-of, cuts-enough, gate-fits, of-loop}
 use Rattle.clause_decision.proofs.SignalLemmas.{negation-within, signal-at, gate-read}
 use Rattle.clause_decision.proofs.UnknownLemmas.{unknown-value}
 

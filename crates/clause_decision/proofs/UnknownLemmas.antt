@@ -18,7 +18,8 @@ use Rattle.clause_queries.specs.Each.{CanBe, CannotBe, TellEach}
 use Rattle.clause_queries.specs.Queries.{HasModelUnder, AreRising, IsFirst, IsFirstAt}
 use Rattle.clause_queries.specs.declared.first.First.{First}
 use Rattle.clause_queries.specs.declared.first.First.TheVariants as firsts
-use Rattle.clause_decision.specs.Tests.{is_unknown_at, is_unknown, IsFirstUnknown, TellsFirstUnknown, TellEachUnknown}
+use Rattle.refusals.specs.Tests.{is_unknown_at, is_unknown}
+use Rattle.clause_decision.specs.Tests.{IsFirstUnknown, TellsFirstUnknown, TellEachUnknown}
 use Rattle.clause_decision.specs.Unknowns.{TellUnknowns}
 use Rattle.clause_decision.specs.Witnesses.{IsWitness}
 use Rattle.clause_decision.proofs.ConeLemmas.{care-under, cone-kept, vector-read}

@@ -9,7 +9,6 @@ use Rattle.refusals.specs.Acceptance.{SomeCareVector}
 use Rattle.ternary_clauses.specs.declared.formula.Rails.{Rails}
 use Rattle.clause_queries.specs.declared.query.Reply.{Reply}
 use Rattle.clause_queries.specs.declared.query.Reply.TheVariants as replies
-use Rattle.clause_decision.specs.declared.climbing.Witness.{Witness}
 use Rattle.clause_decision.specs.declared.counting.Needed.{Needed}
 use Rattle.clause_decision.specs.declared.counting.Needed.TheVariants as needs
 use Rattle.clause_decision.specs.declared.counting.Sign.{Sign}
@@ -17,9 +16,9 @@ use Rattle.clause_decision.specs.declared.counting.Sign.TheVariants as signs
 use Rattle.clause_decision.specs.declared.sweeping.Swept.{Swept}
 use Rattle.clause_decision.specs.Changes.{AreFedKnown}
 use Rattle.clause_decision.specs.Cones.{vector_in}
-use Rattle.clause_decision.specs.Simulations.{IsCountAt}
 use Rattle.clause_decision.specs.Scopes.{AreKnownOnCare}
-use Rattle.clause_decision.specs.Sweeping.{IsLeastCount, NeedsMore}
+use Rattle.loop_simulation.specs.Climbing.{NeedAtLeast}
+use Rattle.loop_simulation.specs.Sweeping.{IsLeastCount}
 use Rattle.clause_decision.specs.Sweepings.{IsSwept}
 
 -- where a sign can be asked for
@@ -52,10 +51,6 @@ pub record IsAskedAfter (net : Parts) (care : CareSet) (marks : List Bool) (loop
   pub swept : IsSwept net care marks loops gates s made
   pub tells : TellsTooFew net loops care gates s.cone.rails.items k reply
 
--- for each number of sweeps below m some care vector needs more in the loop of these gates
-abbrev pub NeedAtLeast : Parts → Loops → CareSet → List ℕ → ℕ → Type 0
-NeedAtLeast net loops care gates m = (a j : ℕ) → Contains gates a → j < m → NeedsMore net loops care a j
-
 abbrev pub TellsNeeded : Parts → Loops → CareSet → List ℕ → ℕ → Needed → Type 0
 TellsNeeded net loops care gates k needs.These = (a : ℕ) → Contains gates a → IsLeastCount net loops care a k
 TellsNeeded net loops care gates k (needs.AtLeast m) = (k < m) × NeedAtLeast net loops care gates m
@@ -65,8 +60,3 @@ TellsNeeded net loops care gates k needs.Unknown = Unit {0}
 pub record IsCountedTo (net : Parts) (care : CareSet) (marks : List Bool) (loops : Loops) (gates : List ℕ) (s : Swept) (made k : ℕ) (found : Needed) : Type 0 where
   pub swept : IsSwept net care marks loops gates s made
   pub tells : TellsNeeded net loops care gates k found
-
--- a care vector, and how many sweeps the loop of these gates needs there
-pub record IsWitness (net : Parts) (loops : Loops) (care : CareSet) (gates : List ℕ) (w : Witness) : Type 0 where
-  pub counts : IsCareVector net care w.vector.items
-  pub is : IsCountAt net loops w.vector.items gates w.count.sweeps

@@ -1,12 +1,9 @@
 -- What the latches load that an invariant reads.
-use Rattle.std.specs.Prelude.{◌≡◌, ◌≢◌, ◌<◌, ◌-◌, ℕ, true, List, length, All, IfSome, Contains, slice_index_or, Bool}
-use Rattle.cyc_base.specs.declared.trit.Trit.TheVariants.{X}
-use Rattle.cyc_base.specs.Values.{bits}
+use Rattle.std.specs.Prelude.{◌≡◌, ◌<◌, ◌-◌, ℕ, true, length, IfSome, Contains, slice_index_or}
 use Rattle.netlist.specs.declared.parts.Parts.{Parts}
 use Rattle.netlist.specs.declared.parts.Latch.{Latch}
-use Rattle.netlist.specs.Fixpoint.{fix, wire}
 use Rattle.netlist.specs.Netlists.{gate_sig}
-use Rattle.care_sets.specs.Care.{CareSet, IsCareVector}
+use Rattle.care_sets.specs.Care.{CareSet}
 use Rattle.clause_decision.specs.declared.scope.Scope.{Scope}
 use Rattle.clause_decision.specs.Scopes.{is_marked}
 
@@ -14,7 +11,3 @@ use Rattle.clause_decision.specs.Scopes.{is_marked}
 abbrev pub HasLoads : Parts → CareSet → Scope → Type 0
 HasLoads net care scope = IfSome care.invariant (λ model. (column n : ℕ) (none : Latch) → Contains model.columns column → n < length net.gates →
     (slice_index_or net.latches (column - length net.inputs) none).from ≡ gate_sig net n → is_marked scope.gates n ≡ true)
-
--- on care, what the latches load is known
-abbrev pub LoadsAreKnown : Parts → CareSet → Type 0
-LoadsAreKnown net care = (v : List Bool) → IsCareVector net care v → All (λ latch. wire (fix net (bits v)) latch.from ≢ X) net.latches

@@ -1,28 +1,10 @@
--- The tests of vectors that a decision asks for.
-use Rattle.std.specs.Prelude.{◌≡◌, ◌<◌, ◌&&◌, ℕ, Bool, true, false, not, List, length, is_some, find, slice_index, slice_index_or}
-use Rattle.cyc_base.specs.Vectors.{vectors}
+-- The first of some gates that is unknown on care, and which of them are.
+use Rattle.std.specs.Prelude.{◌≡◌, ◌<◌, ℕ, Bool, true, false, List, length, slice_index, slice_index_or}
 use Rattle.netlist.specs.declared.parts.Parts.{Parts}
-use Rattle.netlist.specs.Netlists.{gate_sig}
-use Rattle.care_sets.specs.Care.{CareSet, columns, is_in_invariant, is_care_vector}
-use Rattle.refusals.specs.Refusals.{is_initial, is_undetermined, leaves}
+use Rattle.care_sets.specs.Care.{CareSet}
+use Rattle.refusals.specs.Tests.{is_unknown}
 use Rattle.clause_queries.specs.declared.first.First.{First}
 use Rattle.clause_queries.specs.declared.first.First.TheVariants as firsts
-
--- a state that the inits permit, outside the invariant
-abbrev pub is_outside : Parts → CareSet → List Bool → Bool
-is_outside net care q = is_initial net q && not (is_in_invariant care q)
-
--- a care vector at which the gate is unknown
-abbrev pub is_unknown_at : Parts → CareSet → ℕ → List Bool → Bool
-is_unknown_at net care gate v = is_care_vector net care v && is_undetermined net (gate_sig net gate) v
-
--- a care vector whose next state isn't in the invariant
-abbrev pub is_leaving : Parts → CareSet → List Bool → Bool
-is_leaving net care v = is_care_vector net care v && leaves net care v
-
--- the gate is unknown at some care vector
-abbrev pub is_unknown : Parts → CareSet → ℕ → Bool
-is_unknown net care gate = is_some (find (is_unknown_at net care gate) (vectors (columns net)))
 
 -- the first of these gates that is unknown at some care vector
 pub record IsFirstUnknown (net : Parts) (care : CareSet) (gates : List ℕ) (place : ℕ) : Type 0 where

@@ -5,7 +5,7 @@ use Rattle.care_sets.specs.Care.{CareSet, columns}
 use Rattle.ternary_clauses.specs.Formulas.{says}
 use Rattle.clause_decision.specs.Cones.{vector_in}
 use Rattle.clause_decision.specs.declared.unknown.Unknowns.{Unknowns}
-use Rattle.clause_decision.specs.Tests.{is_unknown, is_unknown_at}
+use Rattle.refusals.specs.Tests.{is_unknown, is_unknown_at}
 use Rattle.clause_decision.specs.declared.witness.Witness.{Witness}
 use Rattle.clause_decision.specs.declared.witness.Witness.TheVariants as witnesses
 

@@ -16,7 +16,7 @@ use ternary_clauses::{ClausesFault, Formula, Rails, add_columns};
 
 /// Clauses over the columns of a netlist, with a literal that says whether a vector's state is in the invariant, and one
 /// that says whether the assumption allows it.
-pub(crate) struct CareFormula {
+pub struct CareFormula {
     pub formula: Formula,
     /// The rails of the columns.
     pub columns: Vec<Rails>,
@@ -50,7 +50,7 @@ impl CareFormula {
     }
 
     /// The rails of the columns alone.
-    pub(crate) fn into_columns(self) -> Vec<Rails>
+    pub fn into_columns(self) -> Vec<Rails>
         ensures { result ≡ self.columns }
     {
         let CareFormula {
@@ -89,11 +89,9 @@ fn say_care(
 }
 
 /// The care set as clauses.
-pub(crate) fn care_formula(
-    alloc: Global,
-    net: &Netlist,
-    care: &Care,
-) -> Result<CareFormula, ClausesFault>
+///
+/// The condition is that the care set is the netlist's.
+pub fn care_formula(alloc: Global, net: &Netlist, care: &Care) -> Result<CareFormula, ClausesFault>
     requires { IsCareOf net.now care.now }
     ensures { IfOk result (λ f. IsCareFormula net.now care.now f.formula f.columns.items f.inside f.allowed) }
 {

@@ -15,7 +15,7 @@ use std::alloc::{AllocError, Global};
 use ternary_clauses::{ClausesFault, Formula, Rails, add_netlist, value_of};
 
 /// Clauses over the columns of a netlist and its gates in a scope, with the literals of the care set.
-pub(crate) struct Cone {
+pub struct Cone {
     pub formula: Formula,
     /// The rails of each signal: the columns', and then those of the gates in the scope.
     pub rails: Vec<Rails>,
@@ -90,7 +90,9 @@ fn add_gates(
 }
 
 /// The care set and the gates of the scope as clauses.
-pub(crate) fn cone_of(
+///
+/// The condition is that the care set and the scope are the netlist's.
+pub fn cone_of(
     alloc: Global,
     net: &Netlist,
     care: &Care,

@@ -6,7 +6,7 @@ ghost use Rattle.care_sets.specs.Binding.{IsCareOf};
 ghost use Rattle.clause_queries.specs.Vectors.{IsFirstOf};
 ghost use Rattle.clause_decision.specs.Questions.{IsQuestionOf};
 ghost use Rattle.clause_decision.specs.Starts.{asked_of, asked_starts};
-ghost use Rattle.clause_decision.specs.Tests.{is_outside};
+ghost use Rattle.refusals.specs.Tests.{is_outside};
 
 use crate::care::ones;
 use crate::models::add_invariant;

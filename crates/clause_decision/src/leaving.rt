@@ -5,11 +5,12 @@ ghost use Rattle.netlist.specs.Netlists.{count};
 ghost use Rattle.care_sets.specs.Binding.{IsCareOf};
 ghost use Rattle.care_sets.specs.Care.{columns as columns_of};
 ghost use Rattle.clause_queries.specs.Vectors.{IsFirstOf};
-ghost use Rattle.clause_decision.specs.Loads.{HasLoads, LoadsAreKnown};
+ghost use Rattle.clause_decision.specs.Loads.{HasLoads};
+ghost use Rattle.refusals.specs.Tests.{LoadsAreKnown};
 ghost use Rattle.clause_decision.specs.NextStates.{load_rails, loads_rails, AreLatchColumns};
 ghost use Rattle.clause_decision.specs.Questions.{IsQuestionOf};
 ghost use Rattle.clause_decision.specs.Scopes.{IsScopeOf};
-ghost use Rattle.clause_decision.specs.Tests.{is_leaving};
+ghost use Rattle.refusals.specs.Tests.{is_leaving};
 
 use crate::care::ones;
 use crate::cones::cone_of;

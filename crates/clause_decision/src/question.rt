@@ -28,7 +28,7 @@ impl Drop for Question {
 }
 
 /// A query of a formula, or none where that is too large for one.
-pub(crate) fn query_of(alloc: Global, formula: &Formula) -> Result<Option<Query>, AllocError>
+pub fn query_of(alloc: Global, formula: &Formula) -> Result<Option<Query>, AllocError>
     ensures { IfOk result (λ found. IfSome found (λ query. query ≡ problem formula.now)) }
 {
     match Query::of(alloc, formula) {

@@ -10,16 +10,16 @@ ghost use Rattle.ternary_clauses.specs.Formulas.{IsFormula};
 ghost use Rattle.ternary_clauses.specs.Rails.{AreWithin};
 ghost use Rattle.clause_queries.specs.Queries.{problem, IsReply};
 ghost use Rattle.clause_decision.specs.declared.scope.Scope.{Scope as TheScope};
-ghost use Rattle.clause_decision.specs.LoopsAt.{gates_in, loops_in, AreCutPlaces};
+ghost use Rattle.loop_simulation.specs.LoopsAt.{gates_in, loops_in, AreCutPlaces};
 ghost use Rattle.clause_decision.specs.Scopes.{AreInScope, AreKnownOnCare, IsScopeOf};
 ghost use Rattle.clause_decision.specs.Sweepings.{open_literals, AreCopies, IsAsked, IsOnCare, IsSweepable, IsSwept, IsSweptOn, SaysOpen};
 
 use crate::cones::{Cone, cone_of};
-use crate::looped_block::LoopedBlock;
 use crate::question::query_of;
 use crate::scope::Scope;
 use care_sets::Care;
 use clause_queries::Reply;
+use loop_simulation::LoopedBlock;
 use netlist::Netlist;
 use std::alloc::{AllocError, Global};
 use std::mem;

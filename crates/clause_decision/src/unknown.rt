@@ -15,7 +15,8 @@ ghost use Rattle.clause_queries.specs.Vectors.{IsFirstOf};
 ghost use Rattle.clause_decision.specs.Cones.{IsCone};
 ghost use Rattle.clause_decision.specs.Questions.{IsQuestionOf};
 ghost use Rattle.clause_decision.specs.Scopes.{is_marked, AreInScope, IsScopeOf};
-ghost use Rattle.clause_decision.specs.Tests.{is_unknown_at, TellsFirstUnknown, TellEachUnknown};
+ghost use Rattle.refusals.specs.Tests.{is_unknown_at};
+ghost use Rattle.clause_decision.specs.Tests.{TellsFirstUnknown, TellEachUnknown};
 ghost use Rattle.clause_decision.specs.Unknowns.{unknown_literals, AreRisingIn, TellUnknowns};
 
 use crate::care::ones;

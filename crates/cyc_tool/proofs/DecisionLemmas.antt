@@ -27,13 +27,14 @@ use Rattle.unroll.specs.declared.fault.UnrollFault.{UnrollFault}
 use Rattle.unroll.specs.declared.fault.UnrollFault.TheVariants.{TooLarge, Memory}
 use Rattle.loops.specs.declared.structure.Blocks.{Blocks}
 use Rattle.loops.specs.declared.structure.Cut.{Cut}
-use Rattle.verdict.specs.Verdicts.{AreLoose, IsJudgement, IsVerdict}
-use Rattle.verdict.specs.Causes.{IsOutOfNodes}
-use Rattle.verdict.specs.Enough.{IsBelowEnough}
+use Rattle.diagram_decision.specs.Judgements.{AreLoose, IsJudgement}
+use Rattle.verdict.specs.Verdicts.{IsVerdict}
+use Rattle.diagram_decision.specs.Causes.{IsOutOfNodes}
+use Rattle.diagram_decision.specs.Enough.{IsBelowEnough}
 use Rattle.verdict.specs.declared.fault.DecideFault.{DecideFault}
 use Rattle.verdict.specs.declared.fault.DecideFault.TheVariants.{NodeLimit, Memory as WantsMemory}
-use Rattle.verdict.specs.declared.judgement.Judgement.{Judgement}
-use Rattle.verdict.specs.declared.judgement.Judgement.TheVariants as judgements
+use Rattle.diagram_decision.specs.declared.judgement.Judgement.{Judgement}
+use Rattle.diagram_decision.specs.declared.judgement.Judgement.TheVariants as judgements
 use Rattle.verdict.specs.declared.verdict.Verdict.{Verdict}
 use Rattle.verdict.specs.declared.verdict.Verdict.TheVariants.{Accepted, Refused}
 use Rattle.cyc_tool.specs.Answer.{IsRefusalOutcome, IsVerdictOutcome}

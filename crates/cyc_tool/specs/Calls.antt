@@ -15,8 +15,8 @@ use Rattle.blif_write.specs.Laws.{IsSmall}
 use Rattle.care_sets.specs.Care.{CareSet}
 use Rattle.netlist.specs.Netlists.{IsNetlist}
 use Rattle.netlist.specs.declared.parts.Parts.{Parts}
-use Rattle.verdict.specs.Causes.{IsOutOfNodes}
-use Rattle.verdict.specs.Enough.{IsBelowEnough}
+use Rattle.diagram_decision.specs.Causes.{IsOutOfNodes}
+use Rattle.diagram_decision.specs.Enough.{IsBelowEnough}
 use Rattle.commands.specs.Words.{Decide, Command, Assume, Equal, Demo, command_of, Purpose, Judges, Rewrites, WritesGraph, Explains, Demonstrates, Storms}
 use Rattle.parsed_files.specs.CareFiles.{care_of}
 use Rattle.parsed_files.specs.CareTexts.{AreNamed, models_of}

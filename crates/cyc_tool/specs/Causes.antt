@@ -11,7 +11,7 @@ use Rattle.refusals.specs.Acceptance.{AreDetermined, observed}
 use Rattle.refusals.specs.Refusals.{IsUnknownAt, Proves}
 use Rattle.refusals.specs.declared.refusal.Refusal.{Refusal}
 use Rattle.refusals.specs.declared.refusal.Refusal.TheVariants.{EmptyCare, Undetermined}
-use Rattle.verdict.specs.Enough.{IsEnough}
+use Rattle.diagram_decision.specs.Enough.{IsEnough}
 use Rattle.aig_core.specs.Building.{built}
 use Rattle.blif_write.specs.Written.{written}
 use Rattle.commands.specs.declared.encoding.Encoding.{Encoding}

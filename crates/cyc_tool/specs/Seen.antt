@@ -28,8 +28,8 @@ use Rattle.equal.specs.declared.fault.EqualFault.{EqualFault}
 use Rattle.equal.specs.declared.fault.EqualFault.TheVariants.{NodeLimit as PairLimit, Memory as NoPair}
 use Rattle.verdict.specs.declared.fault.DecideFault.{DecideFault}
 use Rattle.verdict.specs.declared.fault.DecideFault.TheVariants.{NodeLimit, Memory as NoNodes}
-use Rattle.verdict.specs.declared.judgement.Judgement.{Judgement}
-use Rattle.verdict.specs.declared.judgement.Judgement.TheVariants as judgements
+use Rattle.diagram_decision.specs.declared.judgement.Judgement.{Judgement}
+use Rattle.diagram_decision.specs.declared.judgement.Judgement.TheVariants as judgements
 use Rattle.verdict.specs.declared.verdict.Verdict.{Verdict}
 use Rattle.verdict.specs.declared.verdict.Verdict.TheVariants.{Accepted, Refused}
 use Rattle.cyc_tool.specs.Answer.{told as done, IsWireExplained}

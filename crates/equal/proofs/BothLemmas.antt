@@ -2,7 +2,7 @@
 use Rattle.std.proofs.Common.{◌≡◌, inl, inr, ℕ, ◌+◌, ◌-◌, ◌<◌, Bool, List, [], length, refl, ◌∙◌, arith}
 use Rattle.equal.proofs.Common.{cases_lt, get_or_append_left, length-map, X, bit, bits, Parts, IsNetlist, fix_gates, loops_of, order, IsGatePart, CareSet, columns, by_name, moved, joined}
 use Rattle.dual_rail.proofs.WidthLemmas.{IsWide-fewer}
-use Rattle.verdict.specs.Enough as decisions
+use Rattle.diagram_decision.specs.Enough as decisions
 use Rattle.equal.specs.Comparisons.{IsOfComparison, IsLaidBy, IsColumn, SaysCare, IsOfNetlist, IsOfAssumption, IsOfInvariant}
 use Rattle.equal.specs.Both.{IsOfBoth, IsLaidForBoth, OfFirst, OfSecond, BothAreWide}
 use Rattle.miters.proofs.JoinLemmas.{first_part, second_part, fix_second, length-joined}

@@ -7,8 +7,8 @@ use Rattle.std.proofs.lemmas.List.Sums.{sum_by-append, sum-map}
 use Rattle.std.proofs.lemmas.Nat.{mul-le}
 use Rattle.dual_rail.specs.Local.{size}
 use Rattle.fixpoint.specs.Working.{effort, HasLargeCover}
-use Rattle.verdict.specs.Causes.{HasModelOver, HasCoverOver}
-use Rattle.verdict.specs.Enough.{in_all, enough, IsBelowEnough}
+use Rattle.diagram_decision.specs.Causes.{HasModelOver, HasCoverOver}
+use Rattle.diagram_decision.specs.Enough.{in_all, enough, IsBelowEnough}
 use Rattle.equal.specs.Bounds.{in_both}
 use Rattle.equal.proofs.BothLemmas.{both_are_wide}
 use Rattle.miters.proofs.JoinLemmas.{first_gate, second_gate, length-joined}

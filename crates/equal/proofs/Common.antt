@@ -8,8 +8,8 @@ pub use Rattle.bdd_store.specs.Subfunctions.{nodes}
 pub use Rattle.bdd_store.specs.declared.node.Node.{Node}
 pub use Rattle.care_sets.specs.Binding.{IsCareOf}
 pub use Rattle.care_sets.specs.Care.{CareSet, columns, is_care_vector, state_of}
-pub use Rattle.clause_decision.specs.Apart.{AreNeverApart, IsPairOf}
-pub use Rattle.clause_decision.specs.declared.pairs.Pair.{Pair}
+pub use Rattle.clause_pairs.specs.Apart.{AreNeverApart, IsPairOf}
+pub use Rattle.clause_pairs.specs.declared.pairs.Pair.{Pair}
 pub use Rattle.cyc_base.proofs.VectorLemmas.{find-alike}
 pub use Rattle.cyc_base.specs.Values.{bit, bits}
 pub use Rattle.cyc_base.specs.Vectors.{vectors}
@@ -49,4 +49,4 @@ pub use Rattle.std.proofs.lemmas.Result.{IfOk-weaker}
 pub use Rattle.std.proofs.lemmas.Simd.{map-map}
 pub use Rattle.std.specs.List.{range_with_len}
 pub use Rattle.std.specs.Prelude.{Err, IfOk, Ok, Result, find, option_map}
-pub use Rattle.verdict.specs.Causes.{IsOutOfNodes}
+pub use Rattle.diagram_decision.specs.Causes.{IsOutOfNodes}

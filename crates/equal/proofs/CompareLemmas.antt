@@ -3,10 +3,10 @@ use Rattle.std.proofs.Common.{◌≡◌, ◌⊎◌, ℕ, ◌-◌, Bool, List, le
 use Rattle.equal.proofs.Common.{option_map, Result, IfOk, Err, Ok, Sig, Parts, IsNetlist, CareSet, columns, IsKnownEarly, IsFound, Answer, difference, AreAccepted, miter, find, vectors, Refusal, refusal, accepted_without_refusal, comparison, Undetermined, Early, Arena, IsBelowEnoughForBoth, IsOutOfNodesForBoth, Matched, Compares}
 use Rattle.refusals.specs.declared.observe.Observe.TheVariants as observe
 use Rattle.refusals.specs.Acceptance.{Accepts}
-use Rattle.clause_decision.specs.Tests.{is_unknown_at}
-use Rattle.verdict.specs.declared.judgement.Judgement.{Judgement}
-use Rattle.verdict.specs.declared.judgement.Judgement.TheVariants.{Accepted, Refused}
-use Rattle.verdict.specs.Verdicts.{IsJudgement}
+use Rattle.refusals.specs.Tests.{is_unknown_at}
+use Rattle.diagram_decision.specs.declared.judgement.Judgement.{Judgement}
+use Rattle.diagram_decision.specs.declared.judgement.Judgement.TheVariants.{Accepted, Refused}
+use Rattle.diagram_decision.specs.Judgements.{IsJudgement}
 use Rattle.equal.specs.declared.least.Early.TheVariants.{Found}
 use Rattle.equal.specs.declared.fault.EqualFault.{EqualFault}
 use Rattle.equal.specs.declared.fault.EqualFault.TheVariants.{Memory, NodeLimit}

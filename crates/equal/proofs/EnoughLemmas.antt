@@ -8,10 +8,10 @@ use Rattle.bdd_store.specs.Growth.{AddsWithin}
 use Rattle.bdd_store.proofs.GrowthLemmas.{adds_more}
 use Rattle.dual_rail.proofs.WidthLemmas.{IsWide-some}
 use Rattle.fixpoint.specs.Working.{effort}
-use Rattle.verdict.specs.Causes.{HasCoverOver, IsOutOfNodes, IsStoreFor}
-use Rattle.verdict.specs.Costs.{assume_effort, invariant_effort}
-use Rattle.verdict.specs.Enough.{enough}
-use Rattle.verdict.proofs.EnoughLemmas.{large-effort, model-effort}
+use Rattle.diagram_decision.specs.Causes.{HasCoverOver, IsOutOfNodes, IsStoreFor}
+use Rattle.diagram_decision.specs.Costs.{assume_effort, invariant_effort}
+use Rattle.diagram_decision.specs.Enough.{enough}
+use Rattle.diagram_decision.proofs.EnoughLemmas.{large-effort, model-effort}
 use Rattle.equal.specs.Comparisons.{comparison_cost, IsBelowEnoughFor, IsFullFor}
 
 -- ---- the sum

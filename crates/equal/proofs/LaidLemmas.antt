@@ -5,8 +5,8 @@ use Rattle.netlist.specs.Fixpoint.{fix}
 use Rattle.netlist.specs.Netlists.{count}
 use Rattle.loops.specs.Sweeps.{value_in}
 use Rattle.fixpoint.proofs.LayoutLemmas.{by_column, columns-back}
-use Rattle.verdict.proofs.CareLemmas.{value_at-place}
-use Rattle.verdict.proofs.MadeLemmas.{IsList, IsMadeBy, AreOfSignal, made-listed, made-wide, wide-two, wide-three, made-one_rail, made-zero_rail}
+use Rattle.diagram_decision.proofs.CareLemmas.{value_at-place}
+use Rattle.diagram_decision.proofs.MadeLemmas.{IsList, IsMadeBy, AreOfSignal, made-listed, made-wide, wide-two, wide-three, made-one_rail, made-zero_rail}
 use Rattle.equal.specs.Comparisons.{IsOfComparison, IsColumn, SaysCare, IsOfNetlist, IsOfAssumption, IsOfInvariant}
 
 pub comparison_list : (net : Parts) (care : CareSet) → IsList net care (IsOfComparison net care)

@@ -8,7 +8,7 @@ use Rattle.bdd_ops.specs.Least.{IsLeast}
 use Rattle.cyc_base.specs.Vectors.{AtMost}
 use Rattle.cyc_base.proofs.TruthLemmas.{or_without_second, or_comm}
 use Rattle.refusals.proofs.FirstLemmas.{found_passes, found_wide, found_least, none_passes}
-use Rattle.verdict.proofs.SetLemmas.{least-first}
+use Rattle.diagram_decision.proofs.SetLemmas.{least-first}
 
 -- ---- the order
 

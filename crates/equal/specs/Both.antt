@@ -5,7 +5,7 @@ use Rattle.netlist.specs.declared.parts.Parts.{Parts}
 use Rattle.netlist.specs.Netlists.{IsNetlist}
 use Rattle.fixpoint.specs.Orders.{laid, order}
 use Rattle.care_sets.specs.Care.{CareSet, columns}
-use Rattle.verdict.specs.Enough.{IsOfDecision}
+use Rattle.diagram_decision.specs.Enough.{IsOfDecision}
 use Rattle.equal.specs.Comparisons.{IsLaidBy}
 use Rattle.miters.specs.Differences.{by_name}
 use Rattle.miters.specs.Joined.{joined}

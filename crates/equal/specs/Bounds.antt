@@ -5,8 +5,8 @@ use Rattle.dual_rail.specs.WorkingLists.{IsWide}
 use Rattle.netlist.specs.declared.parts.Parts.{Parts}
 use Rattle.fixpoint.specs.Working.{effort, HasLargeCover}
 use Rattle.care_sets.specs.Care.{CareSet, columns}
-use Rattle.verdict.specs.Causes.{HasModelOver}
-use Rattle.verdict.specs.Enough.{IsLaid, in_all, enough}
+use Rattle.diagram_decision.specs.Causes.{HasModelOver}
+use Rattle.diagram_decision.specs.Enough.{IsLaid, in_all, enough}
 use Rattle.miters.specs.Matching.{unmatched}
 use Rattle.miters.specs.Rebound.{rebound}
 use Rattle.equal.specs.Both.{IsLaidForBoth}

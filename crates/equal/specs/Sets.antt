@@ -12,8 +12,8 @@ use Rattle.netlist.specs.declared.parts.Parts.{Parts}
 use Rattle.netlist.specs.Netlists.{count}
 use Rattle.netlist.specs.Fixpoint.{fix}
 use Rattle.fixpoint.specs.Sweeping.{rails_at}
-use Rattle.verdict.specs.Sets.{BoundsBoth}
-use Rattle.clause_decision.specs.declared.pairs.Pair.{Pair}
+use Rattle.diagram_decision.specs.Sets.{BoundsBoth}
+use Rattle.clause_pairs.specs.declared.pairs.Pair.{Pair}
 use Rattle.equal.specs.declared.parting.ComparedRails.{ComparedRails}
 
 -- the node is true at the vectors that pass the test

@@ -9,7 +9,7 @@ ghost use Rattle.miters.specs.Joined.{joined_pairs};
 ghost use Rattle.miters.specs.Matching.{unmatched};
 
 use care_sets::Care;
-use clause_decision::Pair;
+use clause_pairs::Pair;
 use netlist::Netlist;
 use std::marker::Model;
 

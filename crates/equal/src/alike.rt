@@ -3,19 +3,19 @@
 ghost use Rattle.std.specs.Prelude.{◌≡◌, ◌+◌, ◌≤◌, [], None, true, length, All, IfOk};
 ghost use Rattle.netlist.specs.Netlists.{count};
 ghost use Rattle.care_sets.specs.Binding.{IsCareOf};
-ghost use Rattle.clause_decision.specs.Apart.{AreNeverApart, IsPairOf};
+ghost use Rattle.clause_pairs.specs.Apart.{AreNeverApart, IsPairOf};
 ghost use Rattle.miters.specs.Cases.{ArePaired, TellsIn};
 ghost use Rattle.miters.specs.Differences.{difference};
 ghost use Rattle.miters.specs.Joined.{joined};
 
 use crate::accepted::AcceptedNetlists;
+use crate::whole::are_never_apart;
 use care_sets::Care;
-use clause_decision::{Budget, Pair, PairSearch};
+use clause_pairs::{Budget, Pair, PairSearch};
 use loops::{LoopedNetlist, find_blocks, find_cut};
 use miters::{BUDGET, JoinedPairs, PairsTold, joined_netlist, steering_columns, whole_scope};
 use netlist::Netlist;
 use std::alloc::{AllocError, Global};
-use verdict::are_never_apart;
 
 /// How many columns are fixed at most.
 const MOST_FIXED: u32 = 6;

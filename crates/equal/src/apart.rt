@@ -6,7 +6,7 @@ ghost use Rattle.dual_rail.specs.WorkingLists.{IsWide};
 ghost use Rattle.care_sets.specs.Binding.{IsCareOf};
 ghost use Rattle.care_sets.specs.Care.{columns, is_care_vector};
 ghost use Rattle.isolation.specs.Columns.{AreColumns};
-ghost use Rattle.verdict.specs.Causes.{IsOutOfNodes};
+ghost use Rattle.diagram_decision.specs.Causes.{IsOutOfNodes};
 ghost use Rattle.equal.specs.Comparisons.{AddsInComparison, IsBelowEnoughFor, IsFullFor, IsLaidBy, pairs_cost, whole_cost};
 ghost use Rattle.miters.specs.Pairs.{least_apart as least_apart_of};
 ghost use Rattle.equal.specs.Sets.{AreFixedBy, TellsBy};
@@ -17,10 +17,11 @@ use crate::parting::least_of_pairs;
 use bdd_ops::Diagrams;
 use bdd_store::StoreFault;
 use cyc_base::{Bits, MAX_NODES};
+use diagram_decision::{Fixpoint, solve_beside};
 use dual_rail::Rails;
 use isolation::column_rails;
 use std::alloc::Global;
-use verdict::{DecideFault, Fixpoint, solve_beside};
+use verdict::DecideFault;
 
 /// The least care vector on which the wires of some pair differ, where the netlist is solved and the care vectors are kept
 /// beside it.

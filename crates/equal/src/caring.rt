@@ -7,16 +7,16 @@ ghost use Rattle.loops.specs.Looped.{IsLooped};
 ghost use Rattle.isolation.specs.Columns.{AreColumns};
 ghost use Rattle.care_sets.specs.Binding.{IsCareOf};
 ghost use Rattle.care_sets.specs.Care.{columns, is_care_vector};
-ghost use Rattle.verdict.specs.Causes.{HasModelOver};
+ghost use Rattle.diagram_decision.specs.Causes.{HasModelOver};
 ghost use Rattle.equal.specs.Comparisons.{care_cost, IsLaidBy};
 ghost use Rattle.equal.specs.Sets.{TellsBy};
 
 use crate::comparison::Comparison;
 use bdd_ops::Diagrams;
 use bdd_store::{Node, StoreFault};
+use diagram_decision::{assume_on, invariant_on};
 use dual_rail::Rails;
 use std::alloc::Global;
-use verdict::{assume_on, invariant_on};
 
 /// The care vectors, where the columns have these rails.
 pub(crate) fn care_on(

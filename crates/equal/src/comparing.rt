@@ -4,8 +4,8 @@ ghost use Rattle.std.specs.Prelude.{◌≡◌, ◌≤◌, ◌⊎◌, [], None, I
 ghost use Rattle.care_sets.specs.Binding.{IsCareOf};
 ghost use Rattle.fixpoint.specs.Orders.{order as order_of};
 ghost use Rattle.refusals.specs.Refusals.{refusal as refusal_by};
-ghost use Rattle.verdict.specs.Causes.{IsOutOfNodes};
-ghost use Rattle.verdict.specs.Enough.{IsBelowEnough};
+ghost use Rattle.diagram_decision.specs.Causes.{IsOutOfNodes};
+ghost use Rattle.diagram_decision.specs.Enough.{IsBelowEnough};
 ghost use Rattle.equal.specs.Comparisons.{IsBelowEnoughFor};
 ghost use Rattle.equal.specs.Bounds.{IsBelowEnoughForBoth, IsOutOfNodesForBoth};
 ghost use Rattle.equal.specs.Compared.{matched_netlists, Compares};

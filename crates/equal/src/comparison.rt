@@ -3,10 +3,10 @@
 ghost use Rattle.std.specs.Prelude.{All};
 ghost use Rattle.bdd_ops.specs.Least.{IsLayout};
 ghost use Rattle.care_sets.specs.Care.{columns};
-ghost use Rattle.clause_decision.specs.Apart.{IsPairOf};
+ghost use Rattle.clause_pairs.specs.Apart.{IsPairOf};
 
 use care_sets::Care;
-use clause_decision::Pair;
+use clause_pairs::Pair;
 use loops::LoopedNetlist;
 
 /// Pairs of wires of a netlist that are compared on a care set, by diagrams.

@@ -19,7 +19,9 @@ mod least;
 mod lesser;
 mod parting;
 mod telling;
+mod whole;
 
 pub use comparing::{compare, compare_by_name};
 pub use fault::EqualFault;
 pub use telling::tell_equality;
+pub use whole::are_never_apart;

@@ -3,7 +3,7 @@ use Rattle.std.proofs.Common.{◌≡◌, ℕ, ◌+◌, ◌<◌, refl, None, Some
 use Rattle.miters.proofs.Common.{All-nil, All-cons, length-signal_names, slice_get_within, Sig, Parts, count, signal, signal_names, CareSet, IsPairOf, Pair, some_is_apart, least_apart, pair_of, joined, care_vectors}
 use Rattle.std.proofs.lemmas.List.Elements.{All-head, All-tail}
 use Rattle.indexmap.specs.IndexMap.{insert_entry}
-use Rattle.clause_decision.specs.Apart.{AreNeverApartIn, HasFixed}
+use Rattle.clause_pairs.specs.Apart.{AreNeverApartIn, HasFixed}
 use Rattle.miters.proofs.DifferenceLemmas.{agree_on_care}
 use Rattle.miters.proofs.JoinLemmas.{length-joined}
 use Rattle.miters.proofs.NameLemmas.{find_nowhere}

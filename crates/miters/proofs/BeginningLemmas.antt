@@ -4,8 +4,8 @@ use Rattle.miters.proofs.Common.{length-append, get_or-take, length-take-le, tak
 use Rattle.std.proofs.lemmas.Bool.{and_parts}
 use Rattle.std.proofs.lemmas.List.{take_all}
 use Rattle.cyc_base.specs.Vectors.{AtMost}
-use Rattle.clause_decision.specs.declared.pairs.Fixed.{Fixed}
-use Rattle.clause_decision.specs.Apart.{HasFixed, IsCubeOf, IsInCube, AreNeverApartIn}
+use Rattle.clause_pairs.specs.declared.pairs.Fixed.{Fixed}
+use Rattle.clause_pairs.specs.Apart.{HasFixed, IsCubeOf, IsInCube, AreNeverApartIn}
 use Rattle.clause_queries.proofs.VectorLemmas.{AtMost-push, find_least}
 use Rattle.miters.specs.declared.cases.JoinedPairs.{JoinedPairs}
 use Rattle.miters.specs.Cases.{ArePaired}

@@ -3,11 +3,11 @@ use Rattle.std.proofs.Common.{◌≡◌, ◌≢◌, ◌<◌, ℕ, List, [], ◌�
 use Rattle.miters.proofs.Common.{Parts, Pair, CareSet, columns, some_is_apart}
 use Rattle.std.proofs.lemmas.List.Elements.{All-push}
 use Rattle.care_sets.specs.Care.{IsCareVector}
-use Rattle.clause_decision.specs.declared.pairs.Fixed.{Fixed}
+use Rattle.clause_pairs.specs.declared.pairs.Fixed.{Fixed}
 use Rattle.miters.specs.declared.cases.PairsTold.{PairsTold}
 use Rattle.miters.specs.declared.cases.PairsTold.TheVariants.{Never, Apart, Open}
 use Rattle.miters.specs.Cases.{TellsIn}
-use Rattle.clause_decision.specs.Apart.{AreNeverApartIn, HasFixed, IsCubeOf, IsInCube}
+use Rattle.clause_pairs.specs.Apart.{AreNeverApartIn, HasFixed, IsCubeOf, IsInCube}
 
 -- a column that has a value
 abbrev pub fixed_at : ℕ → Bool → Fixed

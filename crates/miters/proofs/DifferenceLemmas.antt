@@ -4,7 +4,7 @@ use Rattle.miters.proofs.Common.{find, is_none, list_any, range_with_len, option
 use Rattle.std.specs.Option.{option_map, option_and_then}
 use Rattle.netlist.specs.Fixpoint.{next}
 use Rattle.care_sets.specs.Care.{IsCareVector}
-use Rattle.clause_decision.specs.Tests.{is_unknown_at}
+use Rattle.refusals.specs.Tests.{is_unknown_at}
 use Rattle.cyc_base.proofs.VectorLemmas.{find-alike}
 use Rattle.refusals.specs.declared.observe.Observe.TheVariants as observe
 use Rattle.refusals.specs.declared.refusal.Refusal.TheVariants.{Leaves}

@@ -4,9 +4,9 @@ use Rattle.std.specs.List.{range_with_len}
 use Rattle.cyc_base.specs.Vectors.{AtMost}
 use Rattle.netlist.specs.declared.parts.Parts.{Parts}
 use Rattle.care_sets.specs.Care.{CareSet, IsCareVector, is_care_vector}
-use Rattle.clause_decision.specs.declared.pairs.Fixed.{Fixed}
-use Rattle.clause_decision.specs.declared.pairs.Pair.{Pair}
-use Rattle.clause_decision.specs.Apart.{some_is_apart}
+use Rattle.clause_pairs.specs.declared.pairs.Fixed.{Fixed}
+use Rattle.clause_pairs.specs.declared.pairs.Pair.{Pair}
+use Rattle.clause_pairs.specs.Apart.{some_is_apart}
 
 -- the first columns fixed at these values
 abbrev pub cube_of : List Bool → List Fixed

@@ -4,9 +4,9 @@ use Rattle.netlist.specs.declared.parts.Parts.{Parts}
 use Rattle.netlist.specs.Netlists.{count}
 use Rattle.care_sets.specs.Binding.{IsCareOf}
 use Rattle.care_sets.specs.Care.{CareSet}
-use Rattle.clause_decision.specs.declared.pairs.Fixed.{Fixed}
-use Rattle.clause_decision.specs.declared.pairs.Pair.{Pair}
-use Rattle.clause_decision.specs.Apart.{AreNeverApartIn, IsPairOf}
+use Rattle.clause_pairs.specs.declared.pairs.Fixed.{Fixed}
+use Rattle.clause_pairs.specs.declared.pairs.Pair.{Pair}
+use Rattle.clause_pairs.specs.Apart.{AreNeverApartIn, IsPairOf}
 use Rattle.clause_decision.specs.Scopes.{is_marked, IsScopeOf}
 use Rattle.miters.specs.declared.cases.JoinedPairs.{JoinedPairs}
 use Rattle.miters.specs.declared.cases.PairsTold.{PairsTold}

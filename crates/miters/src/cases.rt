@@ -3,12 +3,13 @@
 
 ghost use Rattle.std.specs.Prelude.{◌≡◌, ◌<◌, ◌++◌, ◌∷◌, [], All, IfOk, IfSome};
 ghost use Rattle.care_sets.specs.Care.{columns as columns_of};
-ghost use Rattle.clause_decision.specs.Apart.{IsCubeOf, IsPairOf};
+ghost use Rattle.clause_pairs.specs.Apart.{IsCubeOf, IsPairOf};
 ghost use Rattle.miters.specs.Cases.{told_by, ArePaired, TellsIn};
 
 use crate::hints::find_hints;
 use care_sets::Care;
-use clause_decision::{Budget, Fixed, Hint, Pair, PairSearch, Scope, are_never_apart_in};
+use clause_pairs::{Budget, Fixed, Hint, Pair, PairSearch, are_never_apart_in};
+use clause_decision::Scope;
 use loops::LoopedNetlist;
 use netlist::Netlist;
 use std::alloc::{AllocError, Global};

@@ -3,12 +3,12 @@
 ghost use Rattle.std.specs.Prelude.{◌≡◌, ◌+◌, ◌<◌, ◌≤◌, [], length, All, IfOk, IfSome, OnOk, ℕ};
 ghost use Rattle.indexmap.specs.IndexMap.{values};
 ghost use Rattle.netlist.specs.Netlists.{count};
-ghost use Rattle.clause_decision.specs.Apart.{IsPairOf};
+ghost use Rattle.clause_pairs.specs.Apart.{IsPairOf};
 ghost use Rattle.miters.specs.Joined.{joined};
 
 use crate::prints::{Print, fingerprints};
 use care_sets::Care;
-use clause_decision::{Fixed, Hint, Pair};
+use clause_pairs::{Fixed, Hint, Pair};
 use cyc_base::Sig;
 use indexmap::IndexMap;
 use loops::{LoopedNetlist, find_blocks};

@@ -10,7 +10,7 @@ ghost use Rattle.miters.specs.Joined.{moved_by, moved_gate_by, moved_gates, move
 ghost use Rattle.miters.specs.Matching.{unmatched};
 
 use crate::pairs::own_pairs;
-use clause_decision::Pair;
+use clause_pairs::Pair;
 use cyc_base::{Items, Name, Sig};
 use netlist::{Gate, Netlist, copy_gates, netlist_of, parts_with};
 use std::alloc::{AllocError, Global};

@@ -6,7 +6,7 @@ ghost use Rattle.miters.specs.Differences.{column_named, columns_by_name, pair_o
 ghost use Rattle.miters.specs.Matching.{name_of};
 
 use crate::matching::latch_of;
-use clause_decision::Pair;
+use clause_pairs::Pair;
 use cyc_base::{Name, Sig};
 use netlist::Netlist;
 use std::alloc::{AllocError, Global};

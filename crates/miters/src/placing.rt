@@ -9,7 +9,7 @@ ghost use Rattle.miters.specs.Places.{answer_at};
 
 use crate::answer::Answer;
 use crate::pairs::{find_columns, latch_pairs, output_pairs};
-use clause_decision::Pair;
+use clause_pairs::Pair;
 use cyc_base::{Bits, Sig, Trit};
 use netlist::Netlist;
 use std::alloc::{AllocError, Global};

@@ -6,7 +6,7 @@ ghost use Rattle.netlist.specs.Netlists.{count};
 
 use crate::words::{Word, gate_word, word_at};
 use care_sets::Care;
-use clause_decision::{Fixed, Pair};
+use clause_pairs::{Fixed, Pair};
 use loops::{Blocks, Cut, LoopedNetlist, find_blocks, find_cut, gates_at};
 use netlist::Netlist;
 use std::alloc::{AllocError, Global};

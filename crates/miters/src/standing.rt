@@ -9,7 +9,7 @@ ghost use Rattle.miters.specs.Placed.{placed_by, IsGate, StandsAt, StandIn};
 
 use crate::pairs::own_pairs;
 use crate::prints::mixed;
-use clause_decision::Pair;
+use clause_pairs::Pair;
 use cover_logic::{Cover, Lit, Row};
 use cyc_base::Sig;
 use indexmap::IndexMap;

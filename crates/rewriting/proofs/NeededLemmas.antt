@@ -22,8 +22,8 @@ use Rattle.refusals.proofs.FirstLemmas.{none_passes}
 use Rattle.refusals.proofs.LawLemmas.{care_test}
 use Rattle.refusals.proofs.RefusalLemmas.{bits_back, length-bits, fails_after, second_fails}
 use Rattle.refusals.proofs.ShowingLemmas.{care_vector_decides, care_vector_is}
-use Rattle.verdict.specs.Verdicts.{are_care_values}
-use Rattle.verdict.proofs.CountLemmas.{bits-known}
+use Rattle.diagram_decision.specs.Judgements.{are_care_values}
+use Rattle.diagram_decision.proofs.CountLemmas.{bits-known}
 use Rattle.rewriting.specs.Rewriting.{trit_eq, cut_wires, are_fixed, is_enough, sweeps_needed}
 use Rattle.rewriting.specs.Laws.{NeededIsLeast}
 

@@ -30,7 +30,7 @@ use Rattle.unroll.specs.Laws.{AreEnough}
 use Rattle.unroll.specs.Unrolled.{sweeps_of, unrolled, unrolled_size, shift, kept_latch, IsOfLoops}
 use Rattle.unroll.proofs.Opened.{unrolled_is_loop_free}
 use Rattle.unroll.proofs.Telling.{unrolled_has_its_size, unrolled_keeps_interface, unrolled_tells_as_much}
-use Rattle.verdict.specs.Verdicts.{are_care_values, AreSweepsOnCare}
+use Rattle.diagram_decision.specs.Judgements.{are_care_values, AreSweepsOnCare}
 use Rattle.rewriting.specs.Rewriting.{sweeps_needed, rewritten, rewritten_size, IsRewriting}
 use Rattle.rewriting.specs.Laws.{RewrittenIsLoopFree, RewrittenHasItsSize, RewrittenShowsTheSame}
 use Rattle.rewriting.proofs.AgreeLemmas.{netlists_agree, sizes_agree}

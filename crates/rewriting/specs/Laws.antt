@@ -9,7 +9,7 @@ use Rattle.care_sets.specs.Care.{CareSet}
 use Rattle.refusals.specs.declared.observe.Observe.{Observe}
 use Rattle.refusals.specs.Acceptance.{Accepts}
 use Rattle.schedules.specs.Settling.{Same}
-use Rattle.verdict.specs.Verdicts.{are_care_values}
+use Rattle.diagram_decision.specs.Judgements.{are_care_values}
 use Rattle.aig_core.specs.declared.building.Built.{Built}
 use Rattle.aig_core.specs.Answers.{HasValues}
 use Rattle.rewriting.specs.Graphs.{RunsAs, machine_of}

@@ -18,7 +18,7 @@ use Rattle.unroll.specs.Counted.{Counted}
 use Rattle.unroll.specs.Unrolled.{unrolled, unrolled_size}
 use Rattle.unroll.specs.declared.fault.UnrollFault.{UnrollFault}
 use Rattle.unroll.specs.declared.fault.UnrollFault.TheVariants.{TooLarge, Memory}
-use Rattle.verdict.specs.Verdicts.{AreSweepsOnCare}
+use Rattle.diagram_decision.specs.Judgements.{AreSweepsOnCare}
 use Rattle.blif_write.specs.Laws.{ReadsBack}
 
 -- two values are one

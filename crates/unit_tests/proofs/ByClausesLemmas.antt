@@ -21,7 +21,8 @@ use Rattle.refusals.specs.Acceptance.{Accepts}
 use Rattle.refusals.specs.declared.observe.Observe.TheVariants as observe
 use Rattle.refusals.proofs.RefusalLemmas.{gate_sig_at, gate_wire, length-gate_sigs}
 use Rattle.clause_decision.specs.Changes.{AreFedKnown}
-use Rattle.clause_decision.specs.Loads.{HasLoads, LoadsAreKnown}
+use Rattle.clause_decision.specs.Loads.{HasLoads}
+use Rattle.refusals.specs.Tests.{LoadsAreKnown}
 use Rattle.clause_decision.specs.Scopes.{AreClosed, AreInScope, AreKnownOnCare, AreNeverUnknown, is_marked}
 use Rattle.clause_decision.specs.declared.scope.Scope.{Scope}
 

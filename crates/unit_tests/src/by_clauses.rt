@@ -11,10 +11,9 @@ ghost use Rattle.refusals.specs.Acceptance.{Accepts};
 use crate::asked::{ANY, Asked, is_right_of};
 use bdd_ops::Diagrams;
 use care_sets::Care;
-use clause_decision::{
-    Budget, First, Found, Pair, PairSearch, Scope, each_unknown, first_unknown, is_possible,
-    least_leaving, least_outside, least_unknown, sweeps_at, sweeps_fed_known, sweeps_needed,
-};
+use clause_pairs::{Budget, Pair, PairSearch};
+use clause_decision::{First, Found, Scope, each_unknown, first_unknown, is_possible, least_leaving, least_outside, least_unknown, sweeps_fed_known, sweeps_needed};
+use loop_simulation::sweeps_at;
 use cyc_base::{Items, Sig};
 use loops::{Blocks, Cut, LoopedNetlist};
 use netlist::Netlist;
@@ -328,8 +327,8 @@ pub fn told_apart(
     };
     let care = Care::none();
     let scope = whole_scope(alloc, net)?;
-    let by_all = clause_decision::are_never_apart(alloc, net, &care, &scope, &search)?;
-    let by_loops = verdict::are_never_apart(alloc, looped, &care, &search)?;
+    let by_all = clause_pairs::are_never_apart(alloc, net, &care, &scope, &search)?;
+    let by_loops = equal::are_never_apart(alloc, looped, &care, &search)?;
     Ok(by_all == never && by_loops == never)
 }
 

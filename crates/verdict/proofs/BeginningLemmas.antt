@@ -3,8 +3,8 @@ use Rattle.std.proofs.Common.{◌≡◌, Bool, true, false, not, List, length, O
 use Rattle.verdict.proofs.Common.{find, is_none, is_some, option_map, vectors, Parts, CareSet, columns, is_in_invariant, is_care_vector, Observe, Initial, EmptyCare, initial_refusal, refusal, MayGoOn}
 use Rattle.refusals.specs.Refusals.{is_initial}
 use Rattle.refusals.proofs.FirstLemmas.{find-filter}
-use Rattle.clause_decision.specs.Tests.{is_outside}
-use Rattle.verdict.proofs.VerdictLemmas.{refused-initial, refused-empty, empty-is}
+use Rattle.refusals.specs.Tests.{is_outside}
+use Rattle.diagram_decision.proofs.VerdictLemmas.{refused-initial, refused-empty, empty-is}
 
 -- the refusal is that of the first permitted state outside the invariant
 pub initial-first : (net : Parts) (care : CareSet) → initial_refusal net care ≡ option_map Initial (find (is_outside net care) (vectors (length net.latches)))

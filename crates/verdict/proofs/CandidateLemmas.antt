@@ -3,11 +3,12 @@ use Rattle.std.proofs.Common.{◌≡◌, inl, inr, ℕ, ◌<◌, Bool, true, fal
 use Rattle.verdict.proofs.Common.{find, is_some, and_from, cases_lt, get_or-map, get_or_default, length-map, vectors, Parts, IsNetlist, gate_sig, Blocks, AreBlocksOf, is_marked, ListsMarked, unsettled_loops_decide, CareSet, columns, is_care_vector, Observe, observed, is_undetermined, none_passes, gate_wire, care_vector_is, is_unknown_at, SettleInOneSweep, AreMarksOf, All, IsFirstToRefuse}
 use Rattle.std.proofs.lemmas.Bool.{cases_eq}
 use Rattle.isolation.specs.Excerpts.{gate_in}
-use Rattle.clause_decision.specs.Tests.{is_unknown, IsFirstUnknown}
+use Rattle.refusals.specs.Tests.{is_unknown}
+use Rattle.clause_decision.specs.Tests.{IsFirstUnknown}
 use Rattle.verdict.specs.Determination.{AreDeterminedOnCare, IsOpen}
 use Rattle.verdict.specs.Scopes.{AreOpenGates}
 use Rattle.verdict.specs.Unknown.{AreAskedCandidates, IsAskedFor}
-use Rattle.verdict.proofs.PartLemmas.{known-here}
+use Rattle.diagram_decision.proofs.PartLemmas.{known-here}
 
 -- ---- the first of them that is unknown
 

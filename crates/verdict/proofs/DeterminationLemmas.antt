@@ -1,7 +1,6 @@
 -- Netlists whose gates are all determined on care.
-use Rattle.std.proofs.Common.{◌≡◌, inl, inr, ℕ, ◌+◌, ◌<◌, Bool, true, false, if◌then◌else◌, List, [], ◌∷◌, ◌++◌, length, get_or, Option, Some, None, refl, sym, ◌∙◌, subst, arith, true≢false}
-use Rattle.verdict.proofs.Common.{find, cases_lt, get_or_append_left, Trit, bits, vectors, Parts, IsNetlist, Blocks, AreBlocksOf, Loops, IsCountOfSweeps, unsettled_loops_decide, is_marked, CareSet, columns, is_care_vector, Refusal, EmptyCare, Observe, care_vectors, leaves, leaves_refusal, undetermined_refusal, empty-filter, found_wide, care_vector_decides, care_vector_is, SettleInOneSweep, IsLeastCount, are_care_values, AreLoose}
-use Rattle.std.proofs.lemmas.List.{get_or_push}
+use Rattle.std.proofs.Common.{◌≡◌, inl, inr, ℕ, Bool, true, false, if◌then◌else◌, List, length, get_or, Option, Some, None, refl, sym, ◌∙◌, subst, arith, true≢false}
+use Rattle.verdict.proofs.Common.{find, cases_lt, Trit, bits, vectors, Parts, IsNetlist, Blocks, AreBlocksOf, Loops, IsCountOfSweeps, unsettled_loops_decide, is_marked, CareSet, columns, is_care_vector, Refusal, EmptyCare, Observe, care_vectors, leaves, leaves_refusal, undetermined_refusal, empty-filter, found_wide, care_vector_decides, care_vector_is, SettleInOneSweep, IsLeastCount, are_care_values, AreLoose}
 use Rattle.verdict.specs.Loose.{AreKnownAround}
 use Rattle.cyc_base.proofs.OrderLemmas.{bit-known, bits-at}
 use Rattle.loops.specs.Sweeps.{CutsAreFixed}
@@ -11,8 +10,8 @@ use Rattle.refusals.specs.Refusals.{empty_refusal}
 use Rattle.refusals.proofs.FirstLemmas.{found_passes}
 use Rattle.refusals.proofs.RefusalLemmas.{find_none-all, length-bits}
 use Rattle.verdict.specs.Determination.{AreDeterminedOnCare, IsGate, IsOpen}
-use Rattle.verdict.proofs.CountLemmas.{bits-of-care, care-values}
-use Rattle.verdict.proofs.PartLemmas.{loose-none, undetermined-none, known-here}
+use Rattle.diagram_decision.proofs.CountLemmas.{bits-of-care, care-values}
+use Rattle.diagram_decision.proofs.PartLemmas.{loose-none, undetermined-none, known-here}
 
 -- ---- values of care vectors
 
@@ -38,11 +37,6 @@ some_vector net care none = by (find (is_care_vector net care) (vectors (columns
     by o is = grind (arith, true≢false, empty-filter, care_vector_decides, found_wide, found_passes)
 
 -- ---- settled loops, and their sweeps
-
--- one element more
-pub each-more : {A : Type 0} (P : ℕ → A → Type 0) (d x : A) (n : ℕ) (xs : List A) → length xs ≡ n → ((k : ℕ) → k < n → P k (get_or xs k d)) → P n x →
-    (k : ℕ) → k < n + 1 → P k (get_or (xs ++ x ∷ []) k d)
-each-more P d x n xs wide before here k less = grind (arith, cases_lt k n, get_or_append_left xs (x ∷ []) d k, get_or_push xs x d k)
 
 -- the least number of sweeps at Boolean care vectors is that of the loop on care
 pub least-count : (net : Parts) (loops : Loops) (care : CareSet) (a m : ℕ) → IsLeastCount net loops care a m → IsCountOfSweeps net loops (are_care_values net care) a m

@@ -8,14 +8,15 @@ use Rattle.isolation.proofs.CountLemmas.{one_sweep_is_exact}
 use Rattle.refusals.specs.Acceptance.{SomeCareVector}
 use Rattle.refusals.proofs.LawLemmas.{is_loose}
 use Rattle.refusals.proofs.RefusalLemmas.{gate_sig_at, length-gate_sigs}
-use Rattle.clause_decision.specs.Tests.{is_unknown, TellEachUnknown}
+use Rattle.refusals.specs.Tests.{is_unknown}
+use Rattle.clause_decision.specs.Tests.{TellEachUnknown}
 use Rattle.verdict.specs.Fanout.{AreReached}
 use Rattle.clause_decision.specs.Scopes.{AreKnownOnCare}
 use Rattle.verdict.specs.Loose.{AreKnownAround, AreWithout, IsLoopCount}
-use Rattle.verdict.specs.Verdicts.{AreSweepsOnCare}
-use Rattle.verdict.proofs.CountLemmas.{care-values}
+use Rattle.diagram_decision.specs.Judgements.{AreSweepsOnCare}
+use Rattle.diagram_decision.proofs.CountLemmas.{care-values}
 use Rattle.verdict.proofs.DeterminationLemmas.{determined-around, least-count}
-use Rattle.verdict.proofs.PartLemmas.{IsKnownOnCare, known-here, loose-known}
+use Rattle.diagram_decision.proofs.PartLemmas.{IsKnownOnCare, known-here, loose-known}
 use Rattle.verdict.proofs.CandidateLemmas.{none-some}
 
 -- what a test says that isn't so

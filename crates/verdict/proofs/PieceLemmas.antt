@@ -1,7 +1,8 @@
 -- Many gates, piece by piece.
 use Rattle.std.proofs.Common.{◌≡◌, inl, inr, ℕ, ◌<◌, ◌≤◌, ◌+◌, ◌-◌, Bool, true, false, List, length, get_or, sym, ap, subst, ◌∙◌, arith}
 use Rattle.verdict.proofs.Common.{cases_lt, Parts, CareSet, is_unknown_at}
-use Rattle.clause_decision.specs.Tests.{is_unknown, IsFirstUnknown, TellsFirstUnknown}
+use Rattle.refusals.specs.Tests.{is_unknown}
+use Rattle.clause_decision.specs.Tests.{IsFirstUnknown, TellsFirstUnknown}
 use Rattle.clause_decision.specs.Witnesses.{IsWitness}
 use Rattle.clause_queries.specs.declared.first.First.TheVariants as firsts
 use Rattle.verdict.specs.Pieces.{IsPieceAt, AreKnownBefore}

@@ -1,13 +1,7 @@
 -- Which gates the clauses of a question speak of.
-use Rattle.std.proofs.Common.{◌≡◌, inl, inr, ℕ, ◌+◌, ◌-◌, ◌<◌, ◌≤◌, eqb, Bool, true, false, not, List, [], length, map, get_or, slice_get, Option, Some, subst, refl, sym, ap, ◌∙◌, arith, true≢false, Contains}
-use Rattle.verdict.proofs.Common.{option_map_or, cases_lt, get_or_from_slice_get, Sig, get_or-map, get_or_default, Parts, Latch, gate_sig, IsNetlist, Blocks, AreBlocksOf, block_at, gate_home, is_marked, unsettled_loops_decide, CareModel, CareSet, SettleInOneSweep, AreDriversBefore, All, AreCandidates}
+use Rattle.std.proofs.Common.{◌≡◌, inl, inr, ℕ, ◌+◌, ◌-◌, ◌<◌, Bool, true, false, not, List, [], length, map, get_or, slice_get, Option, Some, subst, refl, sym, ap, ◌∙◌, arith, true≢false, Contains}
+use Rattle.verdict.proofs.Common.{option_map_or, cases_lt, get_or_from_slice_get, Sig, get_or-map, get_or_default, Parts, Latch, gate_sig, IsNetlist, Blocks, AreBlocksOf, is_marked, unsettled_loops_decide, CareModel, CareSet, SettleInOneSweep, AreDriversBefore, All, AreCandidates}
 use Rattle.std.proofs.lemmas.Bool.{not-true}
-use Rattle.std.proofs.lemmas.List.Elements.{Contains-get_or}
-use Rattle.std.proofs.lemmas.Map.Steps.{le-length_from_below}
-use Rattle.std.proofs.lemmas.Map.Views.{list_any-from_Contains}
-use Rattle.std.specs.Cmp.{nat_eq_equiv}
-use Rattle.std.specs.List.{list_any}
-use Rattle.loops.specs.Looped.{Looped, IsLooped}
 use Rattle.loops.proofs.Walks.{leads-step}
 use Rattle.loops.specs.Cones.{IsConeOf}
 use Rattle.loops.proofs.UpstreamLemmas.{upstream-trans}
@@ -15,20 +9,8 @@ use Rattle.clause_decision.specs.declared.scope.Scope.{Scope}
 use Rattle.clause_decision.specs.Loads.{HasLoads}
 use Rattle.clause_decision.specs.Scopes.{AreClosed, AreInScope, AreNeverUnknown}
 use Rattle.verdict.specs.Scopes.{AreDrivers}
-use Rattle.verdict.proofs.CareLemmas.{model_is}
-use Rattle.verdict.proofs.WorkLemmas.{there_each}
-
--- ---- how many blocks there are
-
--- each has a gate, whose home it is
-pub few_blocks : (l : Looped) → IsLooped l → IsNetlist l.net → length l.blocks.list ≤ 4294967295
-few_blocks l is valid = omega (arith, le-length_from_below l.blocks.home (length l.blocks.list) is-home, is.blocks.homes, valid.fits)
-  where
-    is-home : (b : ℕ) → b < length l.blocks.list → list_any (eqb b) l.blocks.home ≡ true
-    is-home b less =
-        let gates : List ℕ = (block_at l.blocks b).gates in
-        let at = gate_home l.net l.blocks is.blocks b (get_or gates 0 0) less (Contains-get_or gates 0 0 (is.blocks.filled b less)) in
-        list_any-from_Contains nat_eq_equiv b l.blocks.home (subst (Contains l.blocks.home) at.1 (Contains-get_or l.blocks.home (get_or gates 0 0) 0 (omega (arith, at.0, is.blocks.homes))))
+use Rattle.diagram_decision.proofs.CareLemmas.{model_is}
+use Rattle.diagram_decision.proofs.WorkLemmas.{there_each}
 
 -- ---- scopes
 

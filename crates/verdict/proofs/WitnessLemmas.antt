@@ -13,11 +13,11 @@ use Rattle.verdict.specs.Unknown.{AreAskedCandidates}
 use Rattle.verdict.specs.Determinacy.{IsUnknownObserved, IsUnknownGateAt}
 use Rattle.verdict.specs.Scopes.{MayGoOn}
 use Rattle.verdict.specs.Questions.{Asked}
-use Rattle.verdict.specs.Verdicts.{IsJudgement}
+use Rattle.diagram_decision.specs.Judgements.{IsJudgement}
 use Rattle.verdict.specs.Witnessed.{IsSomeJudgement, IsSomeRefusal, IsUndeterminedAt}
-use Rattle.verdict.specs.declared.judgement.Judgement.{Judgement}
-use Rattle.verdict.specs.declared.judgement.Judgement.TheVariants as judgements
-use Rattle.verdict.proofs.VerdictLemmas.{refused-on-care}
+use Rattle.diagram_decision.specs.declared.judgement.Judgement.{Judgement}
+use Rattle.diagram_decision.specs.declared.judgement.Judgement.TheVariants as judgements
+use Rattle.diagram_decision.proofs.VerdictLemmas.{refused-on-care}
 
 -- ---- the refusal that there is beside any witness
 

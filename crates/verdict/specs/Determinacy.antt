@@ -3,7 +3,7 @@ use Rattle.std.specs.Prelude.{◌≡◌, ◌<◌, ℕ, Bool, true, List, length}
 use Rattle.netlist.specs.declared.parts.Parts.{Parts}
 use Rattle.netlist.specs.Netlists.{gate_sig}
 use Rattle.care_sets.specs.Care.{columns}
-use Rattle.clause_decision.specs.Tests.{is_unknown_at}
+use Rattle.refusals.specs.Tests.{is_unknown_at}
 use Rattle.refusals.specs.Acceptance.{observed}
 use Rattle.refusals.specs.Refusals.{is_among}
 use Rattle.refusals.specs.declared.refusal.Refusal.{Refusal}

@@ -1,14 +1,13 @@
--- Netlists whose gates are all determined on care, and how their loops are seen to be so.
-use Rattle.std.specs.Prelude.{◌≡◌, ◌≢◌, ◌<◌, ℕ, Bool, true, false, List, length}
+-- Netlists whose gates are all determined on care, and the gates that decide whether they are.
+use Rattle.std.specs.Prelude.{◌≡◌, ◌≢◌, ◌<◌, ℕ, Bool, false, List, length}
 use Rattle.cyc_base.specs.declared.trit.Trit.TheVariants.{X}
 use Rattle.cyc_base.specs.Values.{bits}
 use Rattle.netlist.specs.declared.parts.Parts.{Parts}
 use Rattle.netlist.specs.Fixpoint.{fix_gates}
 use Rattle.loops.specs.declared.structure.Blocks.{Blocks}
-use Rattle.loops.specs.Blocks.{block_at, home_of}
+use Rattle.loops.specs.Blocks.{home_of}
 use Rattle.loops.specs.Sweeps.{value_in}
 use Rattle.isolation.specs.Laws.{IsLooped}
-use Rattle.isolation.specs.Settled.{SettleInSweeps}
 use Rattle.loops.specs.Cones.{is_marked}
 use Rattle.care_sets.specs.Care.{CareSet, IsCareVector}
 
@@ -18,13 +17,6 @@ AreDeterminedOnCare net care Kind = (v : List Bool) → IsCareVector net care v 
 
 abbrev pub IsGate : Parts → ℕ → Type 0
 IsGate net n = n < length net.gates
-
--- ---- how loops are decided
-
--- each loop at a marked place is settled by itself in one sweep
-abbrev pub SettleInOneSweep : Parts → Blocks → List Bool → Type 0
-SettleInOneSweep net blocks settled = (b : ℕ) → b < length blocks.list → (block_at blocks b).looped ≡ true → is_marked settled b ≡ true →
-    SettleInSweeps net (block_at blocks b).gates 1
 
 -- a gate of a loop at a place without a mark
 pub record IsOpen (net : Parts) (blocks : Blocks) (settled : List Bool) (n : ℕ) : Type 0 where

@@ -16,11 +16,11 @@ use Rattle.care_sets.specs.Care.{CareSet, IsCareVector}
 use Rattle.refusals.specs.Refusals.{undetermined_refusal}
 use Rattle.refusals.specs.declared.observe.Observe.{Observe}
 use Rattle.clause_decision.specs.Scopes.{AreKnownOnCare}
-use Rattle.clause_decision.specs.Tests.{is_unknown}
+use Rattle.refusals.specs.Tests.{is_unknown}
 use Rattle.verdict.specs.declared.loose.Unknown.{Unknown}
 use Rattle.verdict.specs.declared.loose.Unknown.TheVariants as unknowns
 use Rattle.verdict.specs.Unknown.{IsFedByOpen}
-use Rattle.verdict.specs.Verdicts.{are_care_values, AreLoose}
+use Rattle.diagram_decision.specs.Judgements.{are_care_values, AreLoose}
 
 -- a mark for each gate: those in loops that aren't settled, and in their fanout, have one
 pub record AreCandidates (net : Parts) (blocks : Blocks) (settled marks : List Bool) : Type 0 where

@@ -2,7 +2,7 @@
 use Rattle.std.specs.Prelude.{◌≡◌, ◌<◌, ◌≤◌, ◌+◌, ℕ, Bool, false, List, length, slice_index, slice_index_or}
 use Rattle.netlist.specs.declared.parts.Parts.{Parts}
 use Rattle.care_sets.specs.Care.{CareSet}
-use Rattle.clause_decision.specs.Tests.{is_unknown}
+use Rattle.refusals.specs.Tests.{is_unknown}
 
 -- some of these gates, at least one, from this place on
 pub record IsPieceAt (gates : List ℕ) (start : ℕ) (piece : List ℕ) : Type 0 where

@@ -13,11 +13,13 @@ use Rattle.care_sets.specs.Binding.{IsCareOf}
 use Rattle.care_sets.specs.Care.{CareSet}
 use Rattle.clause_decision.specs.Scopes.{AreNeverUnknown}
 use Rattle.refusals.specs.declared.observe.Observe.{Observe}
+use Rattle.diagram_decision.specs.Questions.{Asked as DiagramsAsked}
 use Rattle.verdict.specs.declared.ground.Ground.{Ground}
-use Rattle.verdict.specs.declared.judgement.Judgement.{Judgement}
+use Rattle.diagram_decision.specs.declared.judgement.Judgement.{Judgement}
 use Rattle.verdict.specs.declared.verdict.Verdict.{Verdict}
-use Rattle.verdict.specs.Determination.{SettleInOneSweep}
-use Rattle.verdict.specs.Verdicts.{AreSweepsOnCare, IsJudgement, IsVerdict}
+use Rattle.diagram_decision.specs.Alone.{SettleInOneSweep}
+use Rattle.diagram_decision.specs.Judgements.{AreSweepsOnCare, IsJudgement}
+use Rattle.verdict.specs.Verdicts.{IsVerdict}
 
 pub record Asked : Type 0 where
   pub net : Parts
@@ -56,6 +58,10 @@ pub record IsGround (l : Looped) (ground : Ground) : Type 0 where
 pub record IsGrounded (q : Asked) (ground : Ground) : Type 0 where
   pub is : IsAsked q
   pub ground_is : IsGround (looped_in q) ground
+
+-- the question as diagrams answer it
+abbrev pub on_diagrams : Asked → DiagramsAsked
+on_diagrams q = record { net = q.net; blocks = q.blocks; cut = q.cut; care = q.care; what = q.what }
 
 -- what it is answered by
 abbrev pub IsJudgementOf : Asked → Judgement → Type 0

@@ -11,10 +11,10 @@ use Rattle.refusals.specs.Refusals.{refusal, IsAt}
 use Rattle.refusals.specs.declared.observe.Observe.{Observe}
 use Rattle.refusals.specs.declared.refusal.Refusal.{Refusal}
 use Rattle.refusals.specs.declared.refusal.Refusal.TheVariants.{Initial, EmptyCare, Undetermined, Leaves}
-use Rattle.verdict.specs.declared.judgement.Judgement.{Judgement}
-use Rattle.verdict.specs.declared.judgement.Judgement.TheVariants as judgements
+use Rattle.diagram_decision.specs.declared.judgement.Judgement.{Judgement}
+use Rattle.diagram_decision.specs.declared.judgement.Judgement.TheVariants as judgements
 use Rattle.verdict.specs.Questions.{Asked}
-use Rattle.verdict.specs.Verdicts.{AreLoose}
+use Rattle.diagram_decision.specs.Judgements.{AreLoose}
 
 -- A netlist that is refused for an undetermined wire, the first at its least vector: here another observed wire, or the same
 -- one, at another care vector, or the same one.

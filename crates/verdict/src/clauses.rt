@@ -9,16 +9,13 @@ ghost use Rattle.verdict.specs.Questions.{IsJudgementOf};
 
 use crate::determinacy::{Determinacy, determinacy_on_care};
 use crate::invariance::{Invariance, invariance_of};
-use crate::judgement::Judgement;
 use crate::question::Question;
 use crate::undetermined::unknown_refusal;
 use clause_decision::{Found, is_possible, least_outside};
 use cyc_base::Bits;
+use diagram_decision::Judgement;
 use refusals::Refusal;
 use std::alloc::{AllocError, Global};
-
-/// The most nodes that are spent on one loop by itself, so that a loop which isn't settled soon costs little.
-pub const LOOP_NODES: u32 = 100_000;
 
 /// How far the decision comes without the gates.
 #[derive(Drop)]

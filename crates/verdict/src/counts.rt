@@ -5,16 +5,16 @@ ghost use Rattle.std.specs.Prelude.{◌≡◌, ◌<◌, ℕ, true, length, Conta
 ghost use Rattle.loops.specs.Blocks.{block_at};
 ghost use Rattle.loops.specs.Cuts.{loops_by};
 ghost use Rattle.refusals.specs.Acceptance.{SomeCareVector};
-ghost use Rattle.clause_decision.specs.Sweeping.{IsLeastCount};
+ghost use Rattle.loop_simulation.specs.Sweeping.{IsLeastCount};
 ghost use Rattle.verdict.specs.Loose.{AreUnknown, IsLoopCount};
-ghost use Rattle.verdict.specs.Verdicts.{AreSweepsOnCare};
+ghost use Rattle.diagram_decision.specs.Judgements.{AreSweepsOnCare};
 
-use crate::alone::block_number;
 use crate::loose::{Unknown, is_fed_known, is_known_around};
 use crate::question::Question;
 use crate::scopes::scope_of;
 use clause_decision::{sweeps_fed_known, sweeps_needed};
 use cyc_base::Items;
+use diagram_decision::block_number;
 use loops::{SweepCounts, gates_at};
 use std::alloc::{AllocError, Global};
 

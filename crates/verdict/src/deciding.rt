@@ -4,15 +4,14 @@ ghost use Rattle.std.specs.Prelude.{◌≡◌, ◌≤◌, ◌⊎◌, IfOk, IfErr
 ghost use Rattle.care_sets.specs.Binding.{IsCareOf};
 ghost use Rattle.loops.specs.Blocks.{AreBlocksOf};
 ghost use Rattle.loops.specs.Cuts.{IsCutOf};
-ghost use Rattle.verdict.specs.Causes.{IsOutOfNodes};
-ghost use Rattle.verdict.specs.Enough.{IsBelowEnough};
+ghost use Rattle.diagram_decision.specs.Causes.{IsOutOfNodes};
+ghost use Rattle.diagram_decision.specs.Enough.{IsBelowEnough};
 ghost use Rattle.verdict.specs.Questions.{AreCountsOf, IsJudgementOf, IsVerdictOf};
 ghost use Rattle.verdict.specs.Verdicts.{IsVerdict};
 
-use crate::counting::{count_from_columns, counts_by_clauses, counts_by_diagrams};
+use crate::counting::counts_by_clauses;
 use crate::fault::DecideFault;
 use crate::ground::ground_of;
-use crate::judgement::Judgement;
 use crate::judging::{FEW_NODES, judge_anew};
 use crate::question::Question;
 use crate::verdict::Verdict;
@@ -20,6 +19,7 @@ use bdd_ops::Diagrams;
 use bdd_store::StoreFault;
 use care_sets::Care;
 use cyc_base::MAX_NODES;
+use diagram_decision::{Judgement, count_from_columns, counts_by_diagrams};
 use loops::{Blocks, Cut, LoopedNetlist, SweepCounts};
 use netlist::Netlist;
 use refusals::Observe;
@@ -40,7 +40,7 @@ fn early_counts(
         return Ok(Some(counts));
     }
     let few = limit.min(FEW_NODES);
-    if let Some(counts) = counts_by_diagrams(alloc, question, few)? {
+    if let Some(counts) = counts_by_diagrams(alloc, &question.by_diagrams(), few)? {
         return Ok(Some(counts));
     }
     counts_by_clauses(alloc, &question.for_long(), loose)
@@ -62,7 +62,7 @@ fn count_anew(
     if d.start(question.net().columns(), limit).is_err() {
         return Err(DecideFault::Memory);
     }
-    match count_from_columns(alloc, d, question) {
+    match count_from_columns(alloc, d, &question.by_diagrams()) {
         Ok(counts) => Ok(counts),
         Err(StoreFault::Full) => Err(DecideFault::NodeLimit { nodes: limit }),
         Err(StoreFault::Memory) => Err(DecideFault::Memory),

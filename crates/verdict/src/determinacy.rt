@@ -2,20 +2,20 @@
 
 ghost use Rattle.std.specs.Prelude.{◌≡◌, ◌<◌, true, length, IfOk};
 ghost use Rattle.care_sets.specs.Care.{columns};
-ghost use Rattle.clause_decision.specs.Tests.{is_unknown_at};
+ghost use Rattle.refusals.specs.Tests.{is_unknown_at};
 ghost use Rattle.refusals.specs.Acceptance.{observed as observed_signals};
 ghost use Rattle.verdict.specs.Determinacy.{IsDeterminacy};
 ghost use Rattle.verdict.specs.Loose.{AreUnknownMarks};
-ghost use Rattle.verdict.specs.Observed.{AreMarksOf};
+ghost use Rattle.diagram_decision.specs.Observed.{AreMarksOf};
 ghost use Rattle.verdict.specs.Scopes.{AreOpenGates};
 
-use crate::alone::open_gates;
-use crate::observing::observed_gates;
+use crate::fanout::open_gates;
 use crate::question::Question;
 use crate::scopes::marked_places;
 use crate::undetermined::{asked_candidates, some_of};
 use crate::unknown::{loose_number, unknown_gates};
 use clause_decision::Witness;
+use diagram_decision::observed_gates;
 use std::alloc::{AllocError, Global};
 
 /// Whether the observed gates of a netlist are determined on care.

@@ -1,14 +1,13 @@
 //! The fanout of gates: what walks along pins lead to from them.
 
-ghost use Rattle.std.specs.Prelude.{◌≡◌, ◌↔◌, ◌<◌, true, length, All, IfOk};
+ghost use Rattle.std.specs.Prelude.{◌≡◌, ◌↔◌, ◌<◌, true, not, length, map, All, IfOk};
 ghost use Rattle.netlist.specs.Netlists.{IsSignal};
-ghost use Rattle.loops.specs.Cones.{AddMarks};
+ghost use Rattle.loops.specs.Cones.{AddMarks, is_marked};
 ghost use Rattle.verdict.specs.Fanout.{AreFanoutMarks, AreReached, HasMarkedDriver, IsReached, ReadsMark};
 ghost use Rattle.verdict.specs.Loose.{AreCandidates};
 
-use crate::alone::open_gates;
 use cyc_base::Sig;
-use loops::{LoopedNetlist, gates_at, mark_all};
+use loops::{Blocks, LoopedNetlist, gates_at, mark_all};
 use netlist::Netlist;
 use std::alloc::{AllocError, Global};
 
@@ -76,6 +75,23 @@ pub(crate) fn mark_fanout(looped: &LoopedNetlist<'_>, marks: &mut [bool])
     for place in 0..looped.blocks().list.items().len() {
         mark_reached(looped.net(), gates_at(looped, place), marks);
     }
+}
+
+/// The gates of the blocks at places that aren't settled, as marks.
+pub(crate) fn open_gates(
+    alloc: Global,
+    blocks: &Blocks,
+    settled: &[bool],
+) -> Result<Vec<bool>, AllocError>
+    requires { All (λ home. home < length settled.now) blocks.now.home }
+    ensures { IfOk result (λ marks. marks.items ≡ map (λ home. not (is_marked settled.now home)) blocks.now.home) }
+{
+    blocks
+        .home
+        .items()
+        .iter()
+        .map(|home| !settled[*home as usize])
+        .collect(alloc)
 }
 
 /// Marks of the gates in loops that aren't settled, and of those in their fanout.

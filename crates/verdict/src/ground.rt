@@ -1,12 +1,11 @@
 //! What is found of a netlist once, whatever is asked of it.
 
 ghost use Rattle.std.specs.Prelude.{◌≡◌, length, IfOk};
-ghost use Rattle.verdict.specs.Determination.{SettleInOneSweep};
+ghost use Rattle.diagram_decision.specs.Alone.{SettleInOneSweep};
 ghost use Rattle.verdict.specs.Questions.{IsGround};
 
-use crate::alone::settled_loops;
-use crate::clauses::LOOP_NODES;
 use crate::scopes::known_gates;
+use diagram_decision::{LOOP_NODES, settled_loops};
 use fixpoint::order;
 use loops::LoopedNetlist;
 use std::alloc::{AllocError, Global};

@@ -2,16 +2,16 @@
 
 ghost use Rattle.std.specs.Prelude.{IfOk};
 ghost use Rattle.care_sets.specs.Care.{columns as columns_of};
-ghost use Rattle.clause_decision.specs.Loads.{LoadsAreKnown};
+ghost use Rattle.refusals.specs.Tests.{LoadsAreKnown};
 ghost use Rattle.clause_queries.specs.Vectors.{IsFirstOf};
-ghost use Rattle.clause_decision.specs.Tests.{is_leaving};
+ghost use Rattle.refusals.specs.Tests.{is_leaving};
 ghost use Rattle.verdict.specs.Invariance.{IsInvariance};
 
-use crate::next::leaves_at;
 use crate::question::Question;
 use crate::scopes::{drivers_read, scope_of};
 use care_sets::Care;
 use clause_decision::{Found, least_leaving};
+use diagram_decision::leaves_at;
 use netlist::Netlist;
 use refusals::Refusal;
 use std::alloc::{AllocError, Global};

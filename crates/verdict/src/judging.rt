@@ -5,22 +5,20 @@ ghost use Rattle.care_sets.specs.Binding.{IsCareOf};
 ghost use Rattle.care_sets.specs.Care.{columns};
 ghost use Rattle.loops.specs.Blocks.{AreBlocksOf};
 ghost use Rattle.loops.specs.Cuts.{IsCutOf};
-ghost use Rattle.verdict.specs.Causes.{IsOutOfNodes};
-ghost use Rattle.verdict.specs.Enough.{IsFullFor, IsBelowEnough};
+ghost use Rattle.diagram_decision.specs.Causes.{IsOutOfNodes};
+ghost use Rattle.diagram_decision.specs.Enough.{IsFullFor, IsBelowEnough};
 ghost use Rattle.verdict.specs.Questions.{IsJudgementOf};
-ghost use Rattle.verdict.specs.Verdicts.{IsJudgement};
+ghost use Rattle.diagram_decision.specs.Judgements.{IsJudgement};
 
 use crate::clauses::judge_by_clauses;
-use crate::diagrams::{judge_by_diagrams, judge_on};
 use crate::fault::DecideFault;
-use crate::fitting::{fit_all, limit_of};
 use crate::ground::ground_of;
-use crate::judgement::Judgement;
 use crate::question::Question;
 use bdd_ops::Diagrams;
 use bdd_store::StoreFault;
 use care_sets::Care;
 use cyc_base::MAX_NODES;
+use diagram_decision::{Judgement, fit_all, judge_by_diagrams, judge_on, limit_of};
 use isolation::column_rails;
 use loops::{Blocks, Cut, LoopedNetlist};
 use netlist::Netlist;
@@ -45,7 +43,7 @@ fn early_judgement(
         return Ok(Some(judgement));
     }
     let few = limit.min(FEW_NODES);
-    if let Some(judgement) = judge_by_diagrams(alloc, question, few)? {
+    if let Some(judgement) = judge_by_diagrams(alloc, &question.by_diagrams(), few)? {
         return Ok(Some(judgement));
     }
     judge_by_clauses(alloc, &question.for_long())
@@ -67,7 +65,7 @@ fn judge_from_columns(
     fit_all(alloc, question.net(), question.care(), limit)?;
     match early_judgement(alloc, question, limit)? {
         Some(judgement) => Ok(judgement),
-        None => judge_on(alloc, d, question, &rails),
+        None => judge_on(alloc, d, &question.by_diagrams(), &rails),
     }
 }
 

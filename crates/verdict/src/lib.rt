@@ -7,50 +7,30 @@
 //! that `decide` answers so with the sweeps (`verdict`), and which wires are told never apart on care.
 #![tactic(auto)]
 
-mod alone;
-mod apart;
-mod beginning;
-mod care;
 mod clauses;
 mod counting;
 mod counts;
 mod deciding;
 mod determinacy;
-mod diagrams;
 mod fanout;
 mod fault;
-mod fitting;
-mod gate_verdict;
 mod ground;
-mod initial;
 mod invariance;
-mod judgement;
 mod judging;
-pub mod laws;
 mod loose;
-mod next;
-mod observing;
 mod pieces;
 mod question;
-mod refusing;
 mod scopes;
-mod sets;
-mod solving;
 mod undetermined;
 mod unknown;
 mod verdict;
 mod witnessed;
 
-pub use alone::settled_loops;
-pub use apart::are_never_apart;
-pub use care::{assume_on, invariant_on};
-pub use clauses::LOOP_NODES;
 pub use deciding::decide;
+pub use diagram_decision::{Judgement, LOOP_NODES, settled_loops};
 pub use fault::DecideFault;
-pub use judgement::Judgement;
 pub use judging::judge;
 pub use refusals::Observe;
-pub use sets::least_of;
-pub use solving::{Fixpoint, solve_beside};
+pub use scopes::known_gates;
 pub use verdict::Verdict;
 pub use witnessed::judge_with_witness;

@@ -39,7 +39,7 @@ impl<'a> Model for Question<'a> {
 }
 
 impl<'a> Question<'a> {
-    ghost use Rattle.verdict.specs.Questions.{asked, looped_in};
+    ghost use Rattle.verdict.specs.Questions.{asked, looped_in, on_diagrams};
 
     /// The question of this netlist, for searches that give up soon.
     ///
@@ -75,6 +75,14 @@ impl<'a> Question<'a> {
             ground: self.ground,
             conflicts: MANY_CONFLICTS,
         }
+    }
+
+    /// The question as diagrams answer it.
+    pub(crate) fn by_diagrams(&self) -> diagram_decision::Question<'a>
+        ensures { result ≡ on_diagrams self.now }
+    {
+        let order = &self.ground.order;
+        diagram_decision::Question::new(self.looped, self.care, self.observe, order)
     }
 
     /// What holds of each question.

@@ -4,7 +4,7 @@ ghost use Rattle.std.specs.Prelude.{◌≡◌, ◌<◌, ◌≤◌, not, length, 
 ghost use Rattle.care_sets.specs.Binding.{IsCareOf};
 ghost use Rattle.loops.specs.Cones.{ListsMarked};
 ghost use Rattle.clause_decision.specs.Scopes.{AreInScope, AreNeverUnknown, IsScopeOf};
-ghost use Rattle.verdict.specs.Determination.{SettleInOneSweep};
+ghost use Rattle.diagram_decision.specs.Alone.{SettleInOneSweep};
 ghost use Rattle.verdict.specs.Scopes.{AreDrivers};
 
 use crate::fanout::candidate_gates;
@@ -38,7 +38,9 @@ fn others(alloc: Global, marks: &[bool]) -> Result<Vec<bool>, AllocError>
 }
 
 /// The gates that are neither in a loop that isn't settled nor in the fanout of one: no Boolean vector leaves them unknown.
-pub(crate) fn known_gates(
+///
+/// The condition is that there is a mark for each block, and that the marked loops are settled by themselves in one sweep.
+pub fn known_gates(
     alloc: Global,
     looped: &LoopedNetlist<'_>,
     settled: &[bool],

@@ -6,16 +6,17 @@ ghost use Rattle.refusals.specs.Acceptance.{observed as observed_signals};
 ghost use Rattle.refusals.specs.Refusals.{undetermined_refusal};
 ghost use Rattle.clause_decision.specs.Tests.{TellsFirstUnknown};
 ghost use Rattle.clause_decision.specs.Witnesses.{TellsWitness};
-ghost use Rattle.verdict.specs.Observed.{AreMarksOf};
-ghost use Rattle.verdict.specs.Unknown.{AreAskedCandidates, IsAskedFor, IsFirstToRefuse};
+ghost use Rattle.diagram_decision.specs.Observed.{AreMarksOf};
+ghost use Rattle.verdict.specs.Unknown.{AreAskedCandidates, IsAskedFor};
+ghost use Rattle.refusals.specs.Tests.{IsFirstToRefuse};
 
 use crate::fanout::candidate_gates;
-use crate::observing::observed_gates;
 use crate::pieces::{piece_at, piece_size};
 use crate::question::Question;
 use crate::scopes::{marked_places, scope_of};
 use clause_decision::{First, Found, Witness, first_unknown, least_unknown, some_unknown};
 use cyc_base::Bits;
+use diagram_decision::observed_gates;
 use refusals::Refusal;
 use std::alloc::{AllocError, Global};
 

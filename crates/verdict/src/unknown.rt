@@ -6,16 +6,16 @@ ghost use Rattle.refusals.specs.Acceptance.{observed as observed_signals};
 ghost use Rattle.refusals.specs.Refusals.{undetermined_refusal};
 ghost use Rattle.clause_decision.specs.Tests.{TellEachUnknown};
 ghost use Rattle.verdict.specs.Loose.{AreScattered, AreUnknownMarks, IsLooseNumber};
-ghost use Rattle.verdict.specs.Observed.{AreMarksOf};
+ghost use Rattle.diagram_decision.specs.Observed.{AreMarksOf};
 ghost use Rattle.verdict.specs.Pieces.{AreToldBefore};
 
 use crate::fanout::candidate_gates;
-use crate::observing::observed_gates;
 use crate::pieces::{piece_at, piece_size};
 use crate::question::Question;
 use crate::scopes::{marked_places, scope_of};
 use care_sets::Care;
 use clause_decision::each_unknown;
+use diagram_decision::observed_gates;
 use netlist::Netlist;
 use refusals::Observe;
 use std::alloc::{AllocError, Global};

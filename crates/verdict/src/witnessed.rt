@@ -3,9 +3,9 @@
 
 ghost use Rattle.std.specs.Prelude.{◌≡◌, ◌<◌, ◌≤◌, ◌⊎◌, length, Err, IfOk, IfErr, IfSome};
 ghost use Rattle.care_sets.specs.Binding.{IsCareOf};
-ghost use Rattle.verdict.specs.Causes.{IsOutOfNodes};
-ghost use Rattle.verdict.specs.Determination.{SettleInOneSweep};
-ghost use Rattle.verdict.specs.Enough.{IsBelowEnough};
+ghost use Rattle.diagram_decision.specs.Causes.{IsOutOfNodes};
+ghost use Rattle.diagram_decision.specs.Alone.{SettleInOneSweep};
+ghost use Rattle.diagram_decision.specs.Enough.{IsBelowEnough};
 ghost use Rattle.verdict.specs.Scopes.{MayGoOn};
 ghost use Rattle.verdict.specs.Determinacy.{IsUnknownGateAt};
 ghost use Rattle.verdict.specs.Witnessed.{IsSomeJudgement, IsSomeJudgementOf};
@@ -14,12 +14,12 @@ use crate::clauses::{Beginning, begin, judge_by_invariance};
 use crate::determinacy::{Determinacy, determinacy_on_care};
 use crate::fault::DecideFault;
 use crate::ground::ground_among;
-use crate::judgement::Judgement;
 use crate::judging::judge_anew;
 use crate::question::Question;
 use bdd_ops::Diagrams;
 use care_sets::Care;
 use cyc_base::{Bits, MAX_NODES};
+use diagram_decision::Judgement;
 use loops::LoopedNetlist;
 use netlist::Netlist;
 use refusals::{Observe, Refusal};

@@ -1,6 +1,6 @@
 use Rattle.std.proofs.Common.{◌∙◌, subst}
 use Rattle.std.proofs.lemmas.Result.{IfOk-weaker}
-use Rattle.clause_decision.specs.Cubes.{LeaveNoneOut}
+use Rattle.clause_pairs.specs.Cubes.{LeaveNoneOut}
 use Rattle.case_search.proofs.ShownLemmas.{cubes-usable, in-one-case}
 use Rattle.case_search.proofs.cases_shown.are_cases.Goals as goal
 

@@ -1,4 +1,4 @@
-use Rattle.clause_decision.specs.Cubes.{AsksCare}
+use Rattle.clause_pairs.specs.Cubes.{AsksCare}
 use Rattle.case_search.proofs.SplitLemmas.{of_some}
 use Rattle.case_search.proofs.splitting.split_by.Goals as goal
 

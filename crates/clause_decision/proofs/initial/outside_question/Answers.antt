@@ -1,6 +1,6 @@
 use Rattle.std.proofs.Common.{◌≡◌, ◌∙◌, ◌∷◌, ℕ, ◌*◌, ◌<◌, List, length, map, refl, subst, ap, arith}
 use Rattle.clause_decision.proofs.Common.{length-map, All-cons, is_in_invariant, Rails, negation, IsOver, SaysTest, asked_starts}
-use Rattle.clause_decision.specs.Tests.{is_outside}
+use Rattle.refusals.specs.Tests.{is_outside}
 use Rattle.clause_decision.proofs.FormulaLemmas.{asks-over, ones-within, over-columns, over-grows, question-of}
 use Rattle.clause_decision.proofs.ModelLemmas.{invariant-reads}
 use Rattle.clause_decision.proofs.SignalLemmas.{negation-within}

@@ -1,7 +1,7 @@
 use Rattle.std.proofs.Common.{arith}
 use Rattle.cyc_base.proofs.VectorLemmas.{find-none}
 use Rattle.clause_decision.proofs.Common.{columns}
-use Rattle.clause_decision.specs.Tests.{is_leaving}
+use Rattle.refusals.specs.Tests.{is_leaving}
 use Rattle.clause_decision.proofs.LeavingLemmas.{none-leaves}
 use Rattle.clause_decision.proofs.leaving.least_leaving.Goals as goal
 

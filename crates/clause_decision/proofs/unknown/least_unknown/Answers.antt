@@ -1,5 +1,5 @@
 use Rattle.clause_decision.proofs.Common.{columns}
-use Rattle.clause_decision.specs.Tests.{is_unknown_at}
+use Rattle.refusals.specs.Tests.{is_unknown_at}
 use Rattle.clause_decision.proofs.unknown.least_unknown.Goals as goal
 
 pub returns-in-Ok : goal.returns-in-Ok

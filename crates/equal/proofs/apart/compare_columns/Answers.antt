@@ -6,7 +6,7 @@ use Rattle.loops.specs.Cuts.{loops_by}
 use Rattle.fixpoint.specs.Working.{HasLargeCover}
 use Rattle.isolation.proofs.ColumnLemmas.{AreColumns-kept}
 use Rattle.isolation.proofs.SettlingLemmas.{loops-are}
-use Rattle.verdict.proofs.MadeLemmas.{working-wide}
+use Rattle.diagram_decision.proofs.MadeLemmas.{working-wide}
 use Rattle.equal.specs.Comparisons.{AddsInComparison, care_cost, solving_cost}
 use Rattle.equal.proofs.ApartLemmas.{fixed-is}
 use Rattle.equal.proofs.LaidLemmas.{comparison_list, comparison-wide}

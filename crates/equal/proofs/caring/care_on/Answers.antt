@@ -1,14 +1,14 @@
 use Rattle.std.proofs.Common.{◌≡◌, ◌∙◌, ◌+◌, ◌-◌, ◌*◌, Bool, List, length, take, drop, refl, sym, ap, arith}
 use Rattle.std.proofs.lemmas.List.{take_rest, length-drop}
-use Rattle.verdict.proofs.MadeLemmas.{made-listed}
-use Rattle.verdict.proofs.PartLemmas.{IfOk-both, invariant-reads, assume-reads}
-use Rattle.verdict.proofs.WorkLemmas.{assume-bounded, invariant-bounded}
+use Rattle.diagram_decision.proofs.MadeLemmas.{made-listed}
+use Rattle.diagram_decision.proofs.PartLemmas.{IfOk-both, invariant-reads, assume-reads}
+use Rattle.diagram_decision.proofs.WorkLemmas.{assume-bounded, invariant-bounded}
 use Rattle.equal.proofs.Common.{GrowsWithin, within_only, within_moved, within_then, within_more, within_refused, by_variable, conjunction, values_of, columns, is_care_vector, IsWide, IsLaidBy}
 use Rattle.bdd_store.proofs.GrowthLemmas.{KeepsNodes-chain, within_one}
 use Rattle.dual_rail.proofs.SurelyLemmas.{All-rails-kept, values_of-kept}
 use Rattle.dual_rail.proofs.WidthLemmas.{wide-one}
-use Rattle.verdict.specs.Causes.{HasModelOver}
-use Rattle.verdict.specs.Costs.{assume_effort, invariant_effort}
+use Rattle.diagram_decision.specs.Causes.{HasModelOver}
+use Rattle.diagram_decision.specs.Costs.{assume_effort, invariant_effort}
 use Rattle.equal.specs.Comparisons.{SaysCare}
 use Rattle.equal.proofs.CaringLemmas.{state-values}
 use Rattle.equal.proofs.LaidLemmas.{comparison_list, comparison-wide}

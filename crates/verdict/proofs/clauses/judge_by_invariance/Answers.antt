@@ -1,6 +1,6 @@
 use Rattle.std.proofs.Common.{None, arith}
 use Rattle.refusals.proofs.LawLemmas.{sources_determined}
-use Rattle.verdict.proofs.VerdictLemmas.{accepts-is, refused-on-care}
+use Rattle.diagram_decision.proofs.VerdictLemmas.{accepts-is, refused-on-care}
 use Rattle.verdict.proofs.clauses.judge_by_invariance.Goals as goal
 
 pub invariance_of-requires : goal.invariance_of-requires

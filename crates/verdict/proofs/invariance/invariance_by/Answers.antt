@@ -1,6 +1,6 @@
 use Rattle.std.proofs.Common.{Some, sym, ap, ◌∙◌}
 use Rattle.verdict.proofs.Common.{Refusal, columns, found_wide, is_leaving}
-use Rattle.verdict.proofs.PartLemmas.{leaves-is}
+use Rattle.diagram_decision.proofs.PartLemmas.{leaves-is}
 use Rattle.verdict.proofs.invariance.invariance_by.Goals as goal
 
 pub leaves_at-requires : goal.leaves_at-requires

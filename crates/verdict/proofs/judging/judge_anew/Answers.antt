@@ -1,6 +1,6 @@
 use Rattle.std.proofs.Common.{◌≡◌, length, rules, arith}
 use Rattle.verdict.proofs.Common.{IsFullFor}
-use Rattle.verdict.proofs.CauseLemmas.{out_of_nodes, below_enough}
+use Rattle.diagram_decision.proofs.CauseLemmas.{out_of_nodes, below_enough}
 use Rattle.verdict.proofs.judging.judge_anew.Goals as goal
 use Rattle.verdict.proofs.judging.judge_anew.Goals.{In-Err-Full}
 

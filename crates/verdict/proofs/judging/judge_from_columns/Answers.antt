@@ -1,7 +1,7 @@
 use Rattle.std.proofs.Common.{arith}
 use Rattle.verdict.proofs.Common.{adds_then, AddsInDecision}
-use Rattle.verdict.proofs.CauseLemmas.{full_for}
-use Rattle.verdict.proofs.PartLemmas.{order-layout}
+use Rattle.diagram_decision.proofs.CauseLemmas.{full_for}
+use Rattle.diagram_decision.proofs.PartLemmas.{order-layout}
 use Rattle.verdict.proofs.judging.judge_from_columns.Goals as goal
 use Rattle.verdict.proofs.judging.judge_from_columns.Goals.{After-column_rails}
 
@@ -27,4 +27,4 @@ pub returns-clause-full : goal.returns-clause-full
 returns-clause-full g =
     let c : After-column_rails = (goal.at.returns-clause-full g).After-column_rails in
     let keeps = c.column_rails.ensures.grows.keeps in
-    grind (arith, After-column_rails, full_for, adds_then keeps.limit (after-columns c) g.judge_on.ensures.adds, after-columns c)
+    grind (arith, After-column_rails, full_for, adds_then keeps.limit (after-columns c) (rw g.by_diagrams.ensures at g.judge_on.ensures.adds), after-columns c)

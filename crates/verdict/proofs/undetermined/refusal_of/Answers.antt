@@ -1,5 +1,5 @@
 use Rattle.std.proofs.Common.{arith}
-use Rattle.verdict.proofs.PartLemmas.{undetermined-found}
+use Rattle.diagram_decision.proofs.PartLemmas.{undetermined-found}
 use Rattle.verdict.proofs.undetermined.refusal_of.Goals as goal
 
 pub least_unknown-requires-clause-within : goal.least_unknown-requires-clause-within

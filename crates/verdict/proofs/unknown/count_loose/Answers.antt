@@ -1,6 +1,6 @@
 use Rattle.std.proofs.Common.{◌≤◌, ◌<◌, ◌∙◌, length, sym, arith, true≢false}
 use Rattle.verdict.proofs.LooseLemmas.{marked-unknown, unmarked-known}
-use Rattle.verdict.proofs.PartLemmas.{known-more, loose-all, loose-more, loose-same, undetermined-none}
+use Rattle.diagram_decision.proofs.PartLemmas.{known-more, loose-all, loose-more, loose-same, undetermined-none}
 use Rattle.verdict.proofs.unknown.count_loose.Goals as goal
 use Rattle.verdict.proofs.unknown.count_loose.Goals.{then-unknown-gate+else-observed-gate, else-unknown-gate}
 

@@ -1,6 +1,6 @@
 use Rattle.std.proofs.Common.{◌≡◌, ◌≤◌}
 use Rattle.verdict.proofs.Common.{CareSet, observed, Observe, AreUnknownMarks, AreMarksOf}
-use Rattle.verdict.proofs.PartLemmas.{AreKnownBelow, loose_below}
+use Rattle.diagram_decision.proofs.PartLemmas.{AreKnownBelow, loose_below}
 use Rattle.verdict.proofs.unknown.count_loose.Given as goal
 
 abbrev pub invariant-loop-gate : goal.invariant-loop-gate

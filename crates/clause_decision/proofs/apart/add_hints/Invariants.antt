@@ -1,5 +1,0 @@
-use Rattle.clause_decision.proofs.Common.{AddLiterals}
-use Rattle.clause_decision.proofs.apart.add_hints.Given as goal
-
-abbrev pub invariant-loop-hint : goal.invariant-loop-hint
-invariant-loop-hint l = AddLiterals l.fn.formula l.formula l.literals.items

@@ -1,6 +1,0 @@
-use Rattle.std.proofs.Common.{arith}
-use Rattle.clause_decision.proofs.LoopLemmas.{cuts_fit}
-use Rattle.clause_decision.proofs.looped_block.LoopedBlock.cut_count.Goals as goal
-
-pub overflow_cast-result : goal.overflow_cast-result
-overflow_cast-result c = grind (arith, cuts_fit _ c.self.invariant)

@@ -1,0 +1,5 @@
+mod Common
+mod EventLemmas
+pub mod LoopLemmas
+mod ReaderLemmas
+mod SimulationLemmas

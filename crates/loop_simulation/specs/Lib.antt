@@ -1,0 +1,8 @@
+-- The chapter: what the contracts of public functions say.
+pub mod LoopsAt
+pub mod Simulations
+pub mod Sweeping
+pub mod Climbing
+-- The code's own: what its parts say to each other.
+pub mod Readers
+pub mod Events

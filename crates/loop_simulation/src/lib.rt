@@ -1,0 +1,16 @@
+//! How many sweeps a loop needs at one vector, by ternary simulation of its gates, and care vectors near one at which it
+//! needs more.
+//!
+//! It stands on `loops`, for blocks, cut wires and the laws of sweeps, and on `ternary_run`, for the fixpoint of a vector.
+//! The layers above use that `sweeps_at` counts the sweeps of the definition, and that care vectors need as many as `climb`
+//! says. No clauses are asked, and no diagrams.
+#![tactic(auto)]
+
+mod climbing;
+mod looped_block;
+mod readers;
+mod simulating;
+
+pub use climbing::climb;
+pub use looped_block::LoopedBlock;
+pub use simulating::{sweeps_at, sweeps_in};

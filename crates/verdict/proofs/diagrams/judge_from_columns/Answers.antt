@@ -1,5 +1,0 @@
-use Rattle.verdict.proofs.PartLemmas.{order-layout}
-use Rattle.verdict.proofs.diagrams.judge_from_columns.Goals as goal
-
-pub column_rails-requires : goal.column_rails-requires
-column_rails-requires c = order-layout c.args.question.now.net c.args.d.now.vars c.order.result.now c.requires c.order.ensures
