@@ -11,7 +11,7 @@ ghost use Rattle.parsed_files.specs.Seen.{error_seen};
 use crate::errors::too_long;
 use crate::fault::FileError;
 use blif_read::{BlifFault, BlifModel, Models, read};
-use cyc_base::{MAX_FILE_BYTES, Name};
+use cyc_base::{MAX_FILE_BYTES, MAX_FLAT_ITEMS, Name};
 use flatten::flatten_owned;
 use netlist::Netlist;
 use std::alloc::Global;
@@ -46,8 +46,8 @@ fn netlist_in(alloc: Global, bytes: Vec<u8>) -> Result<Netlist, FileError>
     requires { length bytes.items ≤ MAX_FILE_BYTES }
     ensures good { IfOk result (λ net. netlist_meant bytes.items ≡ Ok net) }
     ensures valid { IfOk result IsNetlist }
-    ensures inputs { IfOk result (λ net. length net.inputs ≤ 67108864) }
-    ensures latches { IfOk result (λ net. length net.latches ≤ 4000000) }
+    ensures inputs { IfOk result (λ net. length net.inputs ≤ MAX_FILE_BYTES) }
+    ensures latches { IfOk result (λ net. length net.latches ≤ MAX_FLAT_ITEMS) }
     ensures bad { IfErr result (λ error. IsErrorOf (netlist_meant bytes.items) (error_seen error)) }
 {
     let models = models_of(alloc, bytes)?;
@@ -62,8 +62,8 @@ fn netlist_in(alloc: Global, bytes: Vec<u8>) -> Result<Netlist, FileError>
 pub fn netlist_of(alloc: Global, bytes: Vec<u8>) -> Result<Netlist, FileError>
     ensures good { IfOk result (λ net. netlist_meant bytes.items ≡ Ok net) }
     ensures valid { IfOk result IsNetlist }
-    ensures inputs { IfOk result (λ net. length net.inputs ≤ 67108864) }
-    ensures latches { IfOk result (λ net. length net.latches ≤ 4000000) }
+    ensures inputs { IfOk result (λ net. length net.inputs ≤ MAX_FILE_BYTES) }
+    ensures latches { IfOk result (λ net. length net.latches ≤ MAX_FLAT_ITEMS) }
     ensures bad { IfErr result (λ error. IsErrorOf (netlist_meant bytes.items) (error_seen error)) }
 {
     if is_too_long(&bytes) {
