@@ -1,6 +1,6 @@
 -- The models of a text can be flattened.
 use Rattle.std.proofs.Common.{◌≡◌, ◌≢◌, ◌≤◌, ℕ, ◌+◌, List, [], ◌∷◌, length, drop, map, true, false, refl, ap, ◌∙◌, arith, length-append, All}
-use Rattle.blif_read.proofs.Common.{◌&&◌, Option, Result, bytes_eq, All-head, All-tail, Line, BlifFault, Kind, BlifModel, Statement, Latch, Part, End, kind, model_name, place_behind, is_model_name, fault_at, first_fault, statement, statement_of_kind, members, reads, reads_lines, unless_fault}
+use Rattle.blif_read.proofs.Common.{◌&&◌, Option, Result, bytes_eq, All-head, All-tail, Line, BlifFault, LineKind, BlifModel, Statement, Latch, Part, End, kind, model_name, place_behind, is_model_name, fault_at, first_fault, statement, statement_of_kind, members, reads, reads_lines, unless_fault}
 use Rattle.std.specs.Prelude.{Bool, ◌||◌, Some, None, Ok, Err, flat_map, AllPairs}
 use Rattle.std.proofs.lemmas.List.Elements.{All-nil, All-cons, All-append, All-weaker}
 use Rattle.std.proofs.lemmas.List.Kept.{AllPairs-cons}
@@ -8,7 +8,7 @@ use Rattle.std.proofs.lemmas.Bool.{or_parts}
 use Rattle.cyc_base.specs.Names.{IsBlifName}
 use Rattle.blif_text.specs.Texts.{lines}
 use Rattle.blif_text.proofs.LineFacts.{word_count, total, words_are_names, words_are_few}
-use Rattle.blif_read.specs.declared.kind.Kind.TheVariants as of
+use Rattle.blif_read.specs.declared.kind.LineKind.TheVariants as of
 use Rattle.blif_read.specs.declared.models.Item.TheVariants as item
 use Rattle.blif_read.specs.declared.statement.Statement.TheVariants.{Model, Names}
 use Rattle.blif_read.specs.Places.{is_model}
@@ -70,7 +70,7 @@ members_count (Model name ∷ rest) = omega arith
 members_count (End ∷ rest) = omega arith
 members_count (other ∷ rest) = let more = members_count rest in omega arith
 
-kind_count : (k : Kind) (line : Line) → input_count (statement_of_kind k line) ≤ word_count line
+kind_count : (k : LineKind) (line : Line) → input_count (statement_of_kind k line) ≤ word_count line
 kind_count other line = grind arith
 
 lines_count : (found : List Line) → total input_count (map statement found) ≤ total word_count found
@@ -124,10 +124,10 @@ pub record AreNew (earlier : List Line) (found : List BlifModel) : Type 0 where
   pub differ : AllPairs NamesDiffer found
 
 -- behind a line of this kind, of which the rest is new to the line and to those before
-abbrev new_behind : Kind → Line → List Line → List ℕ → Bool
+abbrev new_behind : LineKind → Line → List Line → List ℕ → Bool
 new_behind k line earlier name = (is_model k && bytes_eq name (model_name line)) || is_model_name name earlier
 
-weaker : (k : Kind) (line : Line) (earlier : List Line) (found : List BlifModel) → All (λ m. new_behind k line earlier m.name ≡ false) found → All (IsNewTo earlier) found
+weaker : (k : LineKind) (line : Line) (earlier : List Line) (found : List BlifModel) → All (λ m. new_behind k line earlier m.name ≡ false) found → All (IsNewTo earlier) found
 weaker k line earlier found each = grind arith
 
 other_names : (line : Line) (earlier : List Line) (name : List ℕ) → new_behind of.Model line earlier name ≡ false → model_name line ≢ name
@@ -136,11 +136,11 @@ other_names line earlier name is same = grind (arith, or_parts (bytes_eq name (m
 all_other : (line : Line) (earlier : List Line) (found : List BlifModel) (model : BlifModel) → model.name ≡ model_name line → All (λ m. new_behind of.Model line earlier m.name ≡ false) found → All (NamesDiffer model) found
 all_other line earlier found model is each = grind (arith, All-weaker, other_names line earlier)
 
-pub record AreNewBehind (k : Kind) (line : Line) (earlier : List Line) (found : List BlifModel) : Type 0 where
+pub record AreNewBehind (k : LineKind) (line : Line) (earlier : List Line) (found : List BlifModel) : Type 0 where
   pub each : All (λ m. new_behind k line earlier m.name ≡ false) found
   pub differ : AllPairs NamesDiffer found
 
-new_by_kind : (k : Kind) (line : Line) (earlier : List Line) (rest : List Statement) → fault_at k line (place_behind earlier) (is_model_name (model_name line) earlier) ≡ None
+new_by_kind : (k : LineKind) (line : Line) (earlier : List Line) (rest : List Statement) → fault_at k line (place_behind earlier) (is_model_name (model_name line) earlier) ≡ None
     → AreNewBehind k line earlier (models rest) → AreNew earlier (models (statement_of_kind k line ∷ rest))
 new_by_kind of.Model line earlier rest none new =
     let here = model_of (model_name line) (members rest) in

@@ -1,6 +1,6 @@
 -- What follows up to the next end is what looks back.
 use Rattle.std.proofs.Common.{◌≡◌, Bool, true, false, not, List, [], ◌∷◌, map, refl, ap, ◌∙◌, arith}
-use Rattle.blif_read.proofs.Common.{◌&&◌, if◌then◌else◌, Line, Kind, Statement, kind, statement, statement_of_kind, members}
+use Rattle.blif_read.proofs.Common.{◌&&◌, if◌then◌else◌, Line, LineKind, Statement, kind, statement, statement_of_kind, members}
 use Rattle.cover_logic.specs.declared.row.Row.{Row as CoverRow}
 use Rattle.blif_read.specs.Places.{is_row}
 use Rattle.blif_read.specs.Models.{rows_of}
@@ -22,7 +22,7 @@ none_behind passed [] is = refl
 none_behind passed (line ∷ rest) is =
     grind (arith, skipped (reaches_model passed) (ends_model (kind line)) line (lines_of_model (line ∷ passed) rest) (lines_of_model (line ∷ passed) rest) is, none_behind (line ∷ passed) rest (false_either_way (ends_model (kind line)) (reaches_model passed) is), false_either_way (ends_model (kind line)) (reaches_model passed) is)
 
-member_by_kind : (k : Kind) (line : Line) (rest : List Statement) → members (statement_of_kind k line ∷ rest) ≡ (if ends_model k then [] else statement_of_kind k line ∷ members rest)
+member_by_kind : (k : LineKind) (line : Line) (rest : List Statement) → members (statement_of_kind k line ∷ rest) ≡ (if ends_model k then [] else statement_of_kind k line ∷ members rest)
 member_by_kind k line rest = grind arith
 
 model_choice : (ends reaches : Bool) (line : Line) (more : List Statement) (found : List Line) → reaches ≡ true → (ends ≡ false → more ≡ map statement found) → (ends ≡ true → found ≡ [])
@@ -47,7 +47,7 @@ no_rows_behind : (passed rest : List Line) → reaches_cover passed ≡ false �
 no_rows_behind passed [] is = refl
 no_rows_behind passed (line ∷ rest) is = grind (arith, no_rows_behind (line ∷ passed) rest (false_or (is_row (kind line)) (reaches_cover passed) is), false_or (is_row (kind line)) (reaches_cover passed) is)
 
-row_by_kind : (k : Kind) (line : Line) (rest : List Statement) → rows_of (statement_of_kind k line ∷ rest) ≡ (if is_row k then row_of line ∷ rows_of rest else [])
+row_by_kind : (k : LineKind) (line : Line) (rest : List Statement) → rows_of (statement_of_kind k line ∷ rest) ≡ (if is_row k then row_of line ∷ rows_of rest else [])
 row_by_kind k line rest = grind arith
 
 row_choice : (row reaches : Bool) (line : Line) (more : List CoverRow) (found : List Line) → reaches ≡ true → (row ≡ true → more ≡ map row_of found) → (row ≡ false → found ≡ [])

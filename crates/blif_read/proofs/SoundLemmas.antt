@@ -1,6 +1,6 @@
 -- What the lines of a text say is sound.
 use Rattle.std.proofs.Common.{◌≡◌, ◌≢◌, ℕ, ◌+◌, List, [], ◌∷◌, drop, map, true, refl, arith, All}
-use Rattle.blif_read.proofs.Common.{if◌then◌else◌, Option, bytes_eq, list_all, All-head, All-tail, Line, BlifFault, Kind, Place, Statement, Inputs, Outputs, Clocks, Latch, Part, End, kind, arguments, model_name, place_behind, is_model_name, fault_at, fault_inside, first_fault, or_else, is_pair, is_equals, statement, statement_of_kind, pins_of, pair_of}
+use Rattle.blif_read.proofs.Common.{if◌then◌else◌, Option, bytes_eq, list_all, All-head, All-tail, Line, BlifFault, LineKind, LinePlace, Statement, Inputs, Outputs, Clocks, Latch, Part, End, kind, arguments, model_name, place_behind, is_model_name, fault_at, fault_inside, first_fault, or_else, is_pair, is_equals, statement, statement_of_kind, pins_of, pair_of}
 use Rattle.std.specs.Prelude.{Bool, Some, None, codes}
 use Rattle.std.specs.List.{position_or_len}
 use Rattle.std.proofs.lemmas.List.Elements.{All-nil, All-cons, All-map, All-take, All-drop}
@@ -10,7 +10,7 @@ use Rattle.netlist.specs.declared.parts.Edge.{Edge}
 use Rattle.blif_text.specs.Texts.{is_filled}
 use Rattle.blif_text.proofs.LineFacts.{HasNames}
 use Rattle.blif_read.specs.declared.fault.BlifFault.TheVariants as fault
-use Rattle.blif_read.specs.declared.kind.Kind.TheVariants as of
+use Rattle.blif_read.specs.declared.kind.LineKind.TheVariants as of
 use Rattle.blif_read.specs.declared.statement.Statement.TheVariants.{Model, Names, Row, Nothing}
 use Rattle.blif_read.specs.Kinds.{pin_count, word_at}
 use Rattle.blif_read.specs.Faults.{fault as fault_of, model_fault, names_fault, latch_fault, subckt_fault, formal_of, actual_of}
@@ -101,16 +101,16 @@ sound_part n (model ∷ pairs) each none = record {
 
 -- Each statement.
 
-sound_inside : (k : Kind) (line : Line) (place : Place) → k ≢ of.Model → HasNames line → fault_inside k line place ≡ None → IsSoundStatement (statement_of_kind k line)
+sound_inside : (k : LineKind) (line : Line) (place : LinePlace) → k ≢ of.Model → HasNames line → fault_inside k line place ≡ None → IsSoundStatement (statement_of_kind k line)
 sound_inside unnamed line place other each none = grind (arith, names_behind, sound_gate, sound_latch, sound_part)
 
 no_fault_inside : (t : Bool) (n : ℕ) (inside : Option BlifFault) → (if t then inside else Some (fault.OutsideModel n)) ≡ None → inside ≡ None
 no_fault_inside t n inside none = grind arith
 
-sound_other : (k : Kind) (line : Line) (place : Place) (taken : Bool) → k ≢ of.Model → HasNames line → fault_at k line place taken ≡ None → IsSoundStatement (statement_of_kind k line)
+sound_other : (k : LineKind) (line : Line) (place : LinePlace) (taken : Bool) → k ≢ of.Model → HasNames line → fault_at k line place taken ≡ None → IsSoundStatement (statement_of_kind k line)
 sound_other k line place taken other each none = grind (arith, sound_inside k line place other each, no_fault_inside place.in_model line.number (fault_inside k line place), fault_of_other k line place taken other)
 
-sound_statement : (k : Kind) (line : Line) (place : Place) (taken : Bool) → HasNames line → fault_at k line place taken ≡ None → IsSoundStatement (statement_of_kind k line)
+sound_statement : (k : LineKind) (line : Line) (place : LinePlace) (taken : Bool) → HasNames line → fault_at k line place taken ≡ None → IsSoundStatement (statement_of_kind k line)
 sound_statement other line place taken each none = grind (arith, sound_model_name, sound_other)
 
 pub or_none : (here next : Option BlifFault) → or_else here next ≡ None → (here ≡ None) × (next ≡ None)

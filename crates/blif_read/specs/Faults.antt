@@ -2,12 +2,13 @@
 use Rattle.std.specs.Prelude.{ℕ, zero, suc, Bool, true, false, not, List, [], ◌∷◌, ◌&&◌, ◌||◌, ◌==◌, nat_lt, length, codes, bytes_eq, if◌then◌else◌, Some, None}
 use Rattle.std.specs.List.{list_all, before_first, after_first}
 use Rattle.std.specs.declared.option.Option.{Option}
+use Rattle.cyc_base.specs.declared.limits.TheConstants.{MAX_PINS}
 use Rattle.blif_text.specs.Texts.{Line, is_filled}
-use Rattle.blif_read.specs.declared.kind.Kind.{Kind}
-use Rattle.blif_read.specs.declared.kind.Kind.TheVariants.{Row, Model, Names, Latch, Subckt, LeftOut as LeavesOut, Unknown}
+use Rattle.blif_read.specs.declared.kind.LineKind.{LineKind}
+use Rattle.blif_read.specs.declared.kind.LineKind.TheVariants.{Row, Model, Names, Latch, Subckt, LeftOut as LeavesOut, Unknown}
 use Rattle.blif_read.specs.declared.fault.BlifFault.{BlifFault}
 use Rattle.blif_read.specs.declared.fault.BlifFault.TheVariants.{OutsideModel, BadModel, ModelTwice, LeftOut, UnknownDirective, StrayRow, BadRow, MixedRows, NoOutputName, TooManyPins, BadLatch, LevelLatch, BadSubckt}
-use Rattle.blif_read.specs.declared.place.Place.{Place}
+use Rattle.blif_read.specs.declared.place.LinePlace.{LinePlace}
 use Rattle.blif_read.specs.Kinds.{kind, arguments, model_name, is_on}
 use Rattle.blif_read.specs.Places.{place_behind, is_model_name}
 
@@ -21,7 +22,7 @@ model_fault n other taken = Some (BadModel n)
 
 abbrev pub names_fault : ℕ → List (List ℕ) → Option BlifFault
 names_fault n [] = Some (NoOutputName n)
-names_fault n (name ∷ names) = if nat_lt 1024 (length names) then Some (TooManyPins n) else None
+names_fault n (name ∷ names) = if nat_lt MAX_PINS (length names) then Some (TooManyPins n) else None
 
 -- A row: a literal for each pin, and the plane `0` or `1`. Without pins it is the plane alone.
 
@@ -98,7 +99,7 @@ subckt_fault n [] = Some (BadSubckt n)
 subckt_fault n (model ∷ pairs) = if list_all is_pair pairs then None else Some (BadSubckt n)
 
 -- The fault of a line in a model in progress.
-abbrev pub fault_inside : Kind → Line → Place → Option BlifFault
+abbrev pub fault_inside : LineKind → Line → LinePlace → Option BlifFault
 fault_inside LeavesOut line place = Some (LeftOut line.number)
 fault_inside Unknown line place = Some (UnknownDirective line.number)
 fault_inside Row line place = row_fault place.pins place.first line
@@ -108,7 +109,7 @@ fault_inside Subckt line place = subckt_fault line.number (arguments line)
 fault_inside other line place = None
 
 -- The fault of a line at a place, where it is told whether an earlier model has the line's second word as its name.
-abbrev pub fault_at : Kind → Line → Place → Bool → Option BlifFault
+abbrev pub fault_at : LineKind → Line → LinePlace → Bool → Option BlifFault
 fault_at Model line place taken = model_fault line.number (arguments line) taken
 fault_at other line place taken =
     if place.in_model then fault_inside other line place else Some (OutsideModel line.number)

@@ -1,8 +1,8 @@
 -- Lines by their first words: a directive begins with a dot, and any other line is a row of a cover.
 use Rattle.std.specs.Prelude.{ℕ, Bool, false, List, [], ◌∷◌, ◌||◌, ◌==◌, codes, bytes_eq, drop, length, ◌-◌, slice_index_or, if◌then◌else◌}
 use Rattle.blif_text.specs.Texts.{Line}
-use Rattle.blif_read.specs.declared.kind.Kind.{Kind}
-use Rattle.blif_read.specs.declared.kind.Kind.TheVariants.{Row, Model, Inputs, Outputs, Clock, Names, Latch, Subckt, End, ReadOver, LeftOut, Unknown}
+use Rattle.blif_read.specs.declared.kind.LineKind.{LineKind}
+use Rattle.blif_read.specs.declared.kind.LineKind.TheVariants.{Row, Model, Inputs, Outputs, Clock, Names, Latch, Subckt, End, ReadOver, LeftOut, Unknown}
 
 abbrev pub word_at : List (List ℕ) → ℕ → List ℕ
 word_at words k = slice_index_or words k []
@@ -53,7 +53,7 @@ is_read_over word =
     || bytes_eq word (codes ".param")
     || bytes_eq word (codes ".cname")
 
-abbrev pub directive_of : List ℕ → Kind
+abbrev pub directive_of : List ℕ → LineKind
 directive_of word =
     if bytes_eq word (codes ".names") then Names
     else (if bytes_eq word (codes ".latch") then Latch
@@ -67,10 +67,10 @@ directive_of word =
     else (if is_left_out word then LeftOut
     else Unknown)))))))))
 
-abbrev pub kind_of : List ℕ → Kind
+abbrev pub kind_of : List ℕ → LineKind
 kind_of word = if begins_with_dot word then directive_of word else Row
 
-abbrev pub kind : Line → Kind
+abbrev pub kind : Line → LineKind
 kind line = kind_of (word_at line.words 0)
 
 -- the name of a `.model` line

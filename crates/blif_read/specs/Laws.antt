@@ -2,13 +2,13 @@
 use Rattle.std.specs.Prelude.{◌≡◌, Bool, true, false, not, ◌&&◌, ◌||◌, List, [], ◌∷◌, map, if◌then◌else◌}
 use Rattle.cover_logic.specs.declared.row.Row.{Row}
 use Rattle.blif_text.specs.Texts.{Line}
-use Rattle.blif_read.specs.declared.kind.Kind.{Kind}
+use Rattle.blif_read.specs.declared.kind.LineKind.{LineKind}
 use Rattle.blif_read.specs.Kinds.{kind}
 use Rattle.blif_read.specs.Places.{is_model, is_end, is_row}
 use Rattle.blif_read.specs.Statements.{statement, lits_of}
 use Rattle.blif_read.specs.Models.{members, rows_of}
 
-abbrev pub ends_model : Kind → Bool
+abbrev pub ends_model : LineKind → Bool
 ends_model k = is_model k || is_end k
 
 -- Whether looking back over these lines, the nearest first, passes no `.model` and no `.end` line.

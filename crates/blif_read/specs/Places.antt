@@ -2,24 +2,24 @@
 use Rattle.std.specs.Prelude.{ℕ, Bool, true, false, List, [], ◌∷◌, ◌||◌, ◌&&◌, bytes_eq, if◌then◌else◌, Some, None, option_map}
 use Rattle.std.specs.declared.option.Option.{Option}
 use Rattle.blif_text.specs.Texts.{Line}
-use Rattle.blif_read.specs.declared.kind.Kind.{Kind}
-use Rattle.blif_read.specs.declared.kind.Kind.TheVariants.{Row, Model, Names, End}
-use Rattle.blif_read.specs.declared.place.Place.{Place}
+use Rattle.blif_read.specs.declared.kind.LineKind.{LineKind}
+use Rattle.blif_read.specs.declared.kind.LineKind.TheVariants.{Row, Model, Names, End}
+use Rattle.blif_read.specs.declared.place.LinePlace.{LinePlace}
 use Rattle.blif_read.specs.Kinds.{kind, arguments, model_name, pin_count, is_on}
 
-abbrev pub is_model : Kind → Bool
+abbrev pub is_model : LineKind → Bool
 is_model Model = true
 is_model other = false
 
-abbrev pub is_end : Kind → Bool
+abbrev pub is_end : LineKind → Bool
 is_end End = true
 is_end other = false
 
-abbrev pub is_names : Kind → Bool
+abbrev pub is_names : LineKind → Bool
 is_names Names = true
 is_names other = false
 
-abbrev pub is_row : Kind → Bool
+abbrev pub is_row : LineKind → Bool
 is_row Row = true
 is_row other = false
 
@@ -50,7 +50,7 @@ first_row (line ∷ earlier) =
     if is_row (kind line) then this_unless line (first_row earlier) else None
 
 -- Where a line lies that follows earlier ones.
-abbrev pub place_behind : List Line → Place
+abbrev pub place_behind : List Line → LinePlace
 place_behind earlier = record {
   in_model = in_model earlier;
   pins = option_map (λ names. pin_count (arguments names)) (cover_line earlier);

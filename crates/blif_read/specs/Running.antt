@@ -4,9 +4,10 @@ use Rattle.std.specs.List.{list_any}
 use Rattle.std.specs.declared.option.Option.{Option}
 use Rattle.cover_logic.specs.declared.row.Row as rows
 use Rattle.cover_logic.specs.Covers.{Cover}
+use Rattle.cyc_base.specs.declared.limits.TheConstants.{MAX_PINS}
 use Rattle.blif_text.specs.Texts.{Line}
 use Rattle.blif_read.specs.declared.fault.BlifFault.{BlifFault}
-use Rattle.blif_read.specs.declared.place.Place.{Place}
+use Rattle.blif_read.specs.declared.place.LinePlace.{LinePlace}
 use Rattle.blif_read.specs.declared.models.BlifModel.{BlifModel}
 use Rattle.blif_read.specs.declared.models.GateLine.{GateLine}
 use Rattle.blif_read.specs.declared.models.Item.{Item}
@@ -26,7 +27,7 @@ pub record OpenGate : Type 0 where
 
 -- what makes its cover one
 pub record IsOpenGate (gate : OpenGate) : Type 0 where
-  pub pins : length gate.pins ≤ 1024
+  pub pins : length gate.pins ≤ MAX_PINS
   pub width : All (λ row. length row.lits ≡ length gate.pins) gate.rows
   pub first : gate.rows ≡ [] → gate.first ≡ None
 
@@ -108,7 +109,7 @@ follow progress End = end progress
 follow progress other = go_on progress other
 
 -- where the next line lies
-abbrev pub place_in : Option OpenModel → Place
+abbrev pub place_in : Option OpenModel → LinePlace
 place_in None = record { in_model = false; pins = None; first = None }
 place_in (Some open_model) = record {
   in_model = true;
@@ -127,7 +128,7 @@ FitsGate None row = Unit {0}
 FitsGate (Some gate) row = length row.lits ≡ length gate.pins
 
 abbrev pub FitsModel : OpenModel → Statement → Type 0
-FitsModel open_model (Names pins output) = length pins ≤ 1024
+FitsModel open_model (Names pins output) = length pins ≤ MAX_PINS
 FitsModel open_model (Row row plane) = FitsGate open_model.gate row
 FitsModel open_model other = Unit {0}
 

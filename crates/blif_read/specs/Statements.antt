@@ -9,8 +9,8 @@ use Rattle.netlist.specs.declared.parts.Edge.TheVariants.{Rise, Fall}
 use Rattle.netlist.specs.declared.parts.Init.{Init}
 use Rattle.netlist.specs.declared.parts.Init.TheVariants.{Zero as StartsAtZero, One as StartsAtOne, Either}
 use Rattle.blif_text.specs.Texts.{Line}
-use Rattle.blif_read.specs.declared.kind.Kind as kinds
-use Rattle.blif_read.specs.declared.kind.Kind.TheVariants as of
+use Rattle.blif_read.specs.declared.kind.LineKind as kinds
+use Rattle.blif_read.specs.declared.kind.LineKind.TheVariants as of
 use Rattle.blif_read.specs.declared.models.LatchLine.{LatchLine}
 use Rattle.blif_read.specs.declared.models.PartLine.{PartLine}
 use Rattle.blif_read.specs.declared.statement.Statement.{Statement}
@@ -75,7 +75,7 @@ part_of words = record {
   pairs = map pair_of (drop 1 words);
 }
 
-abbrev pub statement_of_kind : kinds.Kind → Line → Statement
+abbrev pub statement_of_kind : kinds.LineKind → Line → Statement
 statement_of_kind of.Model line = Model (model_name line)
 statement_of_kind of.Inputs line = Inputs (arguments line)
 statement_of_kind of.Outputs line = Outputs (arguments line)

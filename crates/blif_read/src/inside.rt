@@ -3,13 +3,13 @@ ghost use Rattle.std.specs.Prelude.{◌≡◌, ◌≢◌, ◌<◌, length};
 ghost use Rattle.blif_read.specs.Faults.{fault_inside};
 ghost use Rattle.blif_read.specs.Statements.{statement_of_kind};
 ghost use Rattle.blif_read.specs.Answers.{Reads};
-ghost use Rattle.blif_read.specs.declared.kind.Kind as kinds;
+ghost use Rattle.blif_read.specs.declared.kind.LineKind as kinds;
 
 use crate::fault::BlifFault;
 use crate::gates::read_names;
-use crate::kind::Kind;
+use crate::kind::LineKind;
 use crate::latches::read_latch;
-use crate::place::Place;
+use crate::place::LinePlace;
 use crate::rows::read_row;
 use crate::statement::Statement;
 use crate::subckts::read_part;
@@ -20,27 +20,27 @@ use std::alloc::Global;
 // What a line says that isn't a `.model` line.
 pub fn read_inside(
     alloc: Global,
-    kind: Kind,
-    place: Place,
+    kind: LineKind,
+    place: LinePlace,
     line: &TextLine<'_>,
 ) -> Result<Statement, BlifFault>
-    requires { kind ≢ Kind.Model }
+    requires { kind ≢ LineKind.Model }
     ensures { Reads result (fault_inside kind line.now place) (statement_of_kind kind line.now) }
 {
     match kind {
-        Kind::Row => read_row(alloc, place, line),
-        Kind::Names => read_names(alloc, line),
-        Kind::Latch => read_latch(alloc, line),
-        Kind::Subckt => read_part(alloc, line),
-        Kind::Inputs => Ok(Statement::Inputs(argument_names(alloc, line)?)),
-        Kind::Outputs => Ok(Statement::Outputs(argument_names(alloc, line)?)),
-        Kind::Clock => Ok(Statement::Clocks(argument_names(alloc, line)?)),
-        Kind::End => Ok(Statement::End),
-        Kind::Model | Kind::ReadOver => Ok(Statement::Nothing),
-        Kind::LeftOut => Err(BlifFault::LeftOut {
+        LineKind::Row => read_row(alloc, place, line),
+        LineKind::Names => read_names(alloc, line),
+        LineKind::Latch => read_latch(alloc, line),
+        LineKind::Subckt => read_part(alloc, line),
+        LineKind::Inputs => Ok(Statement::Inputs(argument_names(alloc, line)?)),
+        LineKind::Outputs => Ok(Statement::Outputs(argument_names(alloc, line)?)),
+        LineKind::Clock => Ok(Statement::Clocks(argument_names(alloc, line)?)),
+        LineKind::End => Ok(Statement::End),
+        LineKind::Model | LineKind::ReadOver => Ok(Statement::Nothing),
+        LineKind::LeftOut => Err(BlifFault::LeftOut {
             line: line.number(),
         }),
-        Kind::Unknown => Err(BlifFault::UnknownDirective {
+        LineKind::Unknown => Err(BlifFault::UnknownDirective {
             line: line.number(),
         }),
     }

@@ -6,7 +6,7 @@ use blif_text::TextLine;
 
 // What a line is by its first word.
 #[derive(Clone, Copy)]
-pub enum Kind {
+pub enum LineKind {
     Row,
     Model,
     Inputs,
@@ -72,58 +72,58 @@ fn is_read_over(word: &[u8]) -> bool
         || is(word, b".cname")
 }
 
-fn directive_of(word: &[u8]) -> Kind
+fn directive_of(word: &[u8]) -> LineKind
     ensures { result ≡ directive_of word.now }
 {
     if is(word, b".names") {
-        return Kind::Names;
+        return LineKind::Names;
     }
     if is(word, b".latch") {
-        return Kind::Latch;
+        return LineKind::Latch;
     }
     if is(word, b".subckt") {
-        return Kind::Subckt;
+        return LineKind::Subckt;
     }
     if is(word, b".inputs") {
-        return Kind::Inputs;
+        return LineKind::Inputs;
     }
     if is(word, b".outputs") {
-        return Kind::Outputs;
+        return LineKind::Outputs;
     }
     if is(word, b".clock") {
-        return Kind::Clock;
+        return LineKind::Clock;
     }
     if is(word, b".model") {
-        return Kind::Model;
+        return LineKind::Model;
     }
     if is(word, b".end") {
-        return Kind::End;
+        return LineKind::End;
     }
     if is_read_over(word) {
-        return Kind::ReadOver;
+        return LineKind::ReadOver;
     }
     if is_left_out(word) {
-        return Kind::LeftOut;
+        return LineKind::LeftOut;
     }
-    Kind::Unknown
+    LineKind::Unknown
 }
 
-fn kind_of(word: &[u8]) -> Kind
+fn kind_of(word: &[u8]) -> LineKind
     ensures { result ≡ kind_of word.now }
 {
     if begins_with_dot(word) {
         directive_of(word)
     } else {
-        Kind::Row
+        LineKind::Row
     }
 }
 
 // The kind of a line.
-pub fn kind_at(line: &TextLine<'_>) -> Kind
+pub fn kind_at(line: &TextLine<'_>) -> LineKind
     ensures { result ≡ kind line.now }
 {
     if line.words() == 0 {
-        Kind::Row
+        LineKind::Row
     } else {
         kind_of(line.word(0))
     }

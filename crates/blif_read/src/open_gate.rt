@@ -5,7 +5,7 @@ ghost use Rattle.blif_read.specs.Running.{IsOpenGate, new_gate, add_row, gate_li
 use crate::models::GateLine;
 use crate::recent_covers::RecentCovers;
 use cover_logic::{Cover, Row};
-use cyc_base::{Items, Name};
+use cyc_base::{Items, MAX_PINS, Name};
 use std::alloc::{AllocError, Global};
 use std::marker::Model;
 
@@ -43,7 +43,7 @@ impl Model for OpenGate {
 
 impl OpenGate {
     pub fn new(alloc: Global, pins: Items<Name>, output: Name) -> OpenGate
-        requires { length pins ≤ 1024 }
+        requires { length pins ≤ MAX_PINS }
         ensures { result ≡ new_gate pins output }
     {
         OpenGate {
@@ -112,7 +112,7 @@ fn add_to(rows: &mut Vec<Row>, row: Row) -> Result<(), AllocError>
 
 // The cover of rows that fit.
 fn whole_cover(pins: usize, first: Option<bool>, rows: Vec<Row>) -> Cover
-    requires pins { pins ≤ 1024 }
+    requires pins { pins ≤ MAX_PINS }
     requires width { All (λ row. length row.lits ≡ pins) rows.items }
     requires first { rows.items ≡ [] → first ≡ None }
     ensures { result ≡ record { pins = pins; plane = unwrap_or first true; rows = rows.items } }

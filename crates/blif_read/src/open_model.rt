@@ -5,11 +5,11 @@ ghost use Rattle.blif_read.specs.Progress.{seen, without_gate};
 
 use crate::models::{BlifModel, Item};
 use crate::open_gate::OpenGate;
-use crate::place::Place;
+use crate::place::LinePlace;
 use crate::recent_covers::RecentCovers;
 use crate::statement::Statement;
 use cover_logic::Row;
-use cyc_base::{Items, Name};
+use cyc_base::{Items, MAX_PINS, Name};
 use std::alloc::{AllocError, Global};
 
 // What a model has so far, and the gate whose rows may go on.
@@ -53,16 +53,16 @@ impl OpenModel {
     }
 
     // Where a line that follows lies.
-    pub fn place(&self) -> Place
+    pub fn place(&self) -> LinePlace
         ensures { result ≡ place_in (Some (seen self.now)) }
     {
         match &self.gate {
-            Some(gate) => Place {
+            Some(gate) => LinePlace {
                 in_model: true,
                 pins: Some(gate.pins()),
                 first: gate.first(),
             },
-            None => Place {
+            None => LinePlace {
                 in_model: true,
                 pins: None,
                 first: None,
@@ -106,7 +106,7 @@ impl OpenModel {
         pins: Items<Name>,
         output: Name,
     ) -> Result<(), AllocError>
-        requires { length pins ≤ 1024 }
+        requires { length pins ≤ MAX_PINS }
         ensures { OnOk result (seen self.new ≡ add (seen self.old) (Statement.Names pins output)) }
     {
         self.end_gate()?;

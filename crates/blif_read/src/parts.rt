@@ -6,13 +6,13 @@ ghost use Rattle.blif_read.specs.Readers.{progress_of};
 
 use crate::fault::BlifFault;
 use crate::models::BlifModel;
-use crate::reader::Reader;
+use crate::reader::ModelReader;
 use crate::text::if_any;
 use blif_text::{LineParts, Lines};
 use cyc_base::Items;
 use std::alloc::Global;
 
-fn take_part(alloc: Global, part: &Lines, reader: &mut Reader) -> Result<(), BlifFault>
+fn take_part(alloc: Global, part: &Lines, reader: &mut ModelReader) -> Result<(), BlifFault>
     ensures { OnOk result (LeadTo (progress_of reader.old) part.now (progress_of reader.new)) }
 {
     for i in 0..part.len() {
@@ -26,7 +26,7 @@ fn take_part(alloc: Global, part: &Lines, reader: &mut Reader) -> Result<(), Bli
 pub fn read_parts(alloc: Global, bytes: &[u8]) -> Result<Items<BlifModel>, BlifFault>
     ensures { IfOk result (λ models. reads bytes.now ≡ Ok models) }
 {
-    let mut reader = Reader::new(alloc);
+    let mut reader = ModelReader::new(alloc);
     let mut parts = LineParts::new(alloc);
     let mut i = 0;
     while i < bytes.len() {

@@ -12,10 +12,10 @@ ghost use Rattle.blif_read.specs.Readers.{progress_of, start};
 
 use crate::fault::BlifFault;
 use crate::inside::read_inside;
-use crate::kind::{Kind, kind_at};
+use crate::kind::{LineKind, kind_at};
 use crate::models::BlifModel;
 use crate::open_model::OpenModel;
-use crate::place::Place;
+use crate::place::LinePlace;
 use crate::statement::Statement;
 use crate::words::name_of;
 use blif_text::TextLine;
@@ -23,16 +23,16 @@ use cyc_base::Name;
 use indexmap::IndexSet;
 use std::alloc::{AllocError, Global};
 
-pub struct Reader {
+pub struct ModelReader {
     ended: Vec<BlifModel>,
     in_progress: Option<OpenModel>,
     // the names of all models so far
     names: IndexSet<Name>,
 }
 
-impl Drop for Reader {
+impl Drop for ModelReader {
     fn drop(self) {
-        let Reader {
+        let ModelReader {
             ended: _,
             in_progress: _,
             names: _,
@@ -40,11 +40,11 @@ impl Drop for Reader {
     }
 }
 
-impl Reader {
-    pub fn new(alloc: Global) -> Reader
+impl ModelReader {
+    pub fn new(alloc: Global) -> ModelReader
         ensures { progress_of result ≡ start }
     {
-        Reader {
+        ModelReader {
             ended: Vec::new(alloc),
             in_progress: None,
             names: IndexSet::new(alloc),
@@ -52,12 +52,12 @@ impl Reader {
     }
 
     // Where a line that follows lies.
-    fn place(&self) -> Place
+    fn place(&self) -> LinePlace
         ensures { result ≡ place_in (progress_of self.now).in_progress }
     {
         match &self.in_progress {
             Some(model) => model.place(),
-            None => Place {
+            None => LinePlace {
                 in_model: false,
                 pins: None,
                 first: None,
@@ -120,10 +120,10 @@ impl Reader {
     fn take_inside(
         &mut self,
         alloc: Global,
-        kind: Kind,
+        kind: LineKind,
         line: &TextLine<'_>,
     ) -> Result<(), BlifFault>
-        requires { kind ≢ Kind.Model }
+        requires { kind ≢ LineKind.Model }
         ensures { let before = progress_of self.old in
             let fault = fault_inside kind line.now (place_in before.in_progress) in
             MatchResult result
@@ -141,10 +141,10 @@ impl Reader {
     fn take_other(
         &mut self,
         alloc: Global,
-        kind: Kind,
+        kind: LineKind,
         line: &TextLine<'_>,
     ) -> Result<(), BlifFault>
-        requires { kind ≢ Kind.Model }
+        requires { kind ≢ LineKind.Model }
         ensures { let before = progress_of self.old in
             let fault = if (place_in before.in_progress).in_model then fault_inside kind line.now (place_in before.in_progress) else Some (BlifFault.OutsideModel line.now.number) in
             MatchResult result
@@ -158,7 +158,7 @@ impl Reader {
             });
         }
         match kind {
-            Kind::End => self.end_model()?,
+            LineKind::End => self.end_model()?,
             _ => self.take_inside(alloc, kind, line)?,
         }
         Ok(())
@@ -173,7 +173,7 @@ impl Reader {
             (IsFault (fault_next before line.now)) }
     {
         match kind_at(line) {
-            Kind::Model => self.take_model(alloc, line),
+            LineKind::Model => self.take_model(alloc, line),
             kind => self.take_other(alloc, kind, line),
         }
     }
@@ -183,7 +183,7 @@ impl Reader {
         ensures { IfOk result (λ models. models.items ≡ all_ended (progress_of self)) }
     {
         self.end_model()?;
-        let Reader {
+        let ModelReader {
             ended,
             in_progress: _,
             names: _,

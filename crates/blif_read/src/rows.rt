@@ -8,7 +8,7 @@ ghost use Rattle.blif_read.specs.Statements.{lit_of, lits_of};
 ghost use Rattle.blif_read.specs.Answers.{Reads};
 
 use crate::fault::BlifFault;
-use crate::place::Place;
+use crate::place::LinePlace;
 use crate::statement::Statement;
 use crate::words::is;
 use blif_text::TextLine;
@@ -80,7 +80,7 @@ fn check_row_of(
     Ok(())
 }
 
-fn check_row(place: Place, plane: bool, line: &TextLine<'_>) -> Result<(), BlifFault>
+fn check_row(place: LinePlace, plane: bool, line: &TextLine<'_>) -> Result<(), BlifFault>
     requires { plane ≡ is_on line.now }
     ensures { result_err result ≡ row_fault place.pins place.first line.now }
 {
@@ -118,7 +118,11 @@ fn lits_of(alloc: Global, line: &TextLine<'_>) -> Result<Items<Lit>, AllocError>
     Ok(Items::of(lits))
 }
 
-pub fn read_row(alloc: Global, place: Place, line: &TextLine<'_>) -> Result<Statement, BlifFault>
+pub fn read_row(
+    alloc: Global,
+    place: LinePlace,
+    line: &TextLine<'_>,
+) -> Result<Statement, BlifFault>
     ensures { Reads result (row_fault place.pins place.first line.now) (Statement.Row (record { lits = lits_of line.now.words }) (is_on line.now)) }
 {
     let plane = is_on(line);

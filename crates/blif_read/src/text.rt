@@ -7,7 +7,7 @@ ghost use Rattle.blif_read.specs.declared.fault.BlifFault.TheVariants.{Memory};
 use crate::fault::BlifFault;
 use crate::models::{BlifModel, Models};
 use crate::parts::read_parts;
-use crate::reader::Reader;
+use crate::reader::ModelReader;
 use blif_text::Lines;
 use cyc_base::Items;
 use std::alloc::Global;
@@ -25,7 +25,7 @@ pub(crate) fn if_any(models: Vec<BlifModel>) -> Result<Items<BlifModel>, BlifFau
 fn read_lines(alloc: Global, lines: &Lines) -> Result<Items<BlifModel>, BlifFault>
     ensures { Answers result (reads_lines (Ok lines.now)) }
 {
-    let mut reader = Reader::new(alloc);
+    let mut reader = ModelReader::new(alloc);
     for i in 0..lines.len() {
         reader.take_line(alloc, &lines.line(i))?;
     }

@@ -11,7 +11,7 @@ use Rattle.netlist.specs.declared.parts.Clock.{Clock as ClockOf}
 use Rattle.netlist.specs.declared.parts.Init.TheVariants as starts
 use Rattle.netlist.specs.declared.parts.Latch.{Latch as LatchOf}
 use Rattle.blif_text.specs.Texts.{Line}
-use Rattle.blif_read.specs.declared.kind.Kind.TheVariants.{Row}
+use Rattle.blif_read.specs.declared.kind.LineKind.TheVariants.{Row}
 use Rattle.blif_read.specs.declared.fault.BlifFault.{BlifFault}
 use Rattle.blif_read.specs.Kinds.{kind, arguments, pin_count, is_on, kind_of, model_name}
 use Rattle.blif_read.specs.declared.fault.BlifFault.TheVariants.{ModelTwice}

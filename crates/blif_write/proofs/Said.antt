@@ -8,8 +8,8 @@ use Rattle.netlist.specs.declared.parts.Clock as clocks
 use Rattle.netlist.specs.declared.parts.Init.TheVariants as starts
 use Rattle.netlist.specs.declared.parts.Gate as gates
 use Rattle.netlist.specs.declared.parts.Latch as latches
-use Rattle.blif_read.specs.declared.kind.Kind as kinds
-use Rattle.blif_read.specs.declared.kind.Kind.TheVariants as of
+use Rattle.blif_read.specs.declared.kind.LineKind as kinds
+use Rattle.blif_read.specs.declared.kind.LineKind.TheVariants as of
 use Rattle.blif_read.specs.declared.models.Item.{Item}
 use Rattle.blif_read.specs.declared.models.Item.TheVariants as item
 use Rattle.blif_read.specs.declared.statement.Statement.{Statement}
@@ -64,7 +64,7 @@ model_of_text net = record {
 abbrev says : List (List ℕ) → Statement
 says words = statement (record { number = 0; words = words })
 
-number_aside : (k : kinds.Kind) (n : ℕ) (words : List (List ℕ)) → statement_of_kind k (line n words) ≡ statement_of_kind k (line 0 words)
+number_aside : (k : kinds.LineKind) (n : ℕ) (words : List (List ℕ)) → statement_of_kind k (line n words) ≡ statement_of_kind k (line 0 words)
 number_aside k n words = grind arith
 
 says_all : (n : ℕ) (ws : List (List (List ℕ))) → map statement (numbered n ws) ≡ map says ws

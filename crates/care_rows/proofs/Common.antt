@@ -1,5 +1,5 @@
 -- The names that most proofs of this crate cite, passed on from one place. Declares nothing.
-pub use Rattle.care_rows.specs.Models.{AreUsed, IsKept, IsOver, IsPlaced, IsUsed, KeepsMarks, Plan, all_marked, and_cover, and_gate, assumed_columns, assumed_gate, assumed_gates, assumed_output, assumed_signal, assumed_size, base_of, column_name, conditions, first_assumed, if_marked, inputs_of, kept_gate, kept_gates, kept_signals, link, linked_piece, literal, marked_below, marked_name, model_gates, model_of, moved, old_gates, piece, placed_row, places, places_from, places_of, plan_by, plan_of, rank, row_gates, row_outputs, size_of, table_of, telling, telling_gates_of, telling_name, telling_of_rows, total_of, wire_value}
+pub use Rattle.care_rows.specs.Models.{AreUsed, IsKept, IsOver, IsPlaced, IsUsed, KeepsMarks, Plan, all_marked, and_cover, and_gate, assumed_columns, assumed_gate, assumed_gates, assumed_output, assumed_signal, assumed_size, base_of, column_name, conditions, first_assumed, if_marked, inputs_of, kept_gate, kept_gates, kept_signals, link, linked_piece, literal, marked_below, marked_name, model_gates, model_of, kept_signal, old_gates, piece, placed_row, places, places_from, places_of, plan_by, plan_of, rank, row_gates, row_outputs, size_of, table_of, telling, telling_gates_of, telling_name, telling_of_rows, total_of, wire_value}
 pub use Rattle.care_rows.specs.Restricted.{IsModelSize, IsRestricted, IsTooLarge, gates_of_rows, telling_gates}
 pub use Rattle.care_rows.specs.Rows.{AreSteadyMarks, AreSteadyRows, IsIn, IsInNone, IsSteady, IsSteadySignal}
 pub use Rattle.care_rows.specs.Steady.{AreSteadyBefore, IsAmong, IsDone}

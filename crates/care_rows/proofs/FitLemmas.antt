@@ -1,7 +1,7 @@
 -- What is kept for rows whose wires no loop takes part in fits.
 use Rattle.std.proofs.Common.{◌≡◌, ◌⊎◌, inl, inr, ℕ, zero, suc, ◌+◌, ◌-◌, ◌<◌, Bool, true, List, [], ◌∷◌, ◌++◌, length, map, get_or, All, Contains, Option, Some, None, refl, sym, ap, ◌∙◌, subst, arith}
 use Rattle.std.specs.Prelude.{IfSome, option_map}
-use Rattle.care_rows.proofs.Common.{AllByRecursion, AreSteadyRows, AreUsed, AnyGate, CareModel, Contains-get_or, count, CareSet, IsBoundTo, IsCare, IsCareModel, IsCareOf, IsConeOf, IsNetlist, IsSteady, IsSteadySignal, IsUpstream, Leads, Parts, Plan, Row, Sig, WireValue, assumed_columns, cases_lt, columns, gate_at, gate_sig, gates_of_rows, get_or-append_right, get_or-map, get_or_append_left, is_marked, length-append, length-map, no_gate, plan_by, recursion_from_All, signal, option_map_or}
+use Rattle.care_rows.proofs.Common.{AllByRecursion, AreSteadyRows, AreUsed, AnyGate, CareModel, Contains-get_or, count, CareSet, IsBoundTo, IsCare, IsCareModel, IsCareOf, IsConeOf, IsNetlist, IsSteadySignal, IsUpstream, Leads, Parts, Plan, Row, Sig, WireValue, assumed_columns, cases_lt, columns, gate_at, gate_sig, gates_of_rows, get_or-append_right, get_or-map, get_or_append_left, is_marked, length-append, length-map, no_gate, plan_by, recursion_from_All, signal, option_map_or}
 use Rattle.std.proofs.lemmas.List.Elements.{Contains-append_left, Contains-append_right}
 use Rattle.care_sets.proofs.BindingLemmas.{columns_within}
 use Rattle.loops.proofs.UpstreamLemmas.{upstream-trans}
@@ -23,8 +23,8 @@ contains_cases xs ys x c =
 abbrev wires_of : Row → List Sig
 wires_of row = map (λ e. e.wire) row.values
 
--- a gate that drives a wire of a row is steady
-drivers_steady : (net : Parts) (rows : List Row) → AllByRecursion (λ row. All (λ e. IsSteadySignal net e.wire) row.values) rows → (g : ℕ) → Contains (gates_of_rows net rows) g → IsSteady net (gate_sig net g)
+-- no loop takes part in a gate that drives a wire of a row
+drivers_steady : (net : Parts) (rows : List Row) → AllByRecursion (λ row. All (λ e. IsSteadySignal net e.wire) row.values) rows → (g : ℕ) → Contains (gates_of_rows net rows) g → IsSteadySignal net (gate_sig net g)
 drivers_steady net [] steady g c = absurd (let l = c.1 in omega (arith, l))
 drivers_steady net (row ∷ rows) steady g c =
     elim (contains_cases (numbers_from (columns net) (wires_of row)) (gates_of_rows net rows) g c) [
@@ -35,31 +35,15 @@ drivers_steady net (row ∷ rows) steady g c =
           let inside : s.0 < length row.values = omega (arith, l, n) in
           let d : WireValue = record { wire = signal 0; value = true } in
           let is : (get_or row.values s.0 d).wire ≡ gate_sig net g = sym (get_or-map (λ e. e.wire) row.values s.0 d (signal (columns net + g)) inside) ∙ s.2 in
-          subst (IsSteady net) is (steady.0 s.0 d inside).steady
+          subst (IsSteadySignal net) is (steady.0 s.0 d inside)
       | inr later ↦ drivers_steady net rows steady.1 g later
-    ]
-
--- and it is one of the netlist's
-pub drivers_within : (net : Parts) (rows : List Row) → AllByRecursion (λ row. All (λ e. IsSteadySignal net e.wire) row.values) rows → (g : ℕ) → Contains (gates_of_rows net rows) g → g < length net.gates
-drivers_within net [] steady g c = absurd (let l = c.1 in omega (arith, l))
-drivers_within net (row ∷ rows) steady g c =
-    elim (contains_cases (numbers_from (columns net) (wires_of row)) (gates_of_rows net rows) g c) [
-      | inl here ↦
-          let s = signal-numbers_from (columns net) g (wires_of row) here in
-          let n = length-map row.values (λ e. e.wire) in
-          let l = s.1 in
-          let inside : s.0 < length row.values = omega (arith, l, n) in
-          let d : WireValue = record { wire = signal 0; value = true } in
-          let is = ap (λ (t : Sig). t.0) (sym (get_or-map (λ e. e.wire) row.values s.0 d (signal (columns net + g)) inside) ∙ s.2) in
-          let known = (steady.0 s.0 d inside).within in
-          omega (arith, is, known)
-      | inr later ↦ drivers_within net rows steady.1 g later
     ]
 
 pub all_drivers_within : (net : Parts) (rows : List Row) (gates : List ℕ) → AreSteadyRows net rows → gates ≡ gates_of_rows net rows → All (λ n. n < length net.gates) gates
 all_drivers_within net rows gates steady is k d l =
     let c : Contains (gates_of_rows net rows) (get_or gates k d) = subst (λ (xs : List ℕ). Contains xs (get_or gates k d)) is (Contains-get_or gates k d l) in
-    drivers_within net rows (recursion_from_All (λ row. All (λ e. IsSteadySignal net e.wire) row.values) rows steady) (get_or gates k d) c
+    let known = (drivers_steady net rows (recursion_from_All (λ row. All (λ e. IsSteadySignal net e.wire) row.values) rows steady) (get_or gates k d) c).within in
+    omega (arith, known)
 
 -- the columns of an assumption are the netlist's
 pub assumed_within : (net : Parts) (care : CareSet) → IsCareOf net care → All (λ column. column < columns net) (assumed_columns care)
@@ -110,7 +94,7 @@ module _ (net : Parts) (care : CareSet) (rows : List Row) (used cone : List Bool
   off_loops : (n : ℕ) → n < length net.gates → is_marked cone n ≡ true → ¬ Leads net AnyGate n n
   off_loops n l is =
       let leads = (cone_is.each n l).0 is in
-      drivers_steady net rows (recursion_from_All (λ row. All (λ e. IsSteadySignal net e.wire) row.values) rows steady) leads.gate leads.among leads.gate n refl leads.upstream
+      (drivers_steady net rows (recursion_from_All (λ row. All (λ e. IsSteadySignal net e.wire) row.values) rows steady) leads.gate leads.among).steady leads.gate n refl leads.upstream
 
   wires : All (λ row. All (λ e. IsKeptSignal p e.wire) row.values) rows
   wires k d l i e inside =

@@ -1,7 +1,8 @@
 -- The model has no loop: what is kept of the netlist reads such gates alone, and so does what is kept of the assumption,
 -- and a gate that tells reads earlier ones.
 use Rattle.std.proofs.Common.{◌≡◌, inl, inr, ℕ, zero, suc, ◌+◌, ◌*◌, ◌-◌, ◌<◌, ◌≤◌, List, [], ◌∷◌, ◌++◌, length, map, drop, get_or, All, Contains, Option, Some, None, true, refl, sym, ap, ◌∙◌, subst, arith}
-use Rattle.care_rows.proofs.Common.{All-append, All-cons, All-from_recursion, All-map, All-nil, AllByRecursion, Feeds, Gate, IsLoopFree, IsSignal, Parts, Plan, Row, Sig, Walk, WireValue, all_marked, and_gate, assumed_output, assumed_signal, assumed_size, base_of, cases_lt, columns, conditions, first_assumed, gate_at, gate_sig, get_or-append_right, get_or-map, get_or-map-range_with_len, get_or_append_left, inputs_of, length-append, length-map, link, linked_piece, model_of, moved, no_gate, piece, placed_row, recursion_from_All, row_gates, row_outputs, signal, table_of, telling, telling_gates, telling_gates_of, telling_name, telling_of_rows, total_of, wire_value, rank}
+use Rattle.care_rows.specs.declared.telling.TheConstants.{PIECE}
+use Rattle.care_rows.proofs.Common.{All-append, All-cons, All-from_recursion, All-map, All-nil, AllByRecursion, Feeds, Gate, IsLoopFree, IsSignal, Parts, Plan, Row, Sig, Walk, WireValue, all_marked, and_gate, assumed_output, assumed_signal, assumed_size, base_of, cases_lt, columns, conditions, first_assumed, gate_at, gate_sig, get_or-append_right, get_or-map, get_or-map-range_with_len, get_or_append_left, inputs_of, length-append, length-map, link, linked_piece, model_of, kept_signal, no_gate, piece, placed_row, recursion_from_All, row_gates, row_outputs, signal, table_of, telling, telling_gates, telling_gates_of, telling_name, telling_of_rows, total_of, wire_value, rank}
 use Rattle.std.proofs.lemmas.List.Elements.{All-drop, All-take}
 use Rattle.cyc_base.proofs.ListLemmas.{all_weaker}
 use Rattle.loops.proofs.Walks.{leads-any}
@@ -43,7 +44,7 @@ reads-telling mark total base number wires low t l =
     subst (λ (gate : Gate). All (λ pin. pin.0 < first + t) gate.pins) (sym at)
     (All-map (λ (pin : Sig). pin.0 < first + t) (λ (e : WireValue). e.wire) (linked_piece first wires t)
     (All-append (λ e. e.wire.0 < first + t) (link first t) (piece wires t) (link_low first t)
-    (All-take (λ e. e.wire.0 < first + t) 1023 (drop (1023 * t) wires) (All-drop (λ e. e.wire.0 < first + t) (1023 * t) wires later))))
+    (All-take (λ e. e.wire.0 < first + t) PIECE (drop (PIECE * t) wires) (All-drop (λ e. e.wire.0 < first + t) (PIECE * t) wires later))))
 
 reads-rows : (mark : List ℕ) (total base : ℕ) (table : List ℕ) (number : ℕ) (rows : List Row) → AllByRecursion (λ row. All (λ e. e.wire.0 < base) (placed_row table row)) rows → ReadEarlier (base + number) (row_gates mark total base table number rows)
 reads-rows mark total base table number [] low = λ t l. absurd (omega (arith, l))
@@ -51,7 +52,7 @@ reads-rows mark total base table number (row ∷ rows) low =
     let n : ℕ = telling_gates (length row.values) in
     let here = telling mark total base number (placed_row table row) in
     let size = length-telling mark total base number (placed_row table row) in
-    let same = ap telling_gates (length-map row.values (λ e. wire_value (moved table e.wire) e.value)) in
+    let same = ap telling_gates (length-map row.values (λ e. wire_value (kept_signal table e.wire) e.value)) in
     reads-append (base + number) (base + (number + n)) here (row_gates mark total base table (number + n) rows) (omega (arith, size, same))
     (reads-telling mark total base number (placed_row table row) (λ i d inside. let h = low.0 i d inside in omega (arith, h)))
     (reads-rows mark total base table (number + n) rows low.1)
@@ -82,7 +83,7 @@ module _ (p : Plan) (mark : List ℕ) (fits : Fits p) where
 
   pub rows_low : AllByRecursion (λ row. All (λ e. e.wire.0 < base_of p) (placed_row (table_of p) row)) p.rows
   rows_low = recursion_from_All (λ row. All (λ e. e.wire.0 < base_of p) (placed_row (table_of p) row)) p.rows
-      (λ k d l. All-map (λ (e : WireValue). e.wire.0 < base_of p) (λ e. wire_value (moved (table_of p) e.wire) e.value) (get_or p.rows k d).values
+      (λ k d l. All-map (λ (e : WireValue). e.wire.0 < base_of p) (λ e. wire_value (kept_signal (table_of p) e.wire) e.value) (get_or p.rows k d).values
       (λ i f inside. let h = kept_low p mark fits (get_or (get_or p.rows k d).values i f).wire (fits.wires k d l i f inside) in omega (arith, h)))
 
   pub conditions_low : All (λ e. e.wire.0 < base_of p + telling_of_rows p.rows) (conditions p)
@@ -133,7 +134,7 @@ module _ (p : Plan) (mark : List ℕ) (fits : Fits p) where
       let inside = at.within in
       let n : ℕ = origin b in
       let less : n < length p.net.gates = omega (arith, inside, width) in
-      let f = fed a b (gate_at p.net n).pins (moved (table_of p)) (ap (λ (gate : Gate). gate.pins) (kept_at p mark b l)) feeds in
+      let f = fed a b (gate_at p.net n).pins (kept_signal (table_of p)) (ap (λ (gate : Gate). gate.pins) (kept_at p mark b l)) feeds in
       let q : Sig = get_or (gate_at p.net n).pins f.k (signal 0) in
       let kept : IsKeptSignal p q = fits.closed n less at.marked f.k (signal 0) f.here in
       let number = ap (λ (s : Sig). s.0) f.is in

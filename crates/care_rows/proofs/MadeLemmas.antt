@@ -1,6 +1,7 @@
 -- What is made is the model.
 use Rattle.std.proofs.Common.{◌≡◌, ◌⊎◌, inl, inr, ◌+◌, ◌≤◌, ℕ, List, Option, length, sym, ap, subst, arith}
 use Rattle.std.specs.Prelude.{IfSome, option_map}
+use Rattle.cyc_base.specs.declared.limits.TheConstants.{MAX_FLAT_ITEMS}
 use Rattle.care_rows.proofs.Common.{AreSteadyRows, CareModel, CareSet, IsCare, IsCareOf, IsKept, IsModelSize, IsNetlist, IsOver, IsRestricted, IsTooLarge, Kept, Parts, Plan, Row, all_marked, assumed_columns, assumed_size, base_of, model_of, option_map_or, plan_of, size_of, telling_gates, telling_of_rows, total_of}
 use Rattle.care_rows.specs.declared.fault.RestrictFault.{RestrictFault}
 use Rattle.care_rows.specs.declared.fault.RestrictFault.TheVariants.{Memory}
@@ -12,7 +13,7 @@ pub record IsMade (net : Parts) (care : CareSet) (rows : List Row) (parts : Part
   pub valid : IsNetlist parts
   pub restricted : IsRestricted net care rows parts
   pub size : IsModelSize net care rows (length parts.gates)
-  pub small : length parts.gates ≤ 4000000
+  pub small : length parts.gates ≤ MAX_FLAT_ITEMS
 
 module _ (net : Parts) (care : CareSet) (rows : List Row) (kept : Kept) (old : Option Parts) (is_old : old ≡ option_map (λ (m : CareModel). m.net) care.assume) (is : IsKept net (assumed_columns care) rows kept) where
   abbrev plan : Plan
@@ -31,7 +32,7 @@ module _ (net : Parts) (care : CareSet) (rows : List Row) (kept : Kept) (old : O
   size_plan = let a = ap assumed_size is_old in let b = total_is in omega (arith, a, b)
 
   pub made_is : IsNetlist net → IsCareOf net care → IsCare care → IfSome old IsNetlist → AreSteadyRows net rows → (n : ℕ) → n ≡ total → kept.signals + assumed_size old + n ≤ 4294967295 →
-      length (all_marked kept.gates.items) + assumed_size old + n ≤ 4000000 → (parts : Parts) → parts ≡ model_of plan (mark net) → IsMade net care rows parts
+      length (all_marked kept.gates.items) + assumed_size old + n ≤ MAX_FLAT_ITEMS → (parts : Parts) → parts ≡ model_of plan (mark net) → IsMade net care rows parts
   made_is valid bound models old_valid steady n n_is fits small parts parts_are =
       let a = ap assumed_size is_old in
       let b = total_is in

@@ -1,6 +1,6 @@
 -- What holds of what is kept, and where its signals stand.
 use Rattle.std.proofs.Common.{◌≡◌, inl, inr, ℕ, ◌+◌, ◌-◌, ◌<◌, ◌≤◌, List, length, get_or, All, Some, true, refl, ap, ◌∙◌, arith}
-use Rattle.care_rows.proofs.Common.{AnyGate, IsLoopFree, IsNetlist, IsSignal, Leads, Parts, Plan, Sig, all_marked, assumed_size, assumed_signal, base_of, cases_lt, columns, first_assumed, gate_at, gate_sig, get_or-map, inputs_of, is_marked, le-ltb, length-map, lt-ltb, model_of, moved, rank, signal, table_of}
+use Rattle.care_rows.proofs.Common.{AnyGate, IsLoopFree, IsNetlist, IsSignal, Leads, Parts, Plan, Sig, all_marked, assumed_size, assumed_signal, base_of, cases_lt, columns, first_assumed, gate_at, gate_sig, get_or-map, inputs_of, is_marked, le-ltb, length-map, lt-ltb, model_of, kept_signal, rank, signal, table_of}
 use Rattle.care_rows.proofs.RankLemmas.{rank_below}
 use Rattle.care_rows.proofs.LayoutLemmas.{column_place, columns-model, gate_place}
 
@@ -49,11 +49,11 @@ module _ (p : Plan) (mark : List ℕ) (fits : Fits p) where
   pub gate_low : (n : ℕ) → n < length p.net.gates → is_marked p.cone n ≡ true → rank p.cone n < length (all_marked p.cone)
   gate_low n l is = rank_below p.cone n (length p.cone) (let w = fits.cone_width in omega (arith, l, w)) is
 
-  pub gate_moved : (n : ℕ) → n < length p.net.gates → moved (table_of p) (gate_sig p.net n) ≡ gate_sig (model_of p mark) (rank p.cone n)
+  pub gate_moved : (n : ℕ) → n < length p.net.gates → kept_signal (table_of p) (gate_sig p.net n) ≡ gate_sig (model_of p mark) (rank p.cone n)
   gate_moved n l = ap signal (gate_stands n l ∙ (let e = columns-model p mark in let f : inputs + rank p.cone n ≡ columns (model_of p mark) + rank p.cone n = omega (arith, e) in f))
 
   -- what is kept stands below the assumption's gates
-  pub kept_low : (s : Sig) → IsKeptSignal p s → (moved (table_of p) s).0 < first_assumed p
+  pub kept_low : (s : Sig) → IsKeptSignal p s → (kept_signal (table_of p) s).0 < first_assumed p
   kept_low s kept =
       elim (cases_lt s.0 (columns p.net)) [
         | inl low ↦ let e = column_low s.0 low (kept.column low) in omega (arith, e)

@@ -1,7 +1,7 @@
 -- The model lets a vector through just where the assumption did and the vector is in none of the rows.
 use Rattle.std.proofs.Common.{◌≡◌, ◌≢◌, inl, inr, ℕ, zero, suc, ◌+◌, ◌-◌, ◌<◌, ◌≤◌, Bool, true, false, nat_lt, List, [], ◌∷◌, length, map, get_or, All, Option, Some, None, refl, sym, ap, ap₂, ◌∙◌, subst, arith}
 use Rattle.std.specs.Prelude.{◌↔◌, IfSome, find, option_map}
-use Rattle.care_rows.proofs.Common.{All-append, All-from_recursion, All-map, AllByRecursion, AreColumnsOf, AreSteadyRows, AreUsed, Binds, CareModel, CareSet, Gate, HasNoFault, IsBoundTo, IsCare, IsCareModel, IsCareOf, IsConeOf, IsIn, IsInNone, IsModelSize, IsNetlist, IsOver, IsRestricted, IsSignal, IsTooLarge, One, Parts, Plan, Row, Sig, Trit, WireValue, X, all_marked, assumed_columns, assumed_output, assumed_signal, assumed_size, base_of, bit, bits, cases_lt, column_name, column_of, columns, conditions, first_assumed, fix, fix_gates, gate_at, gate_sig, gates_of_rows, get_or-append-add, get_or-map, get_or_append_left, holds_at, inputs_at, inputs_of, is_allowed, is_marked, is_one, kept_gate, le-ltb, length-append, length-map, model_of, moved, no_gate, option_map_or, outs, placed_row, plan_by, rank, recursion_from_All, row_gates, row_outputs, signal, signal_names, size_of, table_of, telling, telling_gates, telling_of_rows, total_of, wire, wire_value}
+use Rattle.care_rows.proofs.Common.{All-append, All-from_recursion, All-map, AllByRecursion, AreColumnsOf, AreSteadyRows, AreUsed, Binds, CareModel, CareSet, Gate, HasNoFault, IsBoundTo, IsCare, IsCareModel, IsCareOf, IsConeOf, IsIn, IsInNone, IsModelSize, IsNetlist, IsOver, IsRestricted, IsSignal, IsTooLarge, One, Parts, Plan, Row, Sig, Trit, WireValue, X, all_marked, assumed_columns, assumed_output, assumed_signal, assumed_size, base_of, bit, bits, cases_lt, column_name, column_of, columns, conditions, first_assumed, fix, fix_gates, gate_at, gate_sig, gates_of_rows, get_or-append-add, get_or-map, get_or_append_left, holds_at, inputs_at, inputs_of, is_allowed, is_marked, is_one, kept_gate, le-ltb, length-append, length-map, model_of, kept_signal, no_gate, option_map_or, outs, placed_row, plan_by, rank, recursion_from_All, row_gates, row_outputs, signal, signal_names, size_of, table_of, telling, telling_gates, telling_of_rows, total_of, wire, wire_value}
 use Rattle.care_rows.specs.declared.fault.RestrictFault.{RestrictFault}
 use Rattle.std.proofs.lemmas.Option.{slice_get-get_or}
 use Rattle.cyc_base.proofs.ListLemmas.{map-map}
@@ -121,7 +121,7 @@ module _ (p : Plan) (fits : Fits p) (few : base_of p + total_of p ≤ 4294967295
 
     -- ---- the netlist's signals
 
-    net_stands : Stands p.net M (IsKeptSignal p) (moved (table_of p)) (rank p.cone)
+    net_stands : Stands p.net M (IsKeptSignal p) (kept_signal (table_of p)) (rank p.cone)
     net_stands = record {
       column = λ s low kept. let a = column_low p (mark p.net) fits s.0 low (kept.column low) in let b = columns-model p (mark p.net) in omega (arith, a, b);
       closed = λ n l kept. fits.closed n l (own n kept);
@@ -139,20 +139,20 @@ module _ (p : Plan) (fits : Fits p) (few : base_of p + total_of p ≤ 4294967295
             kept_at p (mark p.net) (rank p.cone n) (gate_low p (mark p.net) fits n l (own n kept))
             ∙ ap (kept_gate p.net (table_of p)) (rank_at p.cone n (length p.cone) 0 (let w = fits.cone_width in omega (arith, l, w)) (own n kept))
 
-    same_at : (s : Sig) → IsKeptSignal p s → wire W (moved (table_of p) s) ≡ wire (fix p.net (bits v)) s
+    same_at : (s : Sig) → IsKeptSignal p s → wire W (kept_signal (table_of p) s) ≡ wire (fix p.net (bits v)) s
     same_at s kept =
-        fix_at p.net M (IsKeptSignal p) (moved (table_of p)) (rank p.cone) net_stands fits.valid (bits v) (bits w) (length-map v bit ∙ wide) (length-map w bit ∙ wide_w)
+        fix_at p.net M (IsKeptSignal p) (kept_signal (table_of p)) (rank p.cone) net_stands fits.valid (bits v) (bits w) (length-map v bit ∙ wide) (length-map w bit ∙ wide_w)
         (λ t low has. column_value t.0 low (has.column low) ∙ sym (bits-at v t.0 (omega (arith, low, wide)))) s kept.inside kept
 
     in_row : (row : Row) → All (λ e. IsKeptSignal p e.wire) row.values → All (Holds W) (placed_row (table_of p) row) ↔ IsIn p.net v row
     in_row row kept = (
       λ hold k d l.
-          let f : WireValue → WireValue = λ e. wire_value (moved (table_of p) e.wire) e.value in
+          let f : WireValue → WireValue = λ e. wire_value (kept_signal (table_of p) e.wire) e.value in
           let n = length-map row.values f in
           sym (same_at (get_or row.values k d).wire (kept k d l))
           ∙ subst (Holds W) (get_or-map f row.values k d (f d) l) (hold k (f d) (omega (arith, l, n))),
       λ is.
-          let f : WireValue → WireValue = λ e. wire_value (moved (table_of p) e.wire) e.value in
+          let f : WireValue → WireValue = λ e. wire_value (kept_signal (table_of p) e.wire) e.value in
           All-map (Holds W) f row.values (λ k d l. same_at (get_or row.values k d).wire (kept k d l) ∙ is k d l),
     )
 

@@ -1,6 +1,7 @@
 -- What the gates that tell show, where all signals are known.
 use Rattle.std.proofs.Common.{◌≡◌, ◌≢◌, ℕ, zero, suc, ◌+◌, ◌*◌, ◌-◌, ◌<◌, ◌≤◌, Bool, true, List, [], ◌∷◌, ◌++◌, length, map, take, drop, get_or, All, refl, sym, ap, ap₂, ◌∙◌, subst, arith}
 use Rattle.std.specs.Prelude.{◌↔◌}
+use Rattle.care_rows.specs.declared.telling.TheConstants.{PIECE}
 use Rattle.care_rows.proofs.Common.{All-append, AllByRecursion, Gate, IsSignal, One, Parts, Row, Sig, Trit, WireValue, X, Zero, and_gate, bits, bit, columns, ext, fix, fix_gates, gate_at, gate_sig, get_or-append-add, get_or-map-range_with_len, get_or_append_left, length-append, length-map, linked_piece, no_gate, piece, placed_row, row_gates, row_outputs, signal, take_all, telling, telling_gates, telling_name, telling_of_rows, wire, wire_value}
 use Rattle.std.proofs.lemmas.List.{drop-take, take-append-drop, take-take}
 use Rattle.std.proofs.lemmas.List.Elements.{All-drop, All-take}
@@ -47,9 +48,9 @@ module _ (net : Parts) (v : List Bool) (wide : length v ≡ columns net) (known 
         ∙ get_or-map-range_with_len (λ j. and_gate (telling_name mark total (number + j)) (linked_piece (base + number) wires j)) 0 (telling_gates (length wires)) k k no_gate l (omega arith)
 
     piece_signals : (k : ℕ) → All (λ e. IsSignal net e.wire) (piece wires k)
-    piece_signals k = All-take (λ e. IsSignal net e.wire) 1023 (drop (1023 * k) wires) (All-drop (λ e. IsSignal net e.wire) (1023 * k) wires signals)
+    piece_signals k = All-take (λ e. IsSignal net e.wire) PIECE (drop (PIECE * k) wires) (All-drop (λ e. IsSignal net e.wire) (PIECE * k) wires signals)
 
-    tells_upto : (k : ℕ) → k < telling_gates (length wires) → (wire values (gate_sig net (g + k)) ≡ One) ↔ All (Holds values) (take (1023 * (k + 1)) wires)
+    tells_upto : (k : ℕ) → k < telling_gates (length wires) → (wire values (gate_sig net (g + k)) ≡ One) ↔ All (Holds values) (take (PIECE * (k + 1)) wires)
     tells_upto zero l = gate_tells (g + zero) (omega (arith, l, room)) (telling_name mark total (number + zero)) (linked_piece (base + number) wires zero) (gate_is zero l) (piece_signals zero)
     tells_upto (suc j) l =
         let before = tells_upto j (omega (arith, l)) in
@@ -58,19 +59,19 @@ module _ (net : Parts) (v : List Bool) (wide : length v ≡ columns net) (known 
         let inside : IsSignal net (signal (base + number + j)) = let r = room in omega (arith, at, l, r) in
         let linked : All (λ e. IsSignal net e.wire) (link_wire ∷ piece wires (suc j)) = All-append (λ e. IsSignal net e.wire) (link_wire ∷ []) (piece wires (suc j)) (one_signal link_wire inside) (piece_signals (suc j)) in
         let here = gate_tells (g + suc j) (omega (arith, l, room)) (telling_name mark total (number + suc j)) (linked_piece (base + number) wires (suc j)) (gate_is (suc j) l) linked in
-        let split : take (1023 * (suc j + 1)) wires ≡ take (1023 * (j + 1)) wires ++ piece wires (suc j) =
-        ap (λ n. take n wires) (let e : 1023 * (suc j + 1) ≡ 1023 * suc j + 1023 = omega arith in e)
-        ∙ take_split (1023 * suc j) 1023 wires
-        ∙ ap (λ n. take n wires ++ piece wires (suc j)) (let e : 1023 * suc j ≡ 1023 * (j + 1) = omega arith in e) in (
+        let split : take (PIECE * (suc j + 1)) wires ≡ take (PIECE * (j + 1)) wires ++ piece wires (suc j) =
+        ap (λ n. take n wires) (let e : PIECE * (suc j + 1) ≡ PIECE * suc j + PIECE = omega arith in e)
+        ∙ take_split (PIECE * suc j) PIECE wires
+        ∙ ap (λ n. take n wires ++ piece wires (suc j)) (let e : PIECE * suc j ≡ PIECE * (j + 1) = omega arith in e) in (
           λ one.
               let all = here.0 one in
               let first : Holds values link_wire = first_part (Holds values) (link_wire ∷ []) (piece wires (suc j)) all 0 link_wire (omega arith) in
               subst (All (Holds values)) (sym split)
-              (All-append (Holds values) (take (1023 * (j + 1)) wires) (piece wires (suc j)) (before.0 (ap (wire values) prior ∙ first)) (second_part (Holds values) (link_wire ∷ []) (piece wires (suc j)) all)),
+              (All-append (Holds values) (take (PIECE * (j + 1)) wires) (piece wires (suc j)) (before.0 (ap (wire values) prior ∙ first)) (second_part (Holds values) (link_wire ∷ []) (piece wires (suc j)) all)),
           λ hold.
               let all = subst (All (Holds values)) split hold in
-              let first : Holds values link_wire = ap (wire values) (sym prior) ∙ before.1 (first_part (Holds values) (take (1023 * (j + 1)) wires) (piece wires (suc j)) all) in
-              here.1 (All-append (Holds values) (link_wire ∷ []) (piece wires (suc j)) (one_holds link_wire first) (second_part (Holds values) (take (1023 * (j + 1)) wires) (piece wires (suc j)) all)),
+              let first : Holds values link_wire = ap (wire values) (sym prior) ∙ before.1 (first_part (Holds values) (take (PIECE * (j + 1)) wires) (piece wires (suc j)) all) in
+              here.1 (All-append (Holds values) (link_wire ∷ []) (piece wires (suc j)) (one_holds link_wire first) (second_part (Holds values) (take (PIECE * (j + 1)) wires) (piece wires (suc j)) all)),
         )
       where
         one_signal : (e : WireValue) → IsSignal net e.wire → All (λ e. IsSignal net e.wire) (e ∷ [])
@@ -87,7 +88,7 @@ module _ (net : Parts) (v : List Bool) (wide : length v ≡ columns net) (known 
         let k : ℕ = telling_gates (length wires) - 1 in
         let tells = tells_upto k (omega arith) in
         let is : gate_sig net (g + k) ≡ signal (base + number + telling_gates (length wires) - 1) = ap signal (let e : columns net + (g + k) ≡ base + number + telling_gates (length wires) - 1 = omega (arith, at) in e) in
-        let all : take (1023 * (k + 1)) wires ≡ wires = take_all (1023 * (k + 1)) wires (omega arith) in (
+        let all : take (PIECE * (k + 1)) wires ≡ wires = take_all (PIECE * (k + 1)) wires (omega arith) in (
           λ one. subst (All (Holds values)) all (tells.0 (ap (wire values) is ∙ one)),
           λ hold. ap (wire values) (sym is) ∙ tells.1 (subst (All (Holds values)) (sym all) hold),
         )

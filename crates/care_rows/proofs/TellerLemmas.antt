@@ -1,6 +1,7 @@
 -- The gates that tell of rows, while they are added.
 use Rattle.std.proofs.Common.{◌≡◌, ◌≢◌, inl, inr, ℕ, zero, suc, ◌+◌, ◌-◌, ◌<◌, ◌≤◌, true, false, List, [], ◌∷◌, ◌++◌, length, take, drop, get_or, refl, sym, ap, ◌∙◌, arith}
 use Rattle.std.specs.Prelude.{min}
+use Rattle.care_rows.specs.declared.telling.TheConstants.{PIECE}
 use Rattle.care_rows.proofs.Common.{Gate, Row, WireValue, append_assoc, cases_lt, length-append, link, placed_row, row_gates, row_outputs, signal, take_all, telling, telling_gates, telling_of_rows, wire_value}
 use Rattle.care_rows.proofs.LayoutLemmas.{length-outputs, told_cons}
 use Rattle.std.proofs.lemmas.List.{drop_all, drop_more, length-drop}
@@ -61,14 +62,14 @@ module _ (mark : List ℕ) (total base : ℕ) (table : List ℕ) (rows : List Ro
       omega (arith, one, was, sum)
 
 -- a piece of a list
-pub piece_is : {A : Type 0} (xs : List A) (start end : ℕ) → start ≤ length xs → end ≡ min (length xs) (start + 1023) → take (end - start) (drop start xs) ≡ take 1023 (drop start xs)
+pub piece_is : {A : Type 0} (xs : List A) (start end : ℕ) → start ≤ length xs → end ≡ min (length xs) (start + PIECE) → take (end - start) (drop start xs) ≡ take PIECE (drop start xs)
 piece_is xs start end inside is =
     let size = length-drop start xs in
-    elim (cases_lt (length xs) (start + 1023)) [
+    elim (cases_lt (length xs) (start + PIECE)) [
       | inl low ↦
           take_all (end - start) (drop start xs) (omega (arith, size, is, low, inside))
-          ∙ sym (take_all 1023 (drop start xs) (omega (arith, size, low, inside)))
-      | inr high ↦ ap (λ n. take n (drop start xs)) (let e : end - start ≡ 1023 = omega (arith, is, high, inside) in e)
+          ∙ sym (take_all PIECE (drop start xs) (omega (arith, size, low, inside)))
+      | inr high ↦ ap (λ n. take n (drop start xs)) (let e : end - start ≡ PIECE = omega (arith, is, high, inside) in e)
     ]
 
 -- what a gate reads of the one before it

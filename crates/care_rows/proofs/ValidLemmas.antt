@@ -1,7 +1,7 @@
 -- The model is a netlist.
 use Rattle.std.proofs.Common.{◌≡◌, ◌≢◌, inl, inr, ℕ, zero, suc, ◌+◌, ◌-◌, ◌^◌, ◌<◌, ◌≤◌, false, List, [], ◌∷◌, ◌++◌, length, map, get_or, All, Option, Some, None, refl, sym, ap, ◌∙◌, subst, arith}
 use Rattle.std.specs.Prelude.{codes}
-use Rattle.care_rows.proofs.Common.{All-append, All-from_recursion, All-map, All-nil, AllByRecursion, Gate, IsBlifName, IsDistinct, IsNetlist, IsSignal, Parts, Plan, Row, Sig, WireValue, all_marked, and_gate, append_assoc, assumed_gate, assumed_gates, assumed_signal, assumed_size, base_of, cases_eq, cases_lt, column_name, columns, conditions, count, first_assumed, gate_at, get_or-append-add, get_or-append_right, get_or-map, get_or-map-range_with_len, get_or_append_left, get_or_default, inputs_of, kept_gate, kept_gates, length-append, length-map, length-map-range_with_len, length-range_with_len, linked_piece, map-append, marked_name, model_of, moved, no_gate, old_gates, placed_row, range_with_len, rank, recursion_from_All, row_gates, sig_eq, signal, signal_names, table_of, telling, telling_gates, telling_gates_of, telling_name, telling_of_rows, total_of, model_gates, wire_value}
+use Rattle.care_rows.proofs.Common.{All-append, All-from_recursion, All-map, All-nil, AllByRecursion, Gate, IsBlifName, IsDistinct, IsNetlist, IsSignal, Parts, Plan, Row, Sig, WireValue, all_marked, and_gate, append_assoc, assumed_gate, assumed_gates, assumed_signal, assumed_size, base_of, cases_eq, cases_lt, column_name, columns, conditions, count, first_assumed, gate_at, get_or-append-add, get_or-append_right, get_or-map, get_or-map-range_with_len, get_or_append_left, get_or_default, inputs_of, kept_gate, kept_gates, length-append, length-map, length-map-range_with_len, length-range_with_len, linked_piece, map-append, marked_name, model_of, kept_signal, no_gate, old_gates, placed_row, range_with_len, rank, recursion_from_All, row_gates, sig_eq, signal, signal_names, table_of, telling, telling_gates, telling_gates_of, telling_name, telling_of_rows, total_of, model_gates, wire_value}
 use Rattle.std.proofs.lemmas.List.Elements.{All-from_get_or}
 use Rattle.std.proofs.lemmas.List.FromFn.{get_or-range_with_len}
 use Rattle.std.proofs.lemmas.Map.Made.{AllPairs-from_IsDistinct, IsDistinct-from_AllPairs}
@@ -76,7 +76,7 @@ named-rows mark total base table number [] = λ t l. absurd (omega (arith, l))
 named-rows mark total base table number (row ∷ rows) =
     let here = telling mark total base number (placed_row table row) in
     let size = length-telling mark total base number (placed_row table row) in
-    let same = ap telling_gates (length-map row.values (λ (e : WireValue). wire_value (moved table e.wire) e.value)) in
+    let same = ap telling_gates (length-map row.values (λ (e : WireValue). wire_value (kept_signal table e.wire) e.value)) in
     named-append mark total number (number + telling_gates (length row.values)) here (row_gates mark total base table (number + telling_gates (length row.values)) rows) (omega (arith, size, same))
     (named-telling mark total base number (placed_row table row))
     (named-rows mark total base table (number + telling_gates (length row.values)) rows)
@@ -127,9 +127,9 @@ module _ (p : Plan) (fits : Fits p) (few : base_of p + total_of p ≤ 4294967295
       let inside = at.within in
       let less : n < length p.net.gates = omega (arith, inside, width) in
       record {
-        pins = All-map (IsSignal M) (moved (table_of p)) (gate_at p.net n).pins
+        pins = All-map (IsSignal M) (kept_signal (table_of p)) (gate_at p.net n).pins
             (λ i e here. let low = kept_low p (mark p.net) fits (get_or (gate_at p.net n).pins i e) (fits.closed n less at.marked i e here) in let s = size in omega (arith, low, s));
-        counted = length-map (gate_at p.net n).pins (moved (table_of p)) ∙ fits.valid.pin_counts n no_gate less;
+        counted = length-map (gate_at p.net n).pins (kept_signal (table_of p)) ∙ fits.valid.pin_counts n no_gate less;
       })
 
   old_sound : (o : Option Parts) → p.old ≡ o → All (IsSound M) (assumed_gates (inputs_of p) (first_assumed p) (mark p.net) o)

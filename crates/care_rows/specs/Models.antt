@@ -3,6 +3,8 @@ use Rattle.std.specs.Prelude.{◌≡◌, ◌+◌, ◌-◌, ◌*◌, ◌++◌, �
 use Rattle.std.specs.List.{range_with_len, sum_by}
 use Rattle.std.specs.Fmt.{decimal}
 use Rattle.std.specs.Option.{option_map_or}
+use Rattle.care_rows.specs.declared.telling.TheConstants.{PIECE}
+use Rattle.cyc_base.specs.declared.limits.TheConstants.{MAX_FLAT_ITEMS}
 use Rattle.cyc_base.specs.declared.sig.Sig.{Sig}
 use Rattle.cover_logic.specs.Covers.{Cover}
 use Rattle.cover_logic.specs.declared.row.Lit.{Lit}
@@ -63,14 +65,14 @@ places used cone = places_from used 0 ++ places_from cone (rank used (length use
 abbrev pub kept_signals : List Bool → List Bool → ℕ
 kept_signals used cone = rank used (length used) + rank cone (length cone)
 
-abbrev pub moved : List ℕ → Sig → Sig
-moved table s = signal (slice_index_or table s.0 0)
+abbrev pub kept_signal : List ℕ → Sig → Sig
+kept_signal table s = signal (slice_index_or table s.0 0)
 
 abbrev pub column_name : Parts → ℕ → List ℕ
 column_name net column = slice_index_or (signal_names net) column []
 
 abbrev pub kept_gate : Parts → List ℕ → ℕ → Gate
-kept_gate net table n = record { name = (gate_at net n).name; pins = map (moved table) (gate_at net n).pins; cover = (gate_at net n).cover }
+kept_gate net table n = record { name = (gate_at net n).name; pins = map (kept_signal table) (gate_at net n).pins; cover = (gate_at net n).cover }
 
 -- ---- what is kept of the old assumption
 
@@ -120,7 +122,7 @@ and_gate name wires = record { name = name; pins = map (λ e. e.wire) wires; cov
 
 -- the wires of the gate with this number, of those that tell of wires: each but the first reads the one before it
 abbrev pub piece : List WireValue → ℕ → List WireValue
-piece wires k = take 1023 (drop (1023 * k) wires)
+piece wires k = take PIECE (drop (PIECE * k) wires)
 
 abbrev pub link : ℕ → ℕ → List WireValue
 link first zero = []
@@ -142,7 +144,7 @@ abbrev pub telling_of_rows : List Row → ℕ
 telling_of_rows rows = sum_by (λ row. telling_gates (length row.values)) rows
 
 abbrev pub placed_row : List ℕ → Row → List WireValue
-placed_row table row = map (λ e. wire_value (moved table e.wire) e.value) row.values
+placed_row table row = map (λ e. wire_value (kept_signal table e.wire) e.value) row.values
 
 -- those that tell of each row
 abbrev pub row_gates : List ℕ → ℕ → ℕ → List ℕ → ℕ → List Row → List Gate
@@ -158,7 +160,7 @@ row_outputs base number (row ∷ rows) = wire_value (signal (base + number + tel
 
 -- the model would have so many gates, too many
 pub record IsOver (size : ℕ) (fault : RestrictFault) : Type 0 where
-  pub over : 4000000 < size
+  pub over : MAX_FLAT_ITEMS < size
   pub is : fault ≡ TooLarge size
 
 -- what the model is made of: marks of the columns and gates that are kept, and the old assumption with the columns of its inputs

@@ -2,6 +2,8 @@
 use Rattle.std.specs.Prelude.{◌≡◌, ◌↔◌, ◌⊎◌, ◌+◌, ◌-◌, ◌/◌, ◌<◌, ℕ, Bool, true, List, length, map, filter, codes}
 use Rattle.std.specs.List.{flat_map, range_with_len, sum_by}
 use Rattle.std.specs.Option.{option_map_or}
+use Rattle.care_rows.specs.declared.telling.TheConstants.{PIECE}
+use Rattle.cyc_base.specs.declared.limits.TheConstants.{MAX_FLAT_ITEMS}
 use Rattle.netlist.specs.Orders.{numbers_from}
 use Rattle.netlist.specs.declared.parts.Parts.{Parts}
 use Rattle.loops.specs.Cones.{IsConeOf, is_marked}
@@ -26,7 +28,7 @@ gates_of_rows net rows = flat_map (λ row. numbers_from (columns net) (map (λ e
 
 -- how many gates tell whether so many wires have their values: one for each 1,023 wires, and at least one
 abbrev pub telling_gates : ℕ → ℕ
-telling_gates wires = (wires - 1) / 1023 + 1
+telling_gates wires = (wires - 1) / PIECE + 1
 
 -- how many gates the model has: those of the assumption, those that the rows take, those that tell of each row, and those
 -- that tell of all
@@ -42,7 +44,7 @@ pub record IsModelSize (net : Parts) (care : CareSet) (rows : List Row) (size : 
 pub record IsTooLarge (net : Parts) (care : CareSet) (rows : List Row) (fault : RestrictFault) : Type 0 where
   pub gates : ℕ
   pub size : IsModelSize net care rows gates
-  pub over : 4000000 < gates
+  pub over : MAX_FLAT_ITEMS < gates
   pub is : fault ≡ TooLarge gates
 
 abbrev pub IsRestrictFault : Parts → CareSet → List Row → RestrictFault → Type 0

@@ -38,7 +38,7 @@ impl Drop for Kept {
 }
 
 /// What is marked, with its places.
-fn placed(alloc: Global, columns: Vec<bool>, gates: Vec<bool>) -> Result<Kept, AllocError>
+fn kept_of_marks(alloc: Global, columns: Vec<bool>, gates: Vec<bool>) -> Result<Kept, AllocError>
     requires { length columns.items + length gates.items ≤ 4294967295 }
     ensures { IfOk result (IsPlaced columns.items gates.items) }
 {
@@ -77,5 +77,5 @@ pub(crate) fn keep(
     looped.net().laws();
     let gates = cone_of(alloc, looped, rows)?;
     let columns = used_columns(alloc, looped.net(), assumed, rows, &gates)?;
-    placed(alloc, columns, gates)
+    kept_of_marks(alloc, columns, gates)
 }

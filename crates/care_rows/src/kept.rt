@@ -8,7 +8,7 @@ ghost use Rattle.loops.specs.Cones.{is_marked};
 ghost use Rattle.care_sets.specs.Care.{columns as column_count};
 ghost use Rattle.care_rows.specs.Rows.{AreSteadyRows};
 ghost use Rattle.care_rows.specs.Restricted.{gates_of_rows as gates_of};
-ghost use Rattle.care_rows.specs.Models.{moved as moved_by, kept_gate as kept_gate_of, all_marked, column_name, if_marked};
+ghost use Rattle.care_rows.specs.Models.{kept_signal as kept_signal_of, kept_gate as kept_gate_of, all_marked, column_name, if_marked};
 
 use crate::rows::Row;
 use cyc_base::{Items, Name, Sig};
@@ -43,9 +43,9 @@ pub(crate) fn gates_of_rows(
 }
 
 /// Where a signal stands.
-pub(crate) fn moved(places: &[u32], signal: Sig) -> Sig
+pub(crate) fn kept_signal(places: &[u32], signal: Sig) -> Sig
     requires { signal.0 < length places.now }
-    ensures { result ≡ moved_by places.now signal }
+    ensures { result ≡ kept_signal_of places.now signal }
 {
     Sig(places[signal.0 as usize])
 }
@@ -70,9 +70,11 @@ fn kept_gate(alloc: Global, net: &Netlist, places: &[u32], number: u32) -> Resul
 /// The pins of a gate where they stand.
 fn moved_pins(alloc: Global, places: &[u32], pins: &[Sig]) -> Result<Vec<Sig>, AllocError>
     requires { All (λ pin. pin.0 < length places.now) pins.now }
-    ensures { IfOk result (λ moved. moved.items ≡ map (moved_by places.now) pins.now) }
+    ensures { IfOk result (λ moved. moved.items ≡ map (kept_signal_of places.now) pins.now) }
 {
-    pins.iter().map(|pin| moved(places, *pin)).collect(alloc)
+    pins.iter()
+        .map(|pin| kept_signal(places, *pin))
+        .collect(alloc)
 }
 
 /// Adds a gate, if it is marked.

@@ -1,7 +1,7 @@
 //! Rows of wires with values, and the model that keeps an assumption and excludes rows.
 //!
 //! It stands on `loops`, for the gates upstream of others, and on `care_sets`. The layer above uses that `steady_signals`
-//! tells which signals no loop takes part in, and that `restricted` makes a model which holds just where the old
+//! tells which signals no loop takes part in, and that `restricted_model` makes a model which holds just where the old
 //! assumption does and no row has all its values.
 #![tactic(auto)]
 
@@ -17,6 +17,6 @@ mod steady;
 mod telling;
 
 pub use fault::RestrictFault;
-pub use model::restricted;
+pub use model::restricted_model;
 pub use rows::{Row, WireValue};
 pub use steady::steady_signals;

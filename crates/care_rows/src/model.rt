@@ -16,7 +16,7 @@ use crate::rows::{Row, WireValue};
 use crate::sizes::{assumed_size, checked_total};
 use crate::telling::Tellers;
 use care_sets::Care;
-use cyc_base::{Items, Name, Sig};
+use cyc_base::{Items, MAX_FLAT_ITEMS, Name, Sig};
 use loops::LoopedNetlist;
 use netlist::{Gate, Netlist, Parts, PartsFault};
 use std::alloc::{AllocError, Global};
@@ -171,7 +171,7 @@ fn netlist_by(alloc: Global, parts: Parts) -> Result<Netlist, RestrictFault>
 ///
 /// `TooLarge` exactly where the model would have over 4,000,000 gates, with their number; else `Memory` where memory runs
 /// out, or the model would have over 4,294,967,295 signals.
-pub fn restricted(
+pub fn restricted_model(
     alloc: Global,
     looped: &LoopedNetlist<'_>,
     care: &Care,
@@ -181,7 +181,7 @@ pub fn restricted(
     requires steady { AreSteadyRows looped.now.net rows.now }
     ensures restricted { IfOk result (IsRestricted looped.now.net care.now rows.now) }
     ensures size { IfOk result (λ model. IsModelSize looped.now.net care.now rows.now (length model.gates)) }
-    ensures small { IfOk result (λ model. length model.gates ≤ 4000000) }
+    ensures small { IfOk result (λ model. length model.gates ≤ MAX_FLAT_ITEMS) }
     ensures fault { IfErr result (IsRestrictFault looped.now.net care.now rows.now) }
 {
     looped.net().laws();

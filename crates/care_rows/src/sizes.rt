@@ -62,7 +62,7 @@ pub(crate) fn checked_total(
 ) -> Result<u32, RestrictFault>
     requires { kept.now.inputs + length (all_marked kept.now.gates.items) ≡ kept.now.signals }
     ensures total { IfOk result (λ total. total ≡ telling_of rows.now + telling_gates_of (option_map_or (λ net. 1) (option_copied old.entry) 0 + length rows.now)) }
-    ensures small { IfOk result (λ total. length (all_marked kept.now.gates.items) + assumed_size_of (option_copied old.entry) + total ≤ 4000000) }
+    ensures small { IfOk result (λ total. length (all_marked kept.now.gates.items) + assumed_size_of (option_copied old.entry) + total ≤ MAX_FLAT_ITEMS) }
     ensures fits { IfOk result (λ total. kept.now.signals + assumed_size_of (option_copied old.entry) + total ≤ 4294967295) }
     ensures fault { IfErr result (λ fault. (fault ≡ RestrictFault.Memory) ⊎ IsOver (length (all_marked kept.now.gates.items) + assumed_size_of (option_copied old.entry) + (telling_of rows.now + telling_gates_of (option_map_or (λ net. 1) (option_copied old.entry) 0 + length rows.now))) fault) }
 {

@@ -7,15 +7,15 @@ ghost use Rattle.care_rows.specs.Restricted.{telling_gates as telling_gates_of};
 ghost use Rattle.care_rows.specs.Models.{and_cover as and_cover_of, and_gate as and_gate_of, link as link_of, linked_piece as linked_piece_of, literal as literal_of, piece as piece_of, placed_row as placed_row_of, row_gates, row_outputs, telling as telling_of, telling_name as telling_name_of, telling_of_rows};
 
 use crate::assumed::marked_name;
-use crate::kept::moved;
+use crate::kept::kept_signal;
 use crate::rows::{Row, WireValue};
 use cover_logic::{Cover, Lit};
-use cyc_base::{Items, Name, Sig};
+use cyc_base::{Items, MAX_PINS, Name, Sig};
 use netlist::Gate;
 use std::alloc::{AllocError, Global};
 
 /// The most wires that a gate reads beside the one before it.
-const PIECE: usize = 1_023;
+const PIECE: usize = MAX_PINS - 1;
 
 /// How many gates tell whether so many wires have their values.
 pub(crate) fn telling_gates(wires: usize) -> usize
@@ -57,7 +57,7 @@ fn pins_of(alloc: Global, wires: &[WireValue]) -> Result<Vec<Sig>, AllocError>
 
 /// The cover that is 1 where all wires have their values.
 fn and_cover(alloc: Global, wires: &[WireValue]) -> Result<Cover, AllocError>
-    requires { length wires.now ≤ 1024 }
+    requires { length wires.now ≤ MAX_PINS }
     ensures { IfOk result (λ cover. cover ≡ and_cover_of wires.now) }
 {
     let row = cover_logic::Row {
@@ -68,7 +68,7 @@ fn and_cover(alloc: Global, wires: &[WireValue]) -> Result<Cover, AllocError>
 
 /// The gate that is 1 where all wires have their values.
 fn and_gate(alloc: Global, name: Name, wires: &[WireValue]) -> Result<Gate, AllocError>
-    requires { length wires.now ≤ 1024 }
+    requires { length wires.now ≤ MAX_PINS }
     ensures { IfOk result (λ gate. gate ≡ and_gate_of name wires.now) }
 {
     let pins = pins_of(alloc, wires)?;
@@ -99,7 +99,7 @@ fn link(alloc: Global, first: u32, place: u32) -> Result<Vec<WireValue>, AllocEr
 fn piece(wires: &[WireValue], place: u32) -> &[WireValue]
     requires { place < telling_gates_of (length wires.now) }
     ensures piece { result.now ≡ piece_of wires.now place }
-    ensures narrow { length result.now ≤ 1023 }
+    ensures narrow { length result.now ≤ PIECE }
 {
     let start = PIECE * place as usize;
     let end = wires.len().min(start + PIECE);
@@ -116,7 +116,7 @@ fn linked_piece(
     requires place { place < telling_gates_of (length wires.now) }
     requires fits { first + place ≤ 4294967295 }
     ensures piece { IfOk result (λ linked. linked.items ≡ linked_piece_of first wires.now place) }
-    ensures narrow { IfOk result (λ linked. length linked.items ≤ 1024) }
+    ensures narrow { IfOk result (λ linked. length linked.items ≤ MAX_PINS) }
 {
     let mut linked = link(alloc, first, place)?;
     linked.extend_from_slice(piece(wires, place))?;
@@ -276,7 +276,7 @@ fn placed_row(alloc: Global, places: &[u32], row: &Row) -> Result<Vec<WireValue>
         .items()
         .iter()
         .map(|asked| WireValue {
-            wire: moved(places, asked.wire),
+            wire: kept_signal(places, asked.wire),
             value: asked.value,
         })
         .collect(alloc)

@@ -4,6 +4,8 @@ use Rattle.std.specs.List.{list_all, starts_with}
 use Rattle.std.specs.Option.{option_and_then}
 use Rattle.std.specs.Str.{bytes_eq}
 use Rattle.std.specs.declared.option.Option.{Option}
+use Rattle.commands.specs.declared.cases.TheConstants.{MAX_CASES}
+use Rattle.commands.specs.declared.command.TheConstants.{MAX_ROUNDS}
 use Rattle.cyc_base.specs.declared.limits.TheConstants.{MIN_NODES, MAX_NODES, MIN_RING_CELLS, MAX_RING_CELLS}
 use Rattle.refusals.specs.declared.observe.Observe.{Observe}
 use Rattle.refusals.specs.declared.observe.Observe.TheVariants as observe
@@ -153,7 +155,7 @@ with_flag known = if known.flag then None else Some (record { options = known.op
 abbrev pub with_cases : List ℕ → Wishes → Option Wishes
 with_cases value known =
     if is_none known.cases
-    then option_map (λ n. record { options = known.options; flag = known.flag; cases = Some n }) (number_between 1 4096 value)
+    then option_map (λ n. record { options = known.options; flag = known.flag; cases = Some n }) (number_between 1 MAX_CASES value)
     else None
 
 -- a number of cases, or an option with its value
@@ -258,7 +260,7 @@ demo_on word other = None
 
 -- a storm wants a number of rounds, and may have options
 abbrev pub rounds : List ℕ → Option ℕ
-rounds word = number_between 1 10000 word
+rounds word = number_between 1 MAX_ROUNDS word
 
 abbrev pub storm_on : List ℕ → List (List ℕ) → Option Command
 storm_on file [] = None

@@ -1,4 +1,6 @@
 ghost use Rattle.std.specs.Prelude.{◌≤◌, unwrap_or};
+ghost use Rattle.cyc_base.specs.declared.limits.TheConstants.{MAX_NODES, MIN_RING_CELLS, MAX_RING_CELLS};
+ghost use Rattle.commands.specs.declared.command.TheConstants.{MAX_ROUNDS};
 
 use crate::form::Form;
 use crate::kind::Kind;
@@ -6,6 +8,9 @@ use crate::purpose::Purpose;
 use crate::topic::Topic;
 use cyc_base::Name;
 use refusals::Observe;
+
+/// The most rounds of a storm.
+pub(crate) const MAX_ROUNDS: u32 = 10_000;
 
 /// The options of a decision.
 #[derive(Clone, Copy, Drop)]
@@ -17,15 +22,15 @@ pub struct Options<'a> {
     /// The wires that a user looks at.
     pub observe: Option<Observe>,
     ghost some: { 1 ≤ unwrap_or nodes 1 },
-    ghost most: { unwrap_or nodes 1 ≤ 50000000 },
+    ghost most: { unwrap_or nodes 1 ≤ MAX_NODES },
 }
 
 /// A number of cells of the ring arbiter, from 2 to 64.
 #[derive(Clone, Copy, Drop)]
 pub struct Cells {
     pub number: u32,
-    ghost some: { 2 ≤ number },
-    ghost most: { number ≤ 64 },
+    ghost some: { MIN_RING_CELLS ≤ number },
+    ghost most: { number ≤ MAX_RING_CELLS },
 }
 
 /// A number of rounds of a storm, from 1 to 10,000.
@@ -33,7 +38,7 @@ pub struct Cells {
 pub struct Rounds {
     pub number: u32,
     ghost some: { 1 ≤ number },
-    ghost most: { number ≤ 10000 },
+    ghost most: { number ≤ MAX_ROUNDS },
 }
 
 /// A command with its words. Files stand in the order in which they are read.

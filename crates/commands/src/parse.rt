@@ -1,11 +1,10 @@
 // The grammar of the words.
 ghost use Rattle.std.specs.Prelude.{◌≡◌, ◌≤◌, ◌+◌, ◌-◌, ◌*◌, ◌&&◌, bytes_eq, nat_le, true, false, MatchOption, IfSome, None, Some, unwrap_or};
-ghost use Rattle.cyc_base.specs.declared.limits.TheConstants.{MAX_NODES as most_nodes};
 ghost use Rattle.commands.specs.Seen.{cells_seen, command_seen, options_seen, purpose_seen, rounds_seen, split_seen, wishes_seen};
 ghost use Rattle.commands.specs.Words.{aiger_on as aiger_asked, assume_on as assume_asked, cells as cells_asked, command_alone as alone_asked, command_in, command_on as command_asked, decide_on as decide_asked, delays_on as delays_asked, demo_on as demo_asked, equal_on as equal_asked, equal_with as equal_asked_with, encoding_of as encoding_asked, explain_by as explain_asked_by, explain_on as explain_asked, form_of as form_asked, help_on as help_asked, loops_on as loops_asked, is_digit, is_file_word, no_options as asked_no_options, no_wishes as asked_no_wishes, number_between as number_asked, kind_of as kind_asked, observe_of as observe_asked, options_of as options_asked, probe_of as probe_asked, rewrite_by as rewrite_asked_by, rewrite_on as rewrite_asked, rounds as rounds_asked, sim_on as sim_asked, split_of as split_asked, storm_on as storm_asked, topic_of as topic_asked, unobserved as asked_unobserved, up_to, wishes_of as wishes_asked, with_care as asked_with_care, with_cases as asked_with_cases, with_flag as asked_with_flag, with_nodes as asked_with_nodes, with_observe as asked_with_observe, with_option as asked_with_option, with_wish as asked_with_wish};
 
-use crate::cases::Cases;
-use crate::command::{Cells, Command, Options, Rounds};
+use crate::cases::{Cases, MAX_CASES};
+use crate::command::{Cells, Command, MAX_ROUNDS, Options, Rounds};
 use crate::encoding::Encoding;
 use crate::form::Form;
 use crate::kind::Kind;
@@ -14,12 +13,6 @@ use crate::topic::Topic;
 use crate::wishes::Wishes;
 use cyc_base::{MAX_NODES, MAX_RING_CELLS, MIN_NODES, MIN_RING_CELLS, Name};
 use refusals::Observe;
-
-/// The most rounds of a storm.
-const MAX_ROUNDS: u32 = 10_000;
-
-/// The most cases into which a netlist is split.
-const MAX_CASES: u32 = 4096;
 
 /// The command that the words ask for, or nothing for words outside the grammar. A file that is `-` is standard input,
 /// which `files_named` gives its name before.
@@ -147,7 +140,7 @@ fn rewrite_by<'a>(file: &'a Name, wishes: Wishes<'a>) -> Option<Command<'a>>
 
 // One case is the netlist as it is.
 fn split_of(cases: Option<u32>) -> Option<Cases>
-    requires { unwrap_or cases 1 ≤ 4096 }
+    requires { unwrap_or cases 1 ≤ MAX_CASES }
     ensures { split_seen result ≡ split_asked cases }
 {
     match cases {
@@ -311,12 +304,12 @@ fn equal_with<'a>(file: &'a Name, second: &'a Name, rest: &'a [Name]) -> Option<
         (λ asked. equal_asked_with file.now second.now rest.now ≡ Some (command_seen asked)) }
 {
     let known = options_of(no_options(), rest)?;
-    let options = unobserved(known)?;
+    let options = without_observe(known)?;
     Some(Command::Equal(file, second, options))
 }
 
 // These options, unless they say what is observed.
-fn unobserved<'a>(options: Options<'a>) -> Option<Options<'a>>
+fn without_observe<'a>(options: Options<'a>) -> Option<Options<'a>>
     ensures { MatchOption result (asked_unobserved (options_seen options.entry) ≡ None)
         (λ same. asked_unobserved (options_seen options.entry) ≡ Some (options_seen same)) }
 {
@@ -555,7 +548,7 @@ fn observe_of(word: &[u8]) -> Option<Observe>
 
 // A decimal number without leading zeros, from `least` to `most`.
 fn number_between(least: u32, most: u32, word: &[u8]) -> Option<u32>
-    requires { most ≤ most_nodes }
+    requires { most ≤ MAX_NODES }
     ensures number { result ≡ number_asked least most word.now }
     ensures some { IfSome result (λ n. least ≤ n) }
     ensures most { IfSome result (λ n. n ≤ most) }
@@ -572,7 +565,7 @@ fn number_between(least: u32, most: u32, word: &[u8]) -> Option<u32>
 #[tactic(auto, using(crate::proofs::WordLemmas::more_digits, crate::proofs::WordLemmas::no_more_digits))]
 fn read_digits(value: u32, most: u32, digits: &[u8]) -> Option<u32>
     requires value { value ≤ most }
-    requires most { most ≤ most_nodes }
+    requires most { most ≤ MAX_NODES }
     ensures number { result ≡ up_to most value digits.now }
     ensures most { IfSome result (λ n. n ≤ most) }
 {
@@ -585,7 +578,7 @@ fn read_digits(value: u32, most: u32, digits: &[u8]) -> Option<u32>
 // A value with one more digit, where this is one and the number isn't too great.
 fn with_digit(value: u32, most: u32, digit: u8) -> Option<u32>
     requires value { value ≤ most }
-    requires most { most ≤ most_nodes }
+    requires most { most ≤ MAX_NODES }
     ensures { MatchOption result ((is_digit digit && nat_le (value * 10 + (digit - 48)) most) ≡ false)
         (λ n. ((is_digit digit && nat_le (value * 10 + (digit - 48)) most) ≡ true) × (n ≡ value * 10 + (digit - 48))) }
 {

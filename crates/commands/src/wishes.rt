@@ -1,4 +1,5 @@
 ghost use Rattle.std.specs.Prelude.{◌≤◌, unwrap_or};
+ghost use Rattle.commands.specs.declared.cases.TheConstants.{MAX_CASES};
 
 use crate::command::Options;
 
@@ -11,5 +12,5 @@ pub(crate) struct Wishes<'a> {
     /// A number of cases, from 1 to 4,096.
     pub cases: Option<u32>,
     ghost some: { 1 ≤ unwrap_or cases 1 },
-    ghost most: { unwrap_or cases 1 ≤ 4096 },
+    ghost most: { unwrap_or cases 1 ≤ MAX_CASES },
 }

@@ -1,7 +1,7 @@
 -- What is seen of a timeline.
 use Rattle.std.specs.Prelude.{◌≤◌, ℕ, List}
 use Rattle.schedules.specs.Moments.{History}
-use Rattle.delay_core.specs.declared.entry.Entry.{Entry}
+use Rattle.delay_core.specs.declared.entry.TimelineEntry.{TimelineEntry}
 use Rattle.delay_core.specs.Entries.{AreLinked, AreDated}
 
 -- its moments, the newest first, and how many changes surely find memory
@@ -10,7 +10,7 @@ pub record Told : Type 0 where
   pub spare : ℕ
 
 -- entries of so many moments
-pub record IsTimeline (entries : List Entry) (newest : List ℕ) (moments : ℕ) : Type 0 where
+pub record IsTimeline (entries : List TimelineEntry) (newest : List ℕ) (moments : ℕ) : Type 0 where
   pub some : 1 ≤ moments
   pub linked : AreLinked entries newest
   pub dated : AreDated entries moments

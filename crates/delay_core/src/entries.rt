@@ -4,11 +4,11 @@ ghost use Rattle.std.specs.Prelude.{◌≡◌, ◌+◌, ◌-◌, ◌<◌, ◌≤
 ghost use Rattle.std.specs.List.{range_with_len};
 ghost use Rattle.delay_core.specs.Entries.{entries_of, entry_at, value_from, AreLinked, AreDated, IsJump, Writes, WritesMoment};
 
-use crate::entry::Entry;
+use crate::entry::TimelineEntry;
 use std::alloc::{AllocError, Global};
 
 /// An older entry from which the value at the moment `n` is the same, where this one came later.
-fn step_back(entries: &[Entry], newest: &[u32], i: usize, n: usize) -> usize
+fn step_back(entries: &[TimelineEntry], newest: &[u32], i: usize, n: usize) -> usize
     requires linked { AreLinked entries.now newest.now }
     requires entry { i < length entries.now }
     requires moment { 1 ≤ n }
@@ -24,7 +24,7 @@ fn step_back(entries: &[Entry], newest: &[u32], i: usize, n: usize) -> usize
 }
 
 /// The place to which a new entry after this one jumps.
-fn jump_after(entries: &[Entry], newest: &[u32], older: u32) -> u32
+fn jump_after(entries: &[TimelineEntry], newest: &[u32], older: u32) -> u32
     requires linked { AreLinked entries.now newest.now }
     requires entry { older < length entries.now }
     ensures { IsJump entries.now older result }
@@ -41,7 +41,7 @@ fn jump_after(entries: &[Entry], newest: &[u32], older: u32) -> u32
 }
 
 /// The value at the moment `n` of the signal whose newest entry is `head`.
-pub(crate) fn value_at(entries: &[Entry], newest: &[u32], head: usize, n: usize) -> bool
+pub(crate) fn value_at(entries: &[TimelineEntry], newest: &[u32], head: usize, n: usize) -> bool
     requires linked { AreLinked entries.now newest.now }
     requires head { head < length entries.now }
     requires moment { 1 ≤ n }
@@ -56,7 +56,7 @@ pub(crate) fn value_at(entries: &[Entry], newest: &[u32], head: usize, n: usize)
 
 /// From the moment on the signal has this value, which it may have had before.
 pub(crate) fn write(
-    entries: &mut Vec<Entry>,
+    entries: &mut Vec<TimelineEntry>,
     newest: &mut Vec<u32>,
     s: usize,
     moment: usize,
@@ -79,7 +79,7 @@ pub(crate) fn write(
     let jump = jump_after(entries, newest, older);
     let rank = entries[older as usize].rank.wrapping_add(1);
     newest[s] = entries.len() as u32;
-    entries.push_reserved(Entry {
+    entries.push_reserved(TimelineEntry {
         moment,
         value,
         older,
@@ -90,7 +90,7 @@ pub(crate) fn write(
 
 /// The moment after the newest one has these values for the first signals, and the others stay.
 pub(crate) fn write_moment(
-    entries: &mut Vec<Entry>,
+    entries: &mut Vec<TimelineEntry>,
     newest: &mut Vec<u32>,
     moment: usize,
     values: &[bool],
@@ -111,12 +111,15 @@ pub(crate) fn write_moment(
 }
 
 /// An entry of the first moment for each of these values.
-pub(crate) fn first_entries(alloc: Global, values: &[bool]) -> Result<Vec<Entry>, AllocError>
+pub(crate) fn first_entries(
+    alloc: Global,
+    values: &[bool],
+) -> Result<Vec<TimelineEntry>, AllocError>
     ensures { IfOk result (λ entries. entries.items ≡ entries_of values.now) }
 {
     values
         .iter()
-        .map(|&value| Entry {
+        .map(|&value| TimelineEntry {
             moment: 1,
             value,
             older: 0,

@@ -1,6 +1,6 @@
 /// The value that a signal has from a moment on, up to its next entry. Moments are numbered from 1.
 #[derive(Clone, Copy, Debug)]
-pub struct Entry {
+pub struct TimelineEntry {
     pub moment: usize,
     pub value: bool,
     /// The place of the signal's entry before this one, where there is one.

@@ -35,7 +35,11 @@ fn vector_of(alloc: Global, inputs: &[bool], latches: &[bool]) -> Result<Vec<boo
 }
 
 /// What the latches load at the newest moment.
-fn loaded(alloc: Global, net: &Netlist, timeline: &Timeline) -> Result<Vec<bool>, AllocError>
+fn loaded_latches(
+    alloc: Global,
+    net: &Netlist,
+    timeline: &Timeline,
+) -> Result<Vec<bool>, AllocError>
     requires { length (newest timeline.now.history) ≡ count net.now }
     ensures { IfOk result (λ bits. bits.items ≡ loaded_of net.now (newest timeline.now.history)) }
 {
@@ -56,7 +60,7 @@ pub(crate) fn next_vector(
     requires { length (newest timeline.now.history) ≡ count net.now }
     ensures { IfOk result (λ vector. vector.items ≡ inputs.now ++ loaded_of net.now (newest timeline.now.history)) }
 {
-    let latches = loaded(alloc, net, timeline)?;
+    let latches = loaded_latches(alloc, net, timeline)?;
     vector_of(alloc, inputs, &latches)
 }
 
@@ -96,7 +100,7 @@ fn timeline_of(alloc: Global, past: &[Bits], opening: &[bool]) -> Result<Timelin
 }
 
 /// The timeline of a past, the oldest moment first, and of the moment in which a first tick opens.
-pub(crate) fn opened(
+pub(crate) fn opening_timeline(
     alloc: Global,
     past: &[Bits],
     inputs: &[bool],

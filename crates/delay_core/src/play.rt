@@ -6,7 +6,7 @@ ghost use Rattle.delay_core.specs.Plays.{SeenPlay, event_fault, first_allowed, a
 
 use crate::change::Change;
 use crate::fault::{EventFault, Unfair};
-use crate::opening::{next_vector, opened};
+use crate::opening::{next_vector, opening_timeline};
 use crate::reading::{first_moment, first_too_old, first_without, read_pins};
 use crate::timeline::Timeline;
 use cyc_base::{Bits, MAX_PINS, Sig};
@@ -61,13 +61,14 @@ impl<'a> Drop for Play<'a> {
 
 impl<'a> Model for Play<'a> {
     ghost use Rattle.std.specs.Prelude.{◌≡◌, ◌+◌, ◌≤◌, vec_len, vec_capacity};
+    ghost use Rattle.cyc_base.specs.declared.limits.TheConstants.{MAX_PINS};
     ghost use Rattle.delay_core.specs.Plays.{SeenPlay, starts_of, IsPlay};
 
     ghost Value = { SeenPlay };
 
     ghost view = { λ p. record { state = record { net = p.net.now; window = p.window; past = p.past; history = p.timeline.history; tick = p.tick; opening = p.opening; starts = starts_of p.opening p.marks.items p.round; done = p.done.items }; spare = p.spare } };
 
-    ghost invariant = { λ p. IsPlay p.net.now p.timeline.history p.past p.tick p.opening p.marks.items p.round p.done.items × (1024 ≤ vec_capacity p.bits) × (p.spare ≤ p.timeline.spare) × (vec_len p.marks + p.spare ≤ vec_capacity p.marks) };
+    ghost invariant = { λ p. IsPlay p.net.now p.timeline.history p.past p.tick p.opening p.marks.items p.round p.done.items × (MAX_PINS ≤ vec_capacity p.bits) × (p.spare ≤ p.timeline.spare) × (vec_len p.marks + p.spare ≤ vec_capacity p.marks) };
 }
 
 impl<'a> Play<'a> {
@@ -107,7 +108,7 @@ impl<'a> Play<'a> {
         ensures { IfOk result (λ play. play ≡ record { state = starting net.now window (reverse past.now) (inputs.now ++ latches.now) gates.now; spare = 0 }) }
     {
         let _signals = net.count();
-        let timeline = opened(alloc, past, inputs, latches, gates)?;
+        let timeline = opening_timeline(alloc, past, inputs, latches, gates)?;
         let opening = timeline.moments();
         let done = vec![in alloc; false; net.gates() as usize]?;
         let bits = Vec::with_capacity(alloc, MAX_PINS)?;

@@ -2,7 +2,7 @@ ghost use Rattle.std.specs.Prelude.{◌≡◌, ◌+◌, ◌-◌, ◌<◌, ◌≤
 ghost use Rattle.schedules.specs.Moments.{moment_at, newest};
 
 use crate::entries::{first_entries, first_places, value_at, write, write_moment};
-use crate::entry::Entry;
+use crate::entry::TimelineEntry;
 use std::alloc::{AllocError, Global};
 use std::marker::Model;
 
@@ -13,7 +13,7 @@ const MAX_ENTRIES: usize = 4_294_967_296;
 ///
 /// Contracts see its history, the newest moment first, and a number: so many changes take no memory.
 pub struct Timeline {
-    entries: Vec<Entry>,
+    entries: Vec<TimelineEntry>,
     /// The newest entry of each signal.
     newest: Vec<u32>,
     moments: usize,
@@ -54,7 +54,7 @@ fn next_moment(moments: usize, spare: usize) -> Result<usize, AllocError>
 }
 
 /// Makes room for so many entries more.
-fn reserve_entries(entries: &mut Vec<Entry>, more: usize) -> Result<(), AllocError>
+fn reserve_entries(entries: &mut Vec<TimelineEntry>, more: usize) -> Result<(), AllocError>
     ensures room { OnOk result (vec_len entries.new + more ≤ vec_capacity entries.new) }
     ensures places { OnOk result (vec_len entries.new + more ≤ 2 ^ 32) }
     ensures same { entries.new.items ≡ entries.old.items }

@@ -4,7 +4,7 @@ use Rattle.std.specs.List.{All, Contains}
 use Rattle.std.proofs.lemmas.Bool.{cases_eq, cases_lt}
 use Rattle.std.proofs.lemmas.List.{get_or_default}
 use Rattle.components.specs.Graphs.{Edge}
-use Rattle.explanations.specs.declared.search.Step.{Step}
+use Rattle.explanations.specs.declared.search.SearchStep.{SearchStep}
 use Rattle.explanations.specs.Cycles.{IsTrail, last, IsCycle, IsWay, IsShortest, ReachesNone}
 use Rattle.explanations.specs.Search.{step_at, depth_of, IsPlaced, IsWithin, IsSearch, IsWayBack, Closes, ClosesFirst, IsClosing, IsNearer, IsShortestThrough, IsTooLong, IsThrough, IsBestOf, IsBest, IsNearestOf}
 use Rattle.explanations.proofs.SearchLemmas.{same_step, step_within}
@@ -12,12 +12,12 @@ use Rattle.explanations.proofs.SearchLemmas.{same_step, step_within}
 -- ---- the node nearest to the root from which an edge leads back
 
 -- the best so far is no deeper
-abbrev pub IsNoDeeper : Option Step → Step → Type 0
+abbrev pub IsNoDeeper : Option SearchStep → SearchStep → Type 0
 IsNoDeeper None other = ⊥
 IsNoDeeper (Some best) other = best.depth ≤ other.depth
 
-pub closing_kept : (graph : List (List ℕ)) (root : ℕ) (steps : List (Option Step)) (n : ℕ) (best : Option Step) → IsClosing graph root steps n best →
-    ((other : Step) → Closes graph root steps n other → IsNoDeeper best other) → IsClosing graph root steps (n + 1) best
+pub closing_kept : (graph : List (List ℕ)) (root : ℕ) (steps : List (Option SearchStep)) (n : ℕ) (best : Option SearchStep) → IsClosing graph root steps n best →
+    ((other : SearchStep) → Closes graph root steps n other → IsNoDeeper best other) → IsClosing graph root steps (n + 1) best
 closing_kept graph root steps n None h k = λ node other l closes.
     elim (cases_eq node n) [
       | inl same ↦ k other (subst (λ (m : ℕ). Closes graph root steps m other) same closes)
@@ -34,19 +34,19 @@ closing_kept graph root steps n (Some best) h k = record {
       ];
 }
 
-pub closing_found : (graph : List (List ℕ)) (root : ℕ) (steps : List (Option Step)) (n : ℕ) (best : Option Step) (step : Step) → IsClosing graph root steps n best →
+pub closing_found : (graph : List (List ℕ)) (root : ℕ) (steps : List (Option SearchStep)) (n : ℕ) (best : Option SearchStep) (step : SearchStep) → IsClosing graph root steps n best →
     Closes graph root steps n step → IsNearer best step.depth → IsClosing graph root steps (n + 1) (Some (record { from = n; depth = step.depth }))
 closing_found graph root steps n best step h closes nearer = grind arith
 
-pub not_nearer : (best : Option Step) (step : Step) → ¬ IsNearer best step.depth → IsNoDeeper best step
+pub not_nearer : (best : Option SearchStep) (step : SearchStep) → ¬ IsNearer best step.depth → IsNoDeeper best step
 not_nearer best step n = grind arith
 
 -- ---- the way back
 
-module _ (graph : List (List ℕ)) (root limit : ℕ) (steps : List (Option Step)) (h : IsSearch graph root limit steps)
-    (node : ℕ) (step : Step) (placed : step_at steps node ≡ Some step) (way : List ℕ) (w : IsWayBack steps node way) where
+module _ (graph : List (List ℕ)) (root limit : ℕ) (steps : List (Option SearchStep)) (h : IsSearch graph root limit steps)
+    (node : ℕ) (step : SearchStep) (placed : step_at steps node ≡ Some step) (way : List ℕ) (w : IsWayBack steps node way) where
   -- the depth falls by one with each node
-  pub depth_along : (k : ℕ) → k < length way → (s : Step) × (step_at steps (get_or way k 0) ≡ Some s) × (s.depth + k ≡ step.depth)
+  pub depth_along : (k : ℕ) → k < length way → (s : SearchStep) × (step_at steps (get_or way k 0) ≡ Some s) × (s.depth + k ≡ step.depth)
   depth_along zero l = (step, ap (step_at steps) w.starts ∙ placed, omega arith)
   depth_along (suc k) l =
       let before = depth_along k (omega arith) in
@@ -54,8 +54,8 @@ module _ (graph : List (List ℕ)) (root limit : ℕ) (steps : List (Option Step
       let deep = before.2 in
       let link = w.links k (omega arith) in
       let same : before.0 ≡ link.step = same_step before.0 link.step (sym is ∙ link.is) in
-      let here : get_or way (suc k) 0 ≡ before.0.from = ap (λ n. get_or way n 0) (omega arith) ∙ sym link.source ∙ ap (λ (s : Step). s.from) (sym same) in
-      let deep_same = ap (λ (s : Step). s.depth) same in
+      let here : get_or way (suc k) 0 ≡ before.0.from = ap (λ n. get_or way n 0) (omega arith) ∙ sym link.source ∙ ap (λ (s : SearchStep). s.from) (sym same) in
+      let deep_same = ap (λ (s : SearchStep). s.depth) same in
       let positive = link.deep in
       elim (h.came (get_or way k 0) before.0 is) [
         | inl z ↦ (let first = z.0 in absurd (omega arith))
@@ -68,15 +68,15 @@ module _ (graph : List (List ℕ)) (root limit : ℕ) (steps : List (Option Step
       let is = at.1 in
       let link = w.links k l in
       let same : at.0 ≡ link.step = same_step at.0 link.step (sym is ∙ link.is) in
-      let from : at.0.from ≡ get_or way (k + 1) 0 = ap (λ (s : Step). s.from) same ∙ link.source in
-      let deep_same = ap (λ (s : Step). s.depth) same in
+      let from : at.0.from ≡ get_or way (k + 1) 0 = ap (λ (s : SearchStep). s.from) same ∙ link.source in
+      let deep_same = ap (λ (s : SearchStep). s.depth) same in
       let positive = link.deep in
       elim (h.came (get_or way k 0) at.0 is) [
         | inl z ↦ (let first = z.0 in absurd (omega arith))
         | inr c ↦ subst (λ (n : ℕ). Edge graph n (get_or way k 0)) from c.edge
       ]
 
-  last_along : (s : Step) × (step_at steps (last way) ≡ Some s) × (s.depth + (length way - 1) ≡ step.depth)
+  last_along : (s : SearchStep) × (step_at steps (last way) ≡ Some s) × (s.depth + (length way - 1) ≡ step.depth)
   last_along = depth_along (length way - 1) (let some = w.some in omega arith)
 
   pub way_length : length way ≡ step.depth + 1
@@ -94,7 +94,7 @@ module _ (graph : List (List ℕ)) (root limit : ℕ) (steps : List (Option Step
 
 -- ---- cycles through the root
 
-module _ (graph : List (List ℕ)) (root limit : ℕ) (steps : List (Option Step)) (h : IsSearch graph root limit steps)
+module _ (graph : List (List ℕ)) (root limit : ℕ) (steps : List (Option SearchStep)) (h : IsSearch graph root limit steps)
     (other : List ℕ) (cycle : IsCycle graph other) (through : last other ≡ root) where
   -- going along a cycle from the root, the search comes to each node in no more steps, or the cycle is too long for it
   along_cycle : (j : ℕ) → j < length other → IsWithin steps (get_or other (length other - 1 - j) 0) j ⊎ IsTooLong graph limit other
@@ -118,10 +118,10 @@ module _ (graph : List (List ℕ)) (root limit : ℕ) (steps : List (Option Step
             ]
       ]
 
-  pub closes_within : ((step : Step) × Closes graph root steps (get_or other 0 0) step × (step.depth + 1 ≤ length other)) ⊎ IsTooLong graph limit other
+  pub closes_within : ((step : SearchStep) × Closes graph root steps (get_or other 0 0) step × (step.depth + 1 ≤ length other)) ⊎ IsTooLong graph limit other
   closes_within = grind (arith, along_cycle (length other - 1))
 
-pub through_some : (graph : List (List ℕ)) (root limit : ℕ) (steps : List (Option Step)) (best : Step) (way : List ℕ) → root < length graph → IsSearch graph root limit steps →
+pub through_some : (graph : List (List ℕ)) (root limit : ℕ) (steps : List (Option SearchStep)) (best : SearchStep) (way : List ℕ) → root < length graph → IsSearch graph root limit steps →
     ClosesFirst graph root steps (length graph) best → IsWayBack steps best.from way → IsShortestThrough graph root limit way
 through_some graph root limit steps best way inside h first w =
     let closes = first.closes in
@@ -150,7 +150,7 @@ through_some graph root limit steps best way inside h first w =
           ];
     }
 
-pub through_none : (graph : List (List ℕ)) (root limit : ℕ) (steps : List (Option Step)) → IsSearch graph root limit steps →
+pub through_none : (graph : List (List ℕ)) (root limit : ℕ) (steps : List (Option SearchStep)) → IsSearch graph root limit steps →
     IsClosing graph root steps (length graph) None → IsThrough graph root limit None
 through_none graph root limit steps h none = λ other cycle through.
     elim (closes_within graph root limit steps h other cycle through) [
@@ -162,7 +162,7 @@ through_none graph root limit steps h none = λ other cycle through.
 
 -- ---- what the goal reaches
 
-module _ (graph : List (List ℕ)) (goal : ℕ) (reached : List (Option Step)) (h : IsSearch graph goal (length graph) reached) where
+module _ (graph : List (List ℕ)) (goal : ℕ) (reached : List (Option SearchStep)) (h : IsSearch graph goal (length graph) reached) where
   placed_on : (a b : ℕ) → Edge graph a b → IsPlaced reached a → IsPlaced reached b
   placed_on a b edge p =
       let shallow = h.shallow a p.step p.is in
@@ -247,7 +247,7 @@ module _ (graph : List (List ℕ)) (goal : ℕ) (reached : List (Option Step)) (
             let second = depth_along graph goal (length graph) reached h start at.step at.is whole back (suc j) (omega arith) in
             let same : get_or whole (suc i) 0 ≡ get_or whole (suc j) 0 = in_whole split i ∙ e ∙ sym (in_whole split j) in
             let step : first.0 ≡ second.0 = same_step first.0 second.0 (sym first.1 ∙ ap (step_at reached) same ∙ second.1) in
-            let level = ap (λ (s : Step). s.depth) step in
+            let level = ap (λ (s : SearchStep). s.depth) step in
             let deep = first.2 in
             let deeper = second.2 in
             omega arith;

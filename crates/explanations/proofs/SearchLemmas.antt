@@ -5,21 +5,21 @@ use Rattle.std.proofs.lemmas.Bool.{cases_eq, cases_lt}
 use Rattle.std.proofs.lemmas.List.{get_or_default, get_or-set_same, get_or-set_other, get_or-replicate, get_or_past, length-replicate, length-set, length-append}
 use Rattle.std.proofs.lemmas.List.Elements.{Contains-append_left, Contains-push, Contains-push_cases}
 use Rattle.components.specs.Graphs.{Edge, successors}
-use Rattle.explanations.specs.declared.search.Step.{Step}
+use Rattle.explanations.specs.declared.search.SearchStep.{SearchStep}
 use Rattle.explanations.specs.Search.{step_at, IsPlaced, IsNew, IsWithin, unplaced, IsFresh, Grown, LeadsTo, LeadsFrom, LeadsFromLevel, HasVisited, IsNextLevel, CameBy, Came, IsSearch, IsSearching, IsRooted}
 
 -- ---- one node
 
-pub same_step : (a b : Step) → Some a ≡ Some b → a ≡ b
+pub same_step : (a b : SearchStep) → Some a ≡ Some b → a ≡ b
 same_step a b e = cc
 
-pub not_both : (o : Option Step) (step : Step) → o ≡ None → o ≡ Some step → ⊥
+pub not_both : (o : Option SearchStep) (step : SearchStep) → o ≡ None → o ≡ Some step → ⊥
 not_both o step e h = cc
 
-pub step_within : (steps : List (Option Step)) (node : ℕ) (step : Step) → step_at steps node ≡ Some step → node < length steps
+pub step_within : (steps : List (Option SearchStep)) (node : ℕ) (step : SearchStep) → step_at steps node ≡ Some step → node < length steps
 step_within steps node step e = grind (arith, cases_lt, not_both, get_or_past)
 
-unplaced-set : (steps : List (Option Step)) (node : ℕ) (step : Step) → node < length steps → step_at steps node ≡ None → unplaced steps ≡ suc (unplaced (set steps node (Some step)))
+unplaced-set : (steps : List (Option SearchStep)) (node : ℕ) (step : SearchStep) → node < length steps → step_at steps node ≡ None → unplaced steps ≡ suc (unplaced (set steps node (Some step)))
 unplaced-set [] node step l e = absurd (omega arith)
 unplaced-set (None ∷ steps) zero step l e = refl
 unplaced-set (Some s ∷ steps) zero step l e = cc
@@ -33,7 +33,7 @@ unplaced-none (suc n) = ap suc (unplaced-none n)
 -- ---- growing
 
 module _ (links : ℕ → ℕ → Type 0) (depth : ℕ) where
-  pub Grown-one : (old : List (Option Step)) (before : List ℕ) (node : ℕ) (step : Step) → IsNew old node → step.depth ≡ depth → links step.from node →
+  pub Grown-one : (old : List (Option SearchStep)) (before : List ℕ) (node : ℕ) (step : SearchStep) → IsNew old node → step.depth ≡ depth → links step.from node →
       Grown links depth old (set old node (Some step)) before (before ++ node ∷ [])
   Grown-one old before node step new level link = record {
     size = length-set old node (Some step);
@@ -47,7 +47,7 @@ module _ (links : ℕ → ℕ → Type 0) (depth : ℕ) where
           | inl same ↦
               let is : Some step ≡ Some s = sym (get_or-set_same old node (Some step) None new.within) ∙ ap (step_at (set old node (Some step))) (sym same) ∙ e in
               let step_is : step ≡ s = same_step step s is in
-              inr (subst (λ (t : Step). IsFresh links depth (before ++ node ∷ []) n t) step_is
+              inr (subst (λ (t : SearchStep). IsFresh links depth (before ++ node ∷ []) n t) step_is
               (subst (λ (m : ℕ). IsFresh links depth (before ++ node ∷ []) m step) (sym same)
               (record { level = level; link = link; found = Contains-push before node })))
           | inr other ↦ inl (sym (get_or-set_other old node n (Some step) None other) ∙ e)
@@ -66,7 +66,7 @@ module _ (links : ℕ → ℕ → Type 0) (depth : ℕ) where
         );
   }
 
-  pub Grown-trans : (a b c : List (Option Step)) (first second third : List ℕ) → Grown links depth a b first second → Grown links depth b c second third → Grown links depth a c first third
+  pub Grown-trans : (a b c : List (Option SearchStep)) (first second third : List ℕ) → Grown links depth a b first second → Grown links depth b c second third → Grown links depth a c first third
   Grown-trans a b c first second third h k = record {
     size = k.size ∙ h.size;
     keeps = λ n s e. k.keeps n s (h.keeps n s e);
@@ -95,13 +95,13 @@ module _ (links : ℕ → ℕ → Type 0) (depth : ℕ) where
       was_new : (n : ℕ) → IsNew b n → IsNew a n
       was_new n new = grind arith
 
-pub Grown-weaker : (links more : ℕ → ℕ → Type 0) (depth : ℕ) (old new : List (Option Step)) (before after : List ℕ) → ((a b : ℕ) → links a b → more a b) →
+pub Grown-weaker : (links more : ℕ → ℕ → Type 0) (depth : ℕ) (old new : List (Option SearchStep)) (before after : List ℕ) → ((a b : ℕ) → links a b → more a b) →
     Grown links depth old new before after → Grown more depth old new before after
 Grown-weaker links more depth old new before after weaker h = grind arith
 
 -- ---- the successors of one node, and of a level
 
-pub visited_more : (from : ℕ) (targets : List ℕ) (i depth target : ℕ) (old now new : List (Option Step)) (before listed after : List ℕ) → i < length targets → target ≡ get_or targets i 0 →
+pub visited_more : (from : ℕ) (targets : List ℕ) (i depth target : ℕ) (old now new : List (Option SearchStep)) (before listed after : List ℕ) → i < length targets → target ≡ get_or targets i 0 →
     HasVisited from targets i depth old now before listed →
     Grown (LeadsTo from target) depth now new listed after → (target < length now → IsPlaced new target) → HasVisited from targets (i + 1) depth old new before after
 visited_more from targets i depth target old now new before listed after l is so_far one placed =
@@ -122,7 +122,7 @@ visited_more from targets i depth target old now new before listed after l is so
           ];
     }
 
-pub level_more : (graph : List (List ℕ)) (level : List ℕ) (i depth node : ℕ) (targets : List ℕ) (old now new : List (Option Step)) (listed after : List ℕ) → i < length level → node ≡ get_or level i 0 →
+pub level_more : (graph : List (List ℕ)) (level : List ℕ) (i depth node : ℕ) (targets : List ℕ) (old now new : List (Option SearchStep)) (listed after : List ℕ) → i < length level → node ≡ get_or level i 0 →
     targets ≡ successors graph node →
     IsNextLevel graph level i depth old now listed →
     HasVisited node targets (length targets) depth now new listed after → IsNextLevel graph level (i + 1) depth old new after
@@ -152,15 +152,15 @@ level_more graph level i depth node targets old now new listed after l is are so
 
 -- ---- from level to level
 
-abbrev pub root_step : ℕ → Step
+abbrev pub root_step : ℕ → SearchStep
 root_step root = record { from = root; depth = 0 }
 
-abbrev pub only_root : List (List ℕ) → ℕ → List (Option Step)
+abbrev pub only_root : List (List ℕ) → ℕ → List (Option SearchStep)
 only_root graph root = set (replicate (length graph) None) root (Some (root_step root))
 
 module _ (graph : List (List ℕ)) (root : ℕ) (inside : root < length graph) where
-  root_within : root < length (replicate {A = Option Step} (length graph) None)
-  root_within = let l = length-replicate {A = Option Step} (length graph) None in omega arith
+  root_within : root < length (replicate {A = Option SearchStep} (length graph) None)
+  root_within = let l = length-replicate {A = Option SearchStep} (length graph) None in omega arith
 
   root_unplaced : step_at (replicate (length graph) None) root ≡ None
   root_unplaced = get_or-replicate (length graph) root None None inside
@@ -168,7 +168,7 @@ module _ (graph : List (List ℕ)) (root : ℕ) (inside : root < length graph) w
   at_root : step_at (only_root graph root) root ≡ Some (root_step root)
   at_root = get_or-set_same (replicate (length graph) None) root (Some (root_step root)) None root_within
 
-  root_alone : (n : ℕ) (s : Step) → step_at (only_root graph root) n ≡ Some s → (n ≡ root) × (s ≡ root_step root)
+  root_alone : (n : ℕ) (s : SearchStep) → step_at (only_root graph root) n ≡ Some s → (n ≡ root) × (s ≡ root_step root)
   root_alone n s h = grind (arith, cases_eq, same_step, at_root, get_or-set_other, step_within, length-replicate, not_both, get_or-replicate)
 
   in_single : (n : ℕ) → Contains (root ∷ []) n → root ≡ n
@@ -178,8 +178,8 @@ module _ (graph : List (List ℕ)) (root : ℕ) (inside : root < length graph) w
   searching_first = record {
     size = length-set (replicate (length graph) None) root (Some (root_step root)) ∙ length-replicate (length graph) None;
     rooted = record { step = root_step root; is = at_root; most = omega arith };
-    came = λ n s h. let is = root_alone n s h in inl (ap (λ (t : Step). t.depth) is.1, is.0);
-    shallow = λ n s h. (let is = root_alone n s h in let deep = ap (λ (t : Step). t.depth) is.1 in omega arith);
+    came = λ n s h. let is = root_alone n s h in inl (ap (λ (t : SearchStep). t.depth) is.1, is.0);
+    shallow = λ n s h. (let is = root_alone n s h in let deep = ap (λ (t : SearchStep). t.depth) is.1 in omega arith);
     closed = λ a b s h l. absurd (omega arith);
     frontier = λ n s h d. (0, omega arith, sym (root_alone n s h).0);
     at = λ n c. (root_step root, ap (step_at (only_root graph root)) (sym (in_single n c)) ∙ at_root, refl);
@@ -190,19 +190,19 @@ module _ (graph : List (List ℕ)) (root : ℕ) (inside : root < length graph) w
         );
   }
 
-pub searching_first_at : (graph : List (List ℕ)) (root : ℕ) (steps : List (Option Step)) (level : List ℕ) → root < length graph → steps ≡ only_root graph root → level ≡ root ∷ [] → IsSearching graph root 0 level steps
+pub searching_first_at : (graph : List (List ℕ)) (root : ℕ) (steps : List (Option SearchStep)) (level : List ℕ) → root < length graph → steps ≡ only_root graph root → level ≡ root ∷ [] → IsSearching graph root 0 level steps
 searching_first_at graph root steps level inside e f = rw (e, f) (searching_first graph root inside)
 
-module _ (graph : List (List ℕ)) (root depth : ℕ) (level : List ℕ) (steps new : List (Option Step)) (next : List ℕ)
+module _ (graph : List (List ℕ)) (root depth : ℕ) (level : List ℕ) (steps new : List (Option SearchStep)) (next : List ℕ)
     (h : IsSearching graph root depth level steps) (n : IsNextLevel graph level (length level) (depth + 1) steps new next) where
-  came_kept : (node : ℕ) (step : Step) → Came graph root steps node step → Came graph root new node step
+  came_kept : (node : ℕ) (step : SearchStep) → Came graph root steps node step → Came graph root new node step
   came_kept node step c =
       elim c [
         | inl z ↦ inl z
         | inr b ↦ inr (record { before = b.before; is = n.grown.keeps step.from b.before b.is; deeper = b.deeper; edge = b.edge })
       ]
 
-  came_new : (node : ℕ) (step : Step) → step_at new node ≡ Some step → IsFresh (LeadsFromLevel graph level) (depth + 1) next node step → CameBy graph new node step
+  came_new : (node : ℕ) (step : SearchStep) → step_at new node ≡ Some step → IsFresh (LeadsFromLevel graph level) (depth + 1) next node step → CameBy graph new node step
   came_new node step e f =
       let at = h.at step.from f.link.0 in
       let place : step_at steps step.from ≡ Some at.0 = at.1 in
@@ -219,14 +219,14 @@ module _ (graph : List (List ℕ)) (root depth : ℕ) (level : List ℕ) (steps 
         edge = record { source = omega arith; target = omega arith; listed = f.link.1 };
       }
 
-  came_on : (node : ℕ) (step : Step) → step_at new node ≡ Some step → Came graph root new node step
+  came_on : (node : ℕ) (step : SearchStep) → step_at new node ≡ Some step → Came graph root new node step
   came_on node step e =
       elim (n.grown.fresh node step e) [
         | inl o ↦ came_kept node step (h.came node step o)
         | inr f ↦ inr (came_new node step e f)
       ]
 
-  shallow_on : (node : ℕ) (step : Step) → step_at new node ≡ Some step → step.depth ≤ depth + 1
+  shallow_on : (node : ℕ) (step : SearchStep) → step_at new node ≡ Some step → step.depth ≤ depth + 1
   shallow_on node step e = grind arith
 
   reached_next : (a b : ℕ) → Contains level a → Edge graph a b → IsPlaced new b
@@ -236,7 +236,7 @@ module _ (graph : List (List ℕ)) (root depth : ℕ) (level : List ℕ) (steps 
       let size = h.size in
       n.all c.0 b c.1 (subst (λ (m : ℕ). Contains (successors graph m) b) (sym read) edge.listed) (omega arith)
 
-  closed_on : (a b : ℕ) (step : Step) → step_at new a ≡ Some step → step.depth < depth + 1 → Edge graph a b → IsWithin new b (step.depth + 1)
+  closed_on : (a b : ℕ) (step : SearchStep) → step_at new a ≡ Some step → step.depth < depth + 1 → Edge graph a b → IsWithin new b (step.depth + 1)
   closed_on a b step e l edge =
       elim (n.grown.fresh a step e) [
         | inl o ↦
@@ -256,7 +256,7 @@ module _ (graph : List (List ℕ)) (root depth : ℕ) (level : List ℕ) (steps 
   nothing_in : (node : ℕ) → Contains [] node → ⊥
   nothing_in node c = omega (arith, c.1)
 
-  new_at : (node : ℕ) → Contains next node → (step : Step) × (step_at new node ≡ Some step) × (step.depth ≡ depth + 1)
+  new_at : (node : ℕ) → Contains next node → (step : SearchStep) × (step_at new node ≡ Some step) × (step.depth ≡ depth + 1)
   new_at node c =
       elim (n.grown.origin node c) [
         | inl none ↦ absurd (nothing_in node none)
@@ -294,11 +294,11 @@ module _ (graph : List (List ℕ)) (root depth : ℕ) (level : List ℕ) (steps 
     closed = λ a b step e m edge. closed_on a b step e (let most = h.shallow a step (old a step e) in omega arith) edge;
   }
     where
-      old : (node : ℕ) (step : Step) → step_at new node ≡ Some step → step_at steps node ≡ Some step
+      old : (node : ℕ) (step : SearchStep) → step_at new node ≡ Some step → step_at steps node ≡ Some step
       old node step e = grind arith
 
 -- the nodes of a level are nodes of the graph
-pub level_within : (graph : List (List ℕ)) (root depth : ℕ) (level : List ℕ) (steps : List (Option Step)) → IsSearching graph root depth level steps → All (λ node. node < length graph) level
+pub level_within : (graph : List (List ℕ)) (root depth : ℕ) (level : List ℕ) (steps : List (Option SearchStep)) → IsSearching graph root depth level steps → All (λ node. node < length graph) level
 level_within graph root depth level steps h = λ k d l.
     let here : Contains level (get_or level k d) = (k, l, get_or_default level k (get_or level k d) d l) in
     let at = h.at (get_or level k d) here in
@@ -307,7 +307,7 @@ level_within graph root depth level steps h = λ k d l.
     omega arith
 
 -- each step but a first one has one before it
-pub search_is_rooted : (graph : List (List ℕ)) (root limit : ℕ) (steps : List (Option Step)) → IsSearch graph root limit steps → IsRooted steps
+pub search_is_rooted : (graph : List (List ℕ)) (root limit : ℕ) (steps : List (Option SearchStep)) → IsSearch graph root limit steps → IsRooted steps
 search_is_rooted graph root limit steps h = λ node step e deep.
     elim (h.came node step e) [
       | inl z ↦ (let first = z.0 in absurd (omega arith))

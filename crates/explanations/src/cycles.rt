@@ -4,7 +4,7 @@ ghost use Rattle.std.specs.Prelude.{◌≡◌, ◌≤◌, ◌<◌, ◌↔◌, tr
 ghost use Rattle.components.specs.Graphs.{successors as successors_of};
 ghost use Rattle.explanations.specs.Search.{IsClosing, IsNearer, IsThrough};
 
-use crate::search::{Step, search, step_of, way_back};
+use crate::search::{SearchStep, search, step_of, way_back};
 use components::Graph;
 use cyc_base::Items;
 use std::alloc::{AllocError, Global};
@@ -18,7 +18,7 @@ fn leads(graph: &Graph, from: u32, to: u32) -> bool
 }
 
 /// Whether nothing is found yet, or only deeper.
-fn is_nearer(best: Option<Step>, depth: u32) -> bool
+fn is_nearer(best: Option<SearchStep>, depth: u32) -> bool
     ensures { (result ≡ true) ↔ IsNearer best depth }
 {
     match best {
@@ -28,14 +28,14 @@ fn is_nearer(best: Option<Step>, depth: u32) -> bool
 }
 
 /// The node nearest to the root from which an edge leads back to it, with the node's own depth.
-fn closing(graph: &Graph, root: u32, steps: &[Option<Step>]) -> Option<Step>
+fn closing(graph: &Graph, root: u32, steps: &[Option<SearchStep>]) -> Option<SearchStep>
     ensures { IsClosing graph.now root steps.now (length graph.now) result }
 {
-    let mut best: Option<Step> = None;
+    let mut best: Option<SearchStep> = None;
     for node in 0..graph.len() {
         if let Some(step) = step_of(steps, node) {
             if is_nearer(best, step.depth) && leads(graph, node, root) {
-                best = Some(Step {
+                best = Some(SearchStep {
                     from: node,
                     depth: step.depth,
                 });

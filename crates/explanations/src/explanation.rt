@@ -43,7 +43,7 @@ impl Drop for Explanation {
     }
 }
 
-fn joined(alloc: Global, cycle: &[u32], way: &[u32]) -> Result<Vec<u32>, AllocError>
+fn cycle_and_way(alloc: Global, cycle: &[u32], way: &[u32]) -> Result<Vec<u32>, AllocError>
     ensures { IfOk result (λ gates. gates.items ≡ cycle.now ++ way.now) }
 {
     let mut gates = cycle.to_vec(alloc)?;
@@ -52,7 +52,7 @@ fn joined(alloc: Global, cycle: &[u32], way: &[u32]) -> Result<Vec<u32>, AllocEr
 }
 
 /// Why this cycle with this way from it is open.
-fn explained(
+fn explanation_of_cycle(
     alloc: Global,
     net: &Netlist,
     vector: &[bool],
@@ -67,7 +67,7 @@ fn explained(
     ensures { IfOk result (λ why. AreReasons net.now vector.now found why) }
 {
     let (cycle, way) = found.into_parts();
-    let gates = joined(alloc, cycle.items(), way.items())?;
+    let gates = cycle_and_way(alloc, cycle.items(), way.items())?;
     let sides = sides(alloc, net, known, cycle.items(), preferred)?;
     let needs = needs(alloc, net, vector, cycle.items())?;
     let also = further(alloc, net, vector, &gates, &needs)?;
@@ -101,7 +101,9 @@ pub fn explain(
     let known = settle_at(alloc, net, vector)?;
     let graph = open_graph(alloc, net, &known)?;
     match shortest_cycle(alloc, &graph, gate)? {
-        Some(found) => Ok(Some(explained(alloc, net, vector, &known, preferred, found)?)),
+        Some(found) => Ok(Some(explanation_of_cycle(
+            alloc, net, vector, &known, preferred, found,
+        )?)),
         None => Ok(None),
     }
 }

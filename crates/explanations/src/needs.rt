@@ -75,7 +75,7 @@ fn unknown_gates(alloc: Global, net: &Netlist, known: &[Trit]) -> Result<Vec<boo
 }
 
 /// What these values of the columns determine.
-fn settled(
+fn values_determined_by(
     alloc: Global,
     net: &Netlist,
     simulator: &mut Simulator,
@@ -107,7 +107,7 @@ fn at_vector(
     ensures all { IfOk result (λ holding. AreAllUnknown net.now (fix net.now (bits vector.now)) (signal_count net.now) holding.marks.items) }
 {
     let given = trits_of(alloc, vector)?;
-    let known = settled(alloc, net, simulator, &given)?;
+    let known = values_determined_by(alloc, net, simulator, &given)?;
     let marks = unknown_gates(alloc, net, &known)?;
     Ok(Holding {
         given,
@@ -183,7 +183,7 @@ fn with_fewer(
     ensures known { IfOk result (IsSettled net.now) }
     ensures given { IfOk result (λ less. less.given.items ≡ given.items) }
 {
-    let known = settled(alloc, net, simulator, &given)?;
+    let known = values_determined_by(alloc, net, simulator, &given)?;
     let marks = greatest_part(alloc, net, fanout, &holding.known, &known, &holding.marks)?;
     Ok(Holding {
         given,
@@ -346,7 +346,7 @@ fn all_beyond(alloc: Global, needs: &[Trit], given: &[Trit]) -> Result<Vec<Trit>
 }
 
 /// The further values without which these don't hold the gates open.
-fn added(
+fn further_needs(
     alloc: Global,
     net: &Netlist,
     vector: &[bool],
@@ -380,5 +380,5 @@ pub(crate) fn further(
     if are_marked(net, &needs.marks, gates) {
         return unknown(alloc, vector.len());
     }
-    added(alloc, net, vector, gates, &needs.given)
+    further_needs(alloc, net, vector, gates, &needs.given)
 }

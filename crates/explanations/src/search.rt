@@ -9,7 +9,7 @@ use std::alloc::{AllocError, Global};
 
 /// How a search came to a node.
 #[derive(Clone, Copy, Debug, PartialEq, Eq)]
-pub(crate) struct Step {
+pub(crate) struct SearchStep {
     /// The node before it. For the root it is the root itself.
     pub from: u32,
     /// How many edges lead from the root to the node.
@@ -17,7 +17,7 @@ pub(crate) struct Step {
 }
 
 /// How the search came to a node, if it did.
-pub(crate) fn step_of(steps: &[Option<Step>], node: u32) -> Option<Step>
+pub(crate) fn step_of(steps: &[Option<SearchStep>], node: u32) -> Option<SearchStep>
     ensures { result ≡ step_at steps.now node }
 {
     match steps.get(node as usize) {
@@ -27,7 +27,7 @@ pub(crate) fn step_of(steps: &[Option<Step>], node: u32) -> Option<Step>
 }
 
 /// Whether this is a node to which the search hasn't come.
-fn is_new(steps: &[Option<Step>], node: u32) -> bool
+fn is_new(steps: &[Option<SearchStep>], node: u32) -> bool
     ensures { (result ≡ true) ↔ IsNew steps.now node }
 {
     (node as usize) < steps.len() && step_of(steps, node).is_none()
@@ -38,7 +38,7 @@ fn visit(
     target: u32,
     from: u32,
     depth: u32,
-    steps: &mut [Option<Step>],
+    steps: &mut [Option<SearchStep>],
     found: &mut Vec<u32>,
 ) -> Result<(), AllocError>
     ensures grown { OnOk result (Grown (LeadsTo from target) depth steps.old steps.new found.old.items found.new.items) }
@@ -47,7 +47,7 @@ fn visit(
     if !is_new(steps, target) {
         return Ok(());
     }
-    steps[target as usize] = Some(Step { from, depth });
+    steps[target as usize] = Some(SearchStep { from, depth });
     found.push(target)?;
     Ok(())
 }
@@ -57,7 +57,7 @@ fn visit_all(
     targets: &[u32],
     from: u32,
     depth: u32,
-    steps: &mut [Option<Step>],
+    steps: &mut [Option<SearchStep>],
     found: &mut Vec<u32>,
 ) -> Result<(), AllocError>
     ensures { OnOk result (HasVisited from targets.now (length targets.now) depth steps.old steps.new found.old.items found.new.items) }
@@ -74,7 +74,7 @@ fn next_level(
     graph: &Graph,
     level: &[u32],
     depth: u32,
-    steps: &mut [Option<Step>],
+    steps: &mut [Option<SearchStep>],
 ) -> Result<Vec<u32>, AllocError>
     requires nodes { All (λ node. node < length graph.now) level.now }
     requires size { length steps.old ≡ length graph.now }
@@ -88,12 +88,12 @@ fn next_level(
 }
 
 /// A search that has come to its root alone.
-fn at_root(alloc: Global, nodes: u32, root: u32) -> Result<Vec<Option<Step>>, AllocError>
+fn at_root(alloc: Global, nodes: u32, root: u32) -> Result<Vec<Option<SearchStep>>, AllocError>
     requires { root < nodes }
     ensures { IfOk result (λ steps. steps.items ≡ slice_set (replicate nodes None) root (Some (record { from = root; depth = 0 }))) }
 {
     let mut steps = vec![in alloc; None; nodes as usize]?;
-    steps[root as usize] = Some(Step {
+    steps[root as usize] = Some(SearchStep {
         from: root,
         depth: 0,
     });
@@ -114,7 +114,7 @@ pub(crate) fn search(
     graph: &Graph,
     root: u32,
     limit: u32,
-) -> Result<Vec<Option<Step>>, AllocError>
+) -> Result<Vec<Option<SearchStep>>, AllocError>
     requires { root < length graph.now }
     ensures { IfOk result (λ steps. IsSearch graph.now root limit steps.items) }
 {
@@ -133,7 +133,7 @@ pub(crate) fn search(
 }
 
 /// The node from which the search came to this one, if it isn't the root.
-fn node_before(steps: &[Option<Step>], node: u32) -> Option<u32>
+fn node_before(steps: &[Option<SearchStep>], node: u32) -> Option<u32>
     ensures some { IfSome result (ComesFrom steps.now node) }
     ensures none { IfNone result (IsFirst steps.now node) }
 {
@@ -146,7 +146,7 @@ fn node_before(steps: &[Option<Step>], node: u32) -> Option<u32>
 /// The nodes by which the search came to this one, from it back to the root.
 pub(crate) fn way_back(
     alloc: Global,
-    steps: &[Option<Step>],
+    steps: &[Option<SearchStep>],
     node: u32,
 ) -> Result<Vec<u32>, AllocError>
     requires { IsRooted steps.now }

@@ -5,7 +5,7 @@ ghost use Rattle.explanations.specs.Cycles.{IsShortest, ReachesNone};
 ghost use Rattle.explanations.specs.Search.{IsBest, IsPlaced, IsSearch, IsNearestOf, IsLimitBelow, IsDeeper, step_at};
 
 use crate::cycles::shortest_through;
-use crate::search::{Step, search, step_of, way_back};
+use crate::search::{SearchStep, search, step_of, way_back};
 use components::Graph;
 use cyc_base::Items;
 use std::alloc::{AllocError, Global};
@@ -53,7 +53,7 @@ fn limit_below(nodes: u32, best: &Option<Items<u32>>) -> Option<u32>
 fn with_root(
     alloc: Global,
     graph: &Graph,
-    reached: &[Option<Step>],
+    reached: &[Option<SearchStep>],
     root: u32,
     best: Option<Items<u32>>,
 ) -> Result<Option<Items<u32>>, AllocError>
@@ -75,7 +75,7 @@ fn with_root(
 fn best_cycle(
     alloc: Global,
     graph: &Graph,
-    reached: &[Option<Step>],
+    reached: &[Option<SearchStep>],
 ) -> Result<Option<Items<u32>>, AllocError>
     ensures { IfOk result (IsBest graph.now reached.now (length graph.now)) }
 {
@@ -89,7 +89,7 @@ fn best_cycle(
 }
 
 /// Whether the first node was reached by more edges than the second.
-fn is_deeper(reached: &[Option<Step>], first: u32, second: u32) -> bool
+fn is_deeper(reached: &[Option<SearchStep>], first: u32, second: u32) -> bool
     ensures { (result ≡ true) ↔ IsDeeper (step_at reached.now first) (step_at reached.now second) }
 {
     match (step_of(reached, first), step_of(reached, second)) {
@@ -99,7 +99,7 @@ fn is_deeper(reached: &[Option<Step>], first: u32, second: u32) -> bool
 }
 
 /// The node of a list that was reached by the fewest edges.
-fn nearest(reached: &[Option<Step>], nodes: &[u32]) -> u32
+fn nearest(reached: &[Option<SearchStep>], nodes: &[u32]) -> u32
     requires some { 0 < length nodes.now }
     requires placed { All (IsPlaced reached.now) nodes.now }
     ensures { IsNearestOf reached.now nodes.now (length nodes.now) result }

@@ -8,7 +8,8 @@ use Rattle.netlist.specs.declared.parts.Latch.{Latch as FlatLatch}
 use Rattle.netlist.specs.Netlists.{signal_names}
 use Rattle.flatten.specs.Wires.{control_names, model_names}
 use Rattle.flatten.specs.Walk.{through, events_by}
-use Rattle.flatten.specs.Flat.{flat_from, max_depth, max_items}
+use Rattle.cyc_base.specs.declared.limits.TheConstants.{MAX_DEPTH, MAX_FLAT_ITEMS}
+use Rattle.flatten.specs.Flat.{flat_from}
 use Rattle.flatten.specs.Laws.{BindsAmong, NamesOneWire, LinesNameWires, WalkNamesWires, SignalsNameWires}
 use Rattle.flatten.proofs.Telling.{names_tell}
 use Rattle.flatten.proofs.Stepping.{lines_in, decided_lines}
@@ -167,7 +168,7 @@ lines_name depth limit models place lines fits e =
     grind (arith, decided_lines limit es lines e, names_in models es, walk_names)
 
 pub walk_names_wires : WalkNamesWires
-walk_names_wires models place lines e = lines_name 200 4000000 models place lines (omega arith) e
+walk_names_wires models place lines e = lines_name MAX_DEPTH MAX_FLAT_ITEMS models place lines (omega arith) e
 
 -- The signals of the flat netlist.
 
@@ -204,11 +205,11 @@ linked_is : (top : BlifModel) (lines : FlatLines) (fault : Option FlatFault) (ne
     → netlist_by (sig_of (signal_list top lines)) top lines ≡ net
 linked_is top lines fault net e = grind arith
 
-linked_names : (models : List BlifModel) (i : ℕ) (r : Result FlatLines FlatFault) (net : Parts) → flat_lines max_depth max_items models i ≡ r
+linked_names : (models : List BlifModel) (i : ℕ) (r : Result FlatLines FlatFault) (net : Parts) → flat_lines MAX_DEPTH MAX_FLAT_ITEMS models i ≡ r
     → linked_lines (model_at models i) r ≡ Ok net → All (NamesOneWire models) (signal_names net)
 linked_names models i r net e h = grind (arith, linked_is, signals_of, walk_names_wires)
 
-from_found : (models : List BlifModel) (top : List ℕ) (found : Option ℕ) (net : Parts) → flat_from max_depth max_items models top found ≡ Ok net
+from_found : (models : List BlifModel) (top : List ℕ) (found : Option ℕ) (net : Parts) → flat_from MAX_DEPTH MAX_FLAT_ITEMS models top found ≡ Ok net
     → All (NamesOneWire models) (signal_names net)
 from_found models top found net e = grind (arith, linked_names)
 

@@ -1,5 +1,6 @@
 -- The signal of a driver, by its place in the table of drivers.
 use Rattle.std.proofs.Common.{◌≡◌, inl, inr, ⊎_elim, ◌⊎◌, ℕ, ◌+◌, ◌-◌, ◌<◌, ◌≤◌, nat_lt, Bool, true, false, not, ◌||◌, List, [], ◌∷◌, ◌++◌, length, length-append, map, filter, refl, sym, ap, ◌∙◌, arith, cond, if◌then◌else◌, Some, None, Ok, Err, option_map, unwrap_or}
+use Rattle.cyc_base.specs.declared.limits.TheConstants.{MAX_FLAT_ITEMS}
 use Rattle.flatten.proofs.Common.{length-map, list_any-append, list_any, find, flat_map, position, position_or_len, option_or, bytes_eq, Option, Result, Sig, Parts, BlifModel, GateLine, LatchLine, FlatFault, is_among, FlatLines, own_clocks, latch_outputs, gate_outputs, reads, signal_list, sig_of, declared_twice, driven_twice, link_fault, latch_with, gate_with, netlist_by, linked, sig_or, undriven_among, AreRead, cases_Bool, bytes_eq-true}
 use Rattle.std.proofs.lemmas.List.Folds.{find-append}
 use Rattle.std.specs.Option.{option_and_then}
@@ -169,7 +170,7 @@ module _ (top : BlifModel) (lines : FlatLines) (table : DriverTable) (of : IsDri
           grind (arith, option_map-nothing ClockRead clock (option_or-neither (bad_clock top lines) (option_map ClockRead clock) fits).1, option_or-neither (bad_clock top lines) (option_map ClockRead clock), linked_none (link_fault top lines), fault_is, parts_same all_driven, all_driven)
 
 -- the numbers of the signals of a table fit
-pub has_signals : (top : BlifModel) (lines : FlatLines) (table : DriverTable) → IsDriversOf top lines table → length top.inputs ≤ 4000000000 → length lines.latches + length lines.gates ≤ 4000000 → HasSignals table
+pub has_signals : (top : BlifModel) (lines : FlatLines) (table : DriverTable) → IsDriversOf top lines table → length top.inputs ≤ 4000000000 → length lines.latches + length lines.gates ≤ MAX_FLAT_ITEMS → HasSignals table
 has_signals top lines table of few small =
     let n = ap length of.names ∙ length-append top.inputs (own_clocks top ++ (latch_outputs lines ++ gate_outputs lines)) in
     let m = length-append (own_clocks top) (latch_outputs lines ++ gate_outputs lines) in

@@ -1,5 +1,6 @@
 -- The parts of a flat netlist meet all conditions of a netlist.
 use Rattle.std.proofs.Common.{◌≡◌, ⊎_elim, append_assoc, codes, ℕ, ◌+◌, ◌≤◌, Bool, true, false, not, ◌||◌, List, [], ◌∷◌, ◌++◌, length, length-append, map, refl, sym, ap, ◌∙◌, subst, arith, All, Some, None, Ok, is_some, IfSome, get_or}
+use Rattle.cyc_base.specs.declared.limits.TheConstants.{MAX_FLAT_ITEMS}
 use Rattle.flatten.proofs.Common.{length-map, All-nil, All-cons, All-head, All-tail, All-append, list_any-append, list_any, find, flat_map, position_or_len, IsDistinct, AllByRecursion, option_or, bytes_eq, Option, Sig, Clock, Parts, BlifModel, GateLine, LatchLine, is_among, FlatLines, IsPrintedGate, own_clocks, latch_outputs, gate_outputs, reads, first_twice, twice_after, signal_list, sig_of, has_bad_control, declared_twice, driven_twice, link_fault, latch_with, gate_with, netlist_by, linked, cases_Bool, bytes_eq-true, All-map, All-weaker}
 use Rattle.std.proofs.lemmas.Map.Keys.{IsDistinct-cons, IsDistinct-head, IsDistinct-tail}
 use Rattle.std.proofs.lemmas.Bool.{not-false, or_cases, both_ways, ne_eqb}
@@ -69,7 +70,7 @@ none_differ = tt
 
 -- the netlist of sound lines without a fault
 module _ (top : BlifModel) (lines : FlatLines) (sound : IsSoundModel top) (printed : ArePrintedLines lines)
-    (few : length lines.latches + length lines.gates ≤ 4000000) (none : link_fault top lines ≡ None) where
+    (few : length lines.latches + length lines.gates ≤ MAX_FLAT_ITEMS) (none : link_fault top lines ≡ None) where
   S : List (List ℕ)
   S = signal_list top lines
 
@@ -215,5 +216,5 @@ module _ (top : BlifModel) (lines : FlatLines) (sound : IsSoundModel top) (print
       }
 
 -- what links without a fault is a netlist
-pub linked_valid : (top : BlifModel) (lines : FlatLines) (parts : Parts) → IsSoundModel top → ArePrintedLines lines → length lines.latches + length lines.gates ≤ 4000000 → linked top lines ≡ Ok parts → IsNetlist parts
+pub linked_valid : (top : BlifModel) (lines : FlatLines) (parts : Parts) → IsSoundModel top → ArePrintedLines lines → length lines.latches + length lines.gates ≤ MAX_FLAT_ITEMS → linked top lines ≡ Ok parts → IsNetlist parts
 linked_valid top lines parts sound printed few e = grind (arith, is_netlist)

@@ -2,6 +2,7 @@
 use Rattle.std.specs.Prelude.{ℕ, List, Some, None, Ok, Err}
 use Rattle.std.specs.declared.option.Option.{Option}
 use Rattle.std.specs.declared.result.Result.{Result}
+use Rattle.cyc_base.specs.declared.limits.TheConstants.{MAX_DEPTH, MAX_FLAT_ITEMS}
 use Rattle.netlist.specs.declared.parts.Parts.{Parts}
 use Rattle.blif_read.specs.declared.models.BlifModel.{BlifModel}
 use Rattle.flatten.specs.declared.fault.FlatFault.{FlatFault}
@@ -28,12 +29,6 @@ flat_from depth limit models top (Some i) = flat_at depth limit models i
 abbrev pub flat_within : ℕ → ℕ → List BlifModel → List ℕ → Result Parts FlatFault
 flat_within depth limit models top = flat_from depth limit models top (find_model models top)
 
-abbrev pub max_depth : ℕ
-max_depth = 200
-
-abbrev pub max_items : ℕ
-max_items = 4000000
-
 -- the flat netlist or its first fault
 abbrev pub flat : List BlifModel → List ℕ → Result Parts FlatFault
-flat models top = flat_within max_depth max_items models top
+flat models top = flat_within MAX_DEPTH MAX_FLAT_ITEMS models top

@@ -8,7 +8,8 @@ use Rattle.blif_read.specs.declared.models.Item.TheVariants.{Gate, Latch}
 use Rattle.flatten.specs.Wires.{Wire, mark, mark_of, printed, item_names, wire_names}
 use Rattle.flatten.specs.Paths.{Instance, actual_of, climb, name_at}
 use Rattle.flatten.specs.Walk.{FlatLines, flat_lines}
-use Rattle.flatten.specs.Flat.{flat, max_depth, max_items}
+use Rattle.cyc_base.specs.declared.limits.TheConstants.{MAX_DEPTH, MAX_FLAT_ITEMS}
+use Rattle.flatten.specs.Flat.{flat}
 
 -- what the names of the wires of an instance begin with
 abbrev pub prefix_of : List ℕ → List Instance → List ℕ
@@ -65,7 +66,7 @@ pub record LinesNameWires (models : List BlifModel) (lines : FlatLines) : Type 0
 -- Each name of a flat netlist is that of one wire. So the names of two wires differ.
 abbrev pub WalkNamesWires : Type 0
 WalkNamesWires =
-    (models : List BlifModel) (place : ℕ) (lines : FlatLines) → flat_lines max_depth max_items models place ≡ Ok lines → LinesNameWires models lines
+    (models : List BlifModel) (place : ℕ) (lines : FlatLines) → flat_lines MAX_DEPTH MAX_FLAT_ITEMS models place ≡ Ok lines → LinesNameWires models lines
 
 abbrev pub SignalsNameWires : Type 0
 SignalsNameWires =

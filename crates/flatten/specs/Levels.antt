@@ -12,7 +12,7 @@ use Rattle.blif_read.specs.declared.models.PartLine.{PartLine}
 use Rattle.blif_read.specs.declared.models.Item.{Item}
 use Rattle.flatten.specs.declared.fault.FlatFault.{FlatFault}
 use Rattle.flatten.specs.declared.fault.FlatFault.TheVariants.{TooLarge}
-use Rattle.flatten.specs.declared.scope.Scope.{Scope}
+use Rattle.flatten.specs.declared.scope.NameScope.{NameScope}
 use Rattle.flatten.specs.declared.walk.Level.{Level}
 use Rattle.flatten.specs.declared.walk.FlatBody.{FlatBody}
 use Rattle.flatten.specs.declared.walk.Walk.{Walk}
@@ -118,7 +118,7 @@ pub record Opens (old : Walk) (level inner : Level) (new : Walk) : Type 0 where
   pub left : new.room ≡ old.room - 1
 
 -- what adding a gate or a latch to the lines does; of an instance nothing is added
-pub record AddsLine (old : Walk) (scope : Scope) (line : Item) (new : Walk) : Type 0 where
+pub record AddsLine (old : Walk) (scope : NameScope) (line : Item) (new : Walk) : Type 0 where
   pub some : 0 < old.room
   pub left : new.room ≡ old.room - 1
   pub levels : new.levels.items ≡ old.levels.items

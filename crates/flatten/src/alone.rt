@@ -10,7 +10,7 @@ use crate::link::link;
 use crate::remaining::Remaining;
 use crate::walk::FlatBody;
 use blif_read::{BlifModel, Item};
-use cyc_base::Items;
+use cyc_base::{Items, MAX_FLAT_ITEMS};
 use netlist::Parts;
 use std::alloc::{AllocError, Global};
 use std::mem;
@@ -72,7 +72,7 @@ fn own_lines(alloc: Global, body: Vec<Item>) -> Result<FlatBody, AllocError>
 pub(crate) fn parts_alone(alloc: Global, model: BlifModel, limit: u32) -> Result<Parts, FlatFault>
     requires alone { list_any is_part_by model.body ≡ false }
     requires sound { IsSoundModel model }
-    requires limit { limit ≤ 4000000 }
+    requires limit { limit ≤ MAX_FLAT_ITEMS }
     ensures parts { IfOk result (λ parts. flat_alone limit model ≡ Ok parts) }
     ensures valid { IfOk result IsNetlist }
     ensures fault { IfErr result (λ fault. (fault ≡ FlatFault.Memory) ⊎ (flat_alone limit model ≡ Err fault)) }

@@ -9,7 +9,7 @@ ghost use Rattle.flatten.specs.Levels.{chosen, entered_on};
 
 use crate::fault::FlatFault;
 use crate::hierarchy::Hierarchy;
-use crate::scope::{Scope, resolve};
+use crate::scope::{NameScope, resolve};
 use crate::walk::Level;
 use blif_read::{BlifModel, PartLine};
 use cyc_base::Name;
@@ -42,7 +42,7 @@ fn check_formal(
 /// Adds a formal that the table doesn't have, with the printed name of its actual.
 fn bind_formal(
     alloc: Global,
-    scope: &Scope,
+    scope: &NameScope,
     table: &mut IndexMap<Name, Name>,
     formal: &Name,
     actual: &Name,
@@ -58,7 +58,7 @@ fn bind_formal(
 
 fn bind_pairs(
     alloc: Global,
-    scope: &Scope,
+    scope: &NameScope,
     formals: &IndexSet<Name>,
     table: &mut IndexMap<Name, Name>,
     pairs: &[(Name, Name)],
@@ -80,7 +80,7 @@ fn bind_pairs(
 /// The table of an instance: each formal with the printed name of its actual.
 fn bind(
     alloc: Global,
-    scope: &Scope,
+    scope: &NameScope,
     formals: &IndexSet<Name>,
     pairs: &[(Name, Name)],
 ) -> Result<IndexMap<Name, Name>, FlatFault>
@@ -121,7 +121,7 @@ fn check_open(table: &IndexMap<Name, Name>, model: &BlifModel) -> Result<(), Fla
 pub(crate) fn full_table(
     alloc: Global,
     hierarchy: &Hierarchy<'_>,
-    scope: &Scope,
+    scope: &NameScope,
     place: usize,
     pairs: &[(Name, Name)],
 ) -> Result<IndexMap<Name, Name>, FlatFault>

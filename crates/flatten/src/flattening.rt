@@ -3,7 +3,7 @@ ghost use Rattle.std.specs.List.{list_any};
 ghost use Rattle.netlist.specs.Netlists.{IsNetlist};
 ghost use Rattle.blif_read.specs.Flattening.{CanBeFlattened};
 ghost use Rattle.flatten.specs.Alone.{is_part};
-ghost use Rattle.flatten.specs.Flat.{flat, flat_at, flat_within, max_depth, max_items};
+ghost use Rattle.flatten.specs.Flat.{flat, flat_at, flat_within};
 ghost use Rattle.flatten.specs.Instances.{find_model, model_at};
 
 use crate::alone::{has_parts, parts_alone};
@@ -45,7 +45,7 @@ fn flat_parts(
     limit: u32,
 ) -> Result<Parts, FlatFault>
     requires place { place < length hierarchy.now.models }
-    requires limit { limit ≤ 4000000 }
+    requires limit { limit ≤ MAX_FLAT_ITEMS }
     ensures parts { IfOk result (λ parts. flat_at hierarchy.now.depth limit hierarchy.now.models place ≡ Ok parts) }
     ensures valid { IfOk result IsNetlist }
     ensures fault { IfErr result
@@ -67,7 +67,7 @@ fn parts_within(
     limit: u32,
 ) -> Result<Parts, FlatFault>
     requires sound { CanBeFlattened models.now }
-    requires limit { limit ≤ 4000000 }
+    requires limit { limit ≤ MAX_FLAT_ITEMS }
     ensures parts { IfOk result (λ parts. flat_within depth limit models.now top.now ≡ Ok parts) }
     ensures valid { IfOk result IsNetlist }
     ensures fault { IfErr result
@@ -90,7 +90,7 @@ fn flatten_within(
     limit: u32,
 ) -> Result<Netlist, FlatFault>
     requires sound { CanBeFlattened models.now }
-    requires limit { limit ≤ 4000000 }
+    requires limit { limit ≤ MAX_FLAT_ITEMS }
     ensures netlist { IfOk result (λ net. flat_within depth limit models.now top.now ≡ Ok net) }
     ensures valid { IfOk result IsNetlist }
     ensures fault { IfErr result
@@ -147,10 +147,10 @@ fn take_parts(alloc: Global, models: Models, place: usize) -> Result<Parts, Flat
     requires sound { CanBeFlattened models.list }
     requires place { place < length models.list }
     requires alone { list_any is_part (model_at models.list place).body ≡ false }
-    ensures parts { IfOk result (λ parts. flat_at max_depth max_items models.list place ≡ Ok parts) }
+    ensures parts { IfOk result (λ parts. flat_at MAX_DEPTH MAX_FLAT_ITEMS models.list place ≡ Ok parts) }
     ensures valid { IfOk result IsNetlist }
     ensures fault { IfErr result
-        (λ fault. (fault ≡ FlatFault.Memory) ⊎ (flat_at max_depth max_items models.list place ≡ Err fault)) }
+        (λ fault. (fault ≡ FlatFault.Memory) ⊎ (flat_at MAX_DEPTH MAX_FLAT_ITEMS models.list place ≡ Err fault)) }
 {
     let model = take_model(models, place);
     parts_alone(alloc, model, MAX_FLAT_ITEMS)

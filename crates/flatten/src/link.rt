@@ -11,7 +11,7 @@ use crate::library::{add_all, add_copy};
 use crate::remaining::Remaining;
 use crate::walk::FlatBody;
 use blif_read::{BlifModel, GateLine, LatchLine};
-use cyc_base::{Items, Name, Sig};
+use cyc_base::{Items, MAX_FLAT_ITEMS, Name, Sig};
 use indexmap::IndexSet;
 use netlist::{Clock, Edge, Gate, Latch, Parts};
 use std::alloc::{AllocError, Global};
@@ -51,7 +51,7 @@ fn declare(set: &mut IndexSet<Name>, names: &[Name]) -> Result<(), FlatFault>
 }
 
 /// The names that a line of the top declares, all of them different.
-fn declared(alloc: Global, names: &[Name]) -> Result<IndexSet<Name>, FlatFault>
+fn declared_names(alloc: Global, names: &[Name]) -> Result<IndexSet<Name>, FlatFault>
     ensures all { IfOk result (λ set. set.keys ≡ names.now) }
     ensures once { OnOk result (first_twice names.now ≡ None) }
     ensures fault { IfErr result (λ fault. (fault ≡ FlatFault.Memory)
@@ -70,8 +70,8 @@ fn declared_inputs(alloc: Global, top: &BlifModel) -> Result<IndexSet<Name>, Fla
     ensures fault { IfErr result
         (λ fault. (fault ≡ FlatFault.Memory) ⊎ (declared_twice top.now ≡ Some fault)) }
 {
-    let inputs = declared(alloc, top.inputs.items())?;
-    declared(alloc, top.outputs.items())?;
+    let inputs = declared_names(alloc, top.inputs.items())?;
+    declared_names(alloc, top.outputs.items())?;
     Ok(inputs)
 }
 
@@ -452,7 +452,7 @@ fn check_clocks(top: &BlifModel, latches: &[LatchLine], read: Option<Name>) -> R
 /// The parts of the netlist of these lines, or their first fault.
 pub(crate) fn link(alloc: Global, top: &BlifModel, lines: FlatBody) -> Result<Parts, FlatFault>
     requires inputs { length top.now.inputs ≤ 4000000000 }
-    requires lines { length lines.latches.items + length lines.gates.items ≤ 4000000 }
+    requires lines { length lines.latches.items + length lines.gates.items ≤ MAX_FLAT_ITEMS }
     ensures parts { IfOk result (λ parts. linked top.now (lines_of lines) ≡ Ok parts) }
     ensures fault { IfErr result
         (λ fault. (fault ≡ FlatFault.Memory) ⊎ (linked top.now (lines_of lines) ≡ Err fault)) }

@@ -11,14 +11,14 @@ use std::alloc::{AllocError, Global};
 
 /// How the names of a body are resolved on one path: a formal to the printed name that it is bound to, and
 /// any other name behind the prefix of the path.
-pub(crate) struct Scope {
+pub(crate) struct NameScope {
     pub(crate) prefix: Name,
     pub(crate) table: IndexMap<Name, Name>,
 }
 
-impl Drop for Scope {
+impl Drop for NameScope {
     fn drop(self) {
-        let Scope {
+        let NameScope {
             prefix: _,
             table: _,
         } = self;
@@ -26,17 +26,18 @@ impl Drop for Scope {
 }
 
 /// How the names of the top's body are resolved.
-pub(crate) fn top_scope(alloc: Global) -> Scope
+pub(crate) fn top_scope(alloc: Global) -> NameScope
     ensures prefix { result.prefix ≡ [] }
     ensures table { result.table.entries ≡ [] }
 {
-    Scope {
+    NameScope {
         prefix: Name::new(Vec::new(alloc)),
         table: IndexMap::new(alloc),
     }
 }
 
-fn joined(alloc: Global, first: &Name, second: &Name) -> Result<Name, AllocError>
+/// One name behind another.
+fn joined_name(alloc: Global, first: &Name, second: &Name) -> Result<Name, AllocError>
     ensures { IfOk result (λ name. name ≡ first.now ++ second.now) }
 {
     if first.bytes().is_empty() {
@@ -48,16 +49,16 @@ fn joined(alloc: Global, first: &Name, second: &Name) -> Result<Name, AllocError
 }
 
 /// The printed name.
-pub(crate) fn resolve(alloc: Global, scope: &Scope, name: &Name) -> Result<Name, AllocError>
+pub(crate) fn resolve(alloc: Global, scope: &NameScope, name: &Name) -> Result<Name, AllocError>
     ensures { IfOk result (λ printed. printed ≡ resolved scope.now.prefix scope.now.table.entries name.now) }
 {
     match scope.table.get(name) {
         Some(printed) => printed.copy(),
-        None => joined(alloc, &scope.prefix, name),
+        None => joined_name(alloc, &scope.prefix, name),
     }
 }
 
-fn resolve_all(alloc: Global, scope: &Scope, names: &[Name]) -> Result<Vec<Name>, AllocError>
+fn resolve_all(alloc: Global, scope: &NameScope, names: &[Name]) -> Result<Vec<Name>, AllocError>
     ensures { IfOk result
         (λ printed. printed.items ≡ map (resolved scope.now.prefix scope.now.table.entries) names.now) }
 {
@@ -87,7 +88,7 @@ pub(crate) fn inner_prefix(
 /// The gate with printed names.
 pub(crate) fn flat_gate(
     alloc: Global,
-    scope: &Scope,
+    scope: &NameScope,
     gate: &GateLine,
 ) -> Result<GateLine, AllocError>
     ensures { IfOk result (λ flat. flat ≡ gate_by scope.now.prefix scope.now.table.entries gate.now) }
@@ -102,7 +103,7 @@ pub(crate) fn flat_gate(
     })
 }
 
-fn flat_clock(alloc: Global, scope: &Scope, clock: &Clock) -> Result<Clock, AllocError>
+fn flat_clock(alloc: Global, scope: &NameScope, clock: &Clock) -> Result<Clock, AllocError>
     ensures { IfOk result (λ flat. flat ≡ clock_by scope.now.prefix scope.now.table.entries clock.now) }
 {
     let name = resolve(alloc, scope, &clock.name)?;
@@ -115,7 +116,7 @@ fn flat_clock(alloc: Global, scope: &Scope, clock: &Clock) -> Result<Clock, Allo
 /// The latch with printed names.
 pub(crate) fn flat_latch(
     alloc: Global,
-    scope: &Scope,
+    scope: &NameScope,
     latch: &LatchLine,
 ) -> Result<LatchLine, AllocError>
     ensures { IfOk result (λ flat. flat ≡ latch_by scope.now.prefix scope.now.table.entries latch.now) }

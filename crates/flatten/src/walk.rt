@@ -8,7 +8,7 @@ ghost use Rattle.flatten.specs.Levels.{entered_on, IsInner, AddsLine, PutsBack, 
 use crate::bind::enter;
 use crate::fault::FlatFault;
 use crate::hierarchy::Hierarchy;
-use crate::scope::{Scope, flat_gate, flat_latch, inner_prefix, top_scope};
+use crate::scope::{NameScope, flat_gate, flat_latch, inner_prefix, top_scope};
 use blif_read::{GateLine, Item, LatchLine, PartLine};
 use cyc_base::Name;
 use std::alloc::{AllocError, Global};
@@ -19,7 +19,7 @@ pub(crate) struct Level {
     pub(crate) model: usize,
     pub(crate) next: usize,
     pub(crate) parts: usize,
-    pub(crate) scope: Scope,
+    pub(crate) scope: NameScope,
 }
 
 impl Drop for Level {
@@ -78,7 +78,7 @@ fn put_back(walk: &mut Walk, mut level: Level) -> Result<(), AllocError>
 }
 
 /// Adds a gate or a latch to the lines, by its printed names.
-fn add_line(alloc: Global, walk: &mut Walk, scope: &Scope, line: &Item) -> Result<(), FlatFault>
+fn add_line(alloc: Global, walk: &mut Walk, scope: &NameScope, line: &Item) -> Result<(), FlatFault>
     ensures added { OnOk result (AddsLine walk.old scope.now line.now walk.new) }
     ensures fault { IfErr result
         (λ fault. (fault ≡ FlatFault.Memory) ⊎ ((walk.old.room ≡ 0) × (fault ≡ FlatFault.TooLarge))) }
@@ -139,7 +139,7 @@ fn inner_level(
         model,
         next: 0,
         parts: 0,
-        scope: Scope { prefix, table },
+        scope: NameScope { prefix, table },
     })
 }
 

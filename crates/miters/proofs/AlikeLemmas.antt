@@ -1,21 +1,17 @@
--- Where the wires of no pair of the joined netlist are ever apart, the two netlists don't differ.
-use Rattle.std.proofs.Common.{◌≡◌, ℕ, ◌+◌, ◌<◌, refl, None, Some, List, [], ◌∷◌, All, Bool, false, if◌then◌else◌, length, map, slice_get, sym, ◌∙◌, arith}
-use Rattle.miters.proofs.Common.{All-nil, All-cons, length-signal_names, slice_get_within, Sig, Parts, count, signal, signal_names, IsNetlist, CareSet, IsPairOf, AreNeverApart, difference, differs, pair_of, AreAccepted, joined, joined_pairs, unmatched, care_vectors}
+-- Pairs of wires that are never apart, and pairs of the joined netlist.
+use Rattle.std.proofs.Common.{◌≡◌, ℕ, ◌+◌, ◌<◌, refl, None, Some, List, [], ◌∷◌, All, Bool, false, if◌then◌else◌, length, map, slice_get, ◌∙◌, arith}
+use Rattle.miters.proofs.Common.{All-nil, All-cons, length-signal_names, slice_get_within, Sig, Parts, count, signal, signal_names, CareSet, IsPairOf, Pair, some_is_apart, least_apart, pair_of, joined, care_vectors}
 use Rattle.std.proofs.lemmas.List.Elements.{All-head, All-tail}
 use Rattle.indexmap.specs.IndexMap.{insert_entry}
-use Rattle.miters.proofs.DifferenceLemmas.{agree_on_care, known_a}
-use Rattle.miters.proofs.JoinLemmas.{apart_same, length-joined}
-use Rattle.miters.proofs.MatchLemmas.{matched}
+use Rattle.clause_decision.specs.Apart.{AreNeverApartIn, HasFixed}
+use Rattle.miters.proofs.DifferenceLemmas.{agree_on_care}
+use Rattle.miters.proofs.JoinLemmas.{length-joined}
 use Rattle.miters.proofs.NameLemmas.{find_nowhere}
 
-pub never_differ : (a b : Parts) (care : CareSet) → IsNetlist a → IsNetlist b → unmatched a b ≡ None → AreAccepted a b care → AreNeverApart (joined a b []) care (joined_pairs a b) → difference a b care ≡ None
-never_differ a b care valid_a valid_b none accepted never =
-    let match_ = matched a b none in
-    agree_on_care a care (differs a b) (λ v. false)
-    (λ v counts.
-    sym (apart_same a b [] valid_a valid_b match_ v counts.width (known_a a b care valid_a valid_b match_ accepted v counts) (accepted.second v counts))
-    ∙ never v (record { width = counts.width; state = counts.state; allowed = counts.allowed }))
-    ∙ find_nowhere (λ v. false) (care_vectors a care) (λ i d m. refl)
+pub never_least : (net : Parts) (care : CareSet) (pairs : List Pair) → AreNeverApartIn net care [] pairs → least_apart net care pairs ≡ None
+never_least net care pairs never =
+    agree_on_care net care (some_is_apart net pairs) (λ v. false) (λ v counts. never v counts (All-nil (HasFixed v)))
+    ∙ find_nowhere (λ v. false) (care_vectors net care) (λ i d m. refl)
 
 -- a wire of the first netlist that has a name
 pub named_within : (a : Parts) (name : List ℕ) (s : Sig) → slice_get (signal_names a) s.0 ≡ Some name → s.0 < count a

@@ -4,7 +4,7 @@ pub use Rattle.care_sets.proofs.NameLemmas.{length-column_names}
 pub use Rattle.care_sets.specs.Binding.{IsBoundTo, IsCareOf, column_of}
 pub use Rattle.care_sets.specs.Care.{CareSet, IsCareVector, column_names, columns, is_care_vector, is_one}
 pub use Rattle.care_sets.specs.declared.model.CareModel.{CareModel}
-pub use Rattle.clause_decision.specs.Apart.{AreNeverApart, IsPairOf, are_apart, is_apart_at, some_is_apart}
+pub use Rattle.clause_decision.specs.Apart.{IsPairOf, are_apart, is_apart_at, some_is_apart}
 pub use Rattle.clause_decision.specs.declared.pairs.Pair.{Pair}
 pub use Rattle.cover_logic.specs.Extensions.{ext}
 pub use Rattle.cyc_base.proofs.ListLemmas.{list_any-map, option_map-nothing, option_or-neither}

@@ -9,6 +9,7 @@ pub mod DifferenceLemmas
 pub mod ComparisonLemmas
 pub mod AlikeLemmas
 pub mod CaseLemmas
+pub mod BeginningLemmas
 pub mod ScopeLemmas
 pub mod PlacedLemmas
 pub mod ValidLemmas

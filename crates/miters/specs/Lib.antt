@@ -11,5 +11,6 @@ pub mod Runs
 pub mod Shown
 -- The code's own: what its parts say to each other.
 pub mod Cases
+pub mod Beginnings
 pub mod Places
 pub mod Placed

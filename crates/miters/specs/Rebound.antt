@@ -1,9 +1,9 @@
 -- A care set of the first netlist as one of the second: the same models, bound to the second one's columns by name.
-use Rattle.std.specs.Prelude.{◌≡◌, ◌≤◌, ℕ, Option, None, map, length, option_map}
+use Rattle.std.specs.Prelude.{ℕ, Option, map, length, option_map}
 use Rattle.netlist.specs.declared.parts.Parts.{Parts}
 use Rattle.care_sets.specs.Binding.{BindsAny}
 use Rattle.care_sets.specs.declared.model.CareModel.{CareModel}
-use Rattle.care_sets.specs.Care.{CareSet, columns}
+use Rattle.care_sets.specs.Care.{CareSet}
 use Rattle.miters.specs.declared.answer.Answer.{Answer}
 use Rattle.miters.specs.Differences.{column_named, comparison}
 

@@ -83,7 +83,7 @@ impl<'a> JoinedPairs<'a> {
     /// What is told of them on the care vectors of a cube. Simulation may tell of one that has some apart. Where it tells of none,
     /// inner wires that it doesn't tell apart are asked for first, one by one, and what the solver learns of them is there for
     /// the pairs.
-    fn tell_in(&self, alloc: Global, cube: &[Fixed]) -> Result<PairsTold, AllocError>
+    pub(crate) fn tell_in(&self, alloc: Global, cube: &[Fixed]) -> Result<PairsTold, AllocError>
         requires paired { ArePaired self.now }
         requires cube { IsCubeOf self.now.looped.now.net cube.now }
         ensures { IfOk result (TellsIn self.now.looped.now.net self.now.care.now cube.now self.now.pairs.now) }

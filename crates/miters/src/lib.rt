@@ -11,6 +11,7 @@
 
 mod answer;
 mod cases;
+mod descent;
 mod hints;
 mod joining;
 pub mod laws;

@@ -2,4 +2,5 @@
 pub mod Vectors
 pub mod Acceptance
 pub mod Refusals
+pub mod Tests
 pub mod Laws

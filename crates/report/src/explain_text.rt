@@ -3,7 +3,7 @@ ghost use Rattle.std.specs.Prelude.{◌≡◌, ◌≤◌, ◌<◌, ◌++◌, All
 ghost use Rattle.cyc_io.specs.Taken.{IsAppended, sink_call};
 ghost use Rattle.cyc_base.specs.declared.trit.Trit.TheVariants.{X};
 ghost use Rattle.explanations.specs.declared.pins.Pin.TheVariants.{Free};
-ghost use Rattle.netlist.specs.Netlists.{count, IsNetlist};
+ghost use Rattle.netlist.specs.Netlists.{count};
 ghost use Rattle.refusals.specs.Refusals.{IsRefusalOf};
 ghost use Rattle.report.specs.Verdicts.{refusal_text};
 ghost use Rattle.report.specs.Explanations.{gates_line, needed_text, needed_column, needed_columns, values_line, side_text, side_of, all_sides, sides_line, cycle_lines, way_lines, way_text, explanation_text, IsExplanationOf};
@@ -50,11 +50,11 @@ fn put_needed_column<K: Sink>(
     needs: &[Trit],
     column: usize,
 ) -> Result<(), Failed>
-    requires valid { IsNetlist net.now }
     requires fits { length needs.now ≤ count net.now }
     requires column { column < length needs.now }
     ensures { IsAppended (needed_column net.now needs.now column) (sink_call K.put K.faults sink.old sink.new) result }
 {
+    net.laws();
     put_needed(
         sink,
         net.name_of(Sig(column as u32)),
@@ -63,7 +63,6 @@ fn put_needed_column<K: Sink>(
 }
 
 fn put_needed_columns<K: Sink>(sink: &mut K, net: &Netlist, needs: &[Trit]) -> Result<(), Failed>
-    requires valid { IsNetlist net.now }
     requires fits { length needs.now ≤ count net.now }
     ensures { IsAppended (needed_columns net.now needs.now) (sink_call K.put K.faults sink.old sink.new) result }
 {
@@ -80,7 +79,6 @@ fn put_values<K: Sink>(
     net: &Netlist,
     values: &[Trit],
 ) -> Result<(), Failed>
-    requires valid { IsNetlist net.now }
     requires fits { length values.now ≤ count net.now }
     ensures { IsAppended (values_line word.now net.now values.now) (sink_call K.put K.faults sink.old sink.new) result }
 {
@@ -114,11 +112,11 @@ fn put_side_of<K: Sink>(
     sides: &[Pin],
     signal: usize,
 ) -> Result<(), Failed>
-    requires valid { IsNetlist net.now }
     requires fits { length sides.now ≤ count net.now }
     requires signal { signal < length sides.now }
     ensures { IsAppended (side_of net.now sides.now signal) (sink_call K.put K.faults sink.old sink.new) result }
 {
+    net.laws();
     put_side(
         sink,
         net.name_of(Sig(signal as u32)),
@@ -127,7 +125,6 @@ fn put_side_of<K: Sink>(
 }
 
 fn put_sides<K: Sink>(sink: &mut K, net: &Netlist, sides: &[Pin]) -> Result<(), Failed>
-    requires valid { IsNetlist net.now }
     requires fits { length sides.now ≤ count net.now }
     ensures { IsAppended (all_sides net.now sides.now) (sink_call K.put K.faults sink.old sink.new) result }
 {
@@ -138,7 +135,6 @@ fn put_sides<K: Sink>(sink: &mut K, net: &Netlist, sides: &[Pin]) -> Result<(), 
 }
 
 fn put_sides_line<K: Sink>(sink: &mut K, net: &Netlist, sides: &[Pin]) -> Result<(), Failed>
-    requires valid { IsNetlist net.now }
     requires fits { length sides.now ≤ count net.now }
     ensures { IsAppended (sides_line net.now sides.now) (sink_call K.put K.faults sink.old sink.new) result }
 {
@@ -149,7 +145,6 @@ fn put_sides_line<K: Sink>(sink: &mut K, net: &Netlist, sides: &[Pin]) -> Result
 
 // The cycle, and what holds it open: the wires beside it, and the columns.
 fn put_cycle<K: Sink>(sink: &mut K, net: &Netlist, why: &Explanation) -> Result<(), Failed>
-    requires valid { IsNetlist net.now }
     requires why { IsExplanationOf net.now why.now }
     ensures { IsAppended (cycle_lines net.now why.now) (sink_call K.put K.faults sink.old sink.new) result }
 {
@@ -164,7 +159,6 @@ fn put_way_lines<K: Sink>(
     way: &[u32],
     also: &[Trit],
 ) -> Result<(), Failed>
-    requires valid { IsNetlist net.now }
     requires way { All (λ gate. gate < length net.now.gates) way.now }
     requires also { length also.now ≤ count net.now }
     ensures { IsAppended (way_lines net.now way.now also.now) (sink_call K.put K.faults sink.old sink.new) result }
@@ -176,7 +170,6 @@ fn put_way_lines<K: Sink>(
 // The way from the cycle, where there is one, and the further columns that hold it open.
 #[tactic(auto, using(cyc_io::proofs::TakenLemmas::appended_none))]
 fn put_way<K: Sink>(sink: &mut K, net: &Netlist, way: &[u32], also: &[Trit]) -> Result<(), Failed>
-    requires valid { IsNetlist net.now }
     requires way { All (λ gate. gate < length net.now.gates) way.now }
     requires also { length also.now ≤ count net.now }
     ensures { IsAppended (way_text net.now way.now also.now) (sink_call K.put K.faults sink.old sink.new) result }
@@ -189,7 +182,6 @@ fn put_way<K: Sink>(sink: &mut K, net: &Netlist, way: &[u32], also: &[Trit]) -> 
 
 // The cycle and what holds it open, and the way from it to the gate where it isn't on it.
 fn put_explanation<K: Sink>(net: &Netlist, why: &Explanation, sink: &mut K) -> Result<(), Failed>
-    requires valid { IsNetlist net.now }
     requires why { IsExplanationOf net.now why.now }
     ensures { IsAppended (explanation_text net.now why.now) (sink_call K.put K.faults sink.old sink.new) result }
 {
@@ -206,7 +198,6 @@ pub fn put_explained<K: Sink>(
     why: &Explanation,
     sink: &mut K,
 ) -> Result<(), Failed>
-    requires valid { IsNetlist net.now }
     requires refusal { IsRefusalOf net.now refusal.now }
     requires why { IsExplanationOf net.now why.now }
     ensures { IsAppended (refusal_text net.now refusal.now ++ explanation_text net.now why.now) (sink_call K.put K.faults sink.old sink.new) result }

@@ -2,7 +2,7 @@
 ghost use Rattle.std.specs.Prelude.{◌≡◌, ◌≤◌, ◌<◌, ◌+◌, ◌++◌, [], codes, length, Some};
 ghost use Rattle.cyc_io.specs.Bits.{bit_text};
 ghost use Rattle.cyc_io.specs.Taken.{IsAppended, sink_call};
-ghost use Rattle.netlist.specs.Netlists.{count, IsNetlist};
+ghost use Rattle.netlist.specs.Netlists.{count};
 ghost use Rattle.refusals.specs.Refusals.{IsStepTo, IsRefusalOf};
 ghost use Rattle.refusals.specs.declared.refusal.Refusal.TheVariants.{Leaves};
 ghost use Rattle.report.specs.Verdicts.{column_text, columns_text, last_columns, vector_text, refusal_text, open_text, accepted_text, rewritten_text, ring_line};
@@ -31,10 +31,10 @@ fn put_columns<K: Sink>(
     first: u32,
     values: &[bool],
 ) -> Result<(), Failed>
-    requires valid { IsNetlist net.now }
     requires fits { first + length values.now ≤ count net.now }
     ensures { IsAppended (columns_text net.now first values.now) (sink_call K.put K.faults sink.old sink.new) result }
 {
+    net.laws();
     for i in 0..values.len() {
         put_column(sink, net.name_of(Sig(first + i as u32)), values[i])?;
     }
@@ -48,7 +48,6 @@ fn put_last_columns<K: Sink>(
     first: u32,
     values: &[bool],
 ) -> Result<(), Failed>
-    requires valid { IsNetlist net.now }
     requires fits { first + length values.now ≤ count net.now }
     ensures { IsAppended (last_columns net.now first values.now) (sink_call K.put K.faults sink.old sink.new) result }
 {
@@ -57,7 +56,6 @@ fn put_last_columns<K: Sink>(
 }
 
 fn put_at<K: Sink>(sink: &mut K, net: &Netlist, vector: &[bool]) -> Result<(), Failed>
-    requires valid { IsNetlist net.now }
     requires fits { length vector.now ≤ count net.now }
     ensures { IsAppended (codes " at" ++ last_columns net.now 0 vector.now) (sink_call K.put K.faults sink.old sink.new) result }
 {
@@ -67,7 +65,6 @@ fn put_at<K: Sink>(sink: &mut K, net: &Netlist, vector: &[bool]) -> Result<(), F
 
 /// Appends a vector, where there is a column, and the end of the line. It takes no memory.
 pub fn put_vector<K: Sink>(sink: &mut K, net: &Netlist, vector: &[bool]) -> Result<(), Failed>
-    requires valid { IsNetlist net.now }
     requires fits { length vector.now ≤ count net.now }
     ensures { IsAppended (vector_text net.now vector.now) (sink_call K.put K.faults sink.old sink.new) result }
 {
@@ -91,7 +88,6 @@ fn put_undetermined<K: Sink>(
     vector: &[bool],
     wire: &Name,
 ) -> Result<(), Failed>
-    requires valid { IsNetlist net.now }
     requires fits { length vector.now ≤ count net.now }
     ensures { IsAppended ((codes "refused undetermined wire=" ++ wire.now) ++ vector_text net.now vector.now) (sink_call K.put K.faults sink.old sink.new) result }
 {

@@ -75,7 +75,7 @@ is_rewriting net care what other valid have accepts is other_valid small = recor
   };
 }
   where
-    fits : length other.latches + length other.gates ≤ 4000000
+    fits : length other.latches + length other.gates ≤ MAX_REWRITTEN_ITEMS
     fits = rw is (omega (arith, small, rewritten_has_its_size net care))
 
 -- ---- by blocks, a cut and counted sweeps

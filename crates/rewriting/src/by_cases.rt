@@ -11,9 +11,9 @@ ghost use Rattle.unroll.specs.Laws.{KeepsInterface};
 ghost use Rattle.rewriting.specs.Rewriting.{rewritten_size as size_of, IsCaseFault, IsCountedOnCare, IsLoopFreeForm};
 
 use crate::rewriting::rewrite;
-use crate::splitting::split_netlist;
 use bdd_ops::Diagrams;
 use care_sets::Care;
+use case_search::split_netlist;
 use loops::{LoopedNetlist, find_blocks, find_cut};
 use netlist::Netlist;
 use refusals::Observe;

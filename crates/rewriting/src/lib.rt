@@ -1,25 +1,18 @@
 //! The rewritten netlist of an accepted one: without loops, and the same to all that is seen from outside (Malik 1994;
 //! Edwards 2003).
 //!
-//! It stands on `unroll`, for the netlist that is made, on `schedules`, for sameness over all runs, on `blif_write`,
-//! for reading back, on `aig_core`, for its graph, on `case_split`, for the netlist split by cases, and on `clause_decision`,
-//! for what the care set rules out. The layer above uses
+//! It stands on `unroll`, for the netlist that is made, on `schedules`, for sameness over all runs, on `blif_write`, for
+//! reading back, on `aig_core`, for its graph, and on `case_search`, for the netlist split by cases. The layer above uses
 //! that `rewrite`, `rewrite_by_cases` and `graph` give all that a user has of the netlist (`IsRewriting`, `IsLoopFreeForm`)
 //! and of the graph (`IsGraphIn`), and that `rewritten_gates` counts its gates.
 #![tactic(auto)]
 
-mod asking;
 mod by_cases;
-mod cases_shown;
 mod covers;
 mod graphs;
 pub mod laws;
-mod picking;
-mod reducing;
-mod regions;
 mod rewriting;
 mod sizes;
-mod splitting;
 
 pub use aig_core::{AigFault, Built};
 pub use by_cases::rewrite_by_cases;

@@ -5,14 +5,14 @@ use Rattle.explanations.proofs.EndlessLemmas.{unknown_reaches}
 use Rattle.explanations.proofs.GraphLemmas.{explained, fix_size, found_unknown}
 use Rattle.explanations.proofs.explanation.explain.Goals as goal
 
-pub explained-requires-clause-gates : goal.explained-requires-clause-gates
-explained-requires-clause-gates c =
+pub explanation_of_cycle-requires-clause-gates : goal.explanation_of_cycle-requires-clause-gates
+explanation_of_cycle-requires-clause-gates c =
     let net = c.args.net.now in
     let v = c.args.vector.now in
     grind (arith, found_unknown net (fix net (bits v)) c.in_ok-graph.graph c.args.gate c.in-Some.found)
 
-pub explained-requires-clause-size : goal.explained-requires-clause-size
-explained-requires-clause-size c = grind (arith, fix_size c.args.net.now c.args.vector.now c.requires.width)
+pub explanation_of_cycle-requires-clause-size : goal.explanation_of_cycle-requires-clause-size
+explanation_of_cycle-requires-clause-size c = grind (arith, fix_size c.args.net.now c.args.vector.now c.requires.width)
 
 pub returns-in-Some-clause-found : goal.returns-in-Some-clause-found
 returns-in-Some-clause-found c =

@@ -6,8 +6,8 @@ use Rattle.explanations.specs.Held.{IsGreatestWithin}
 use Rattle.explanations.proofs.NeedLemmas.{less_unknown, less_holding, length-fix_of}
 use Rattle.explanations.proofs.needs.with_fewer.Goals as goal
 
-pub settled-requires-clause-width : goal.settled-requires-clause-width
-settled-requires-clause-width c =
+pub values_determined_by-requires-clause-width : goal.values_determined_by-requires-clause-width
+values_determined_by-requires-clause-width c =
     rw c.deref.ensures.value (EachBelow-length c.args.given.items c.args.holding.now.given.items c.requires.fewer ∙ c.requires.holding.width)
 
 pub greatest_part-requires-clause-before : goal.greatest_part-requires-clause-before

@@ -1,4 +1,5 @@
 use Rattle.std.proofs.Common.{◌≡◌, ◌≤◌, ◌+◌, length, sym, ap, ◌∙◌, arith}
+use Rattle.cyc_base.specs.declared.limits.TheConstants.{MAX_FLAT_ITEMS}
 use Rattle.flatten.proofs.Common.{lines_of, linked}
 use Rattle.flatten.specs.Alone.{own_lines, flat_alone}
 use Rattle.flatten.proofs.OwnLines.{few_own_lines, own_lines_printed, alone_fits}
@@ -14,7 +15,7 @@ same c = c.in_ok-lines.ensures ∙ ap own_lines (c.into_vec.ensures ∙ c.replac
 linked_alone : (c : In_ok-lines) → flat_alone c.args.limit c.args.model ≡ linked c.args.model (lines_of c.in_ok-lines.lines)
 linked_alone c = alone_fits c.args.limit c.args.model (omega (arith, c.if-items-limit.false, ap length c.items.ensures)) ∙ ap (linked c.args.model) (sym (same c))
 
-few : (c : In_ok-lines) → length c.in_ok-lines.lines.latches.items + length c.in_ok-lines.lines.gates.items ≤ 4000000
+few : (c : In_ok-lines) → length c.in_ok-lines.lines.latches.items + length c.in_ok-lines.lines.gates.items ≤ MAX_FLAT_ITEMS
 few c = grind (arith, same c, few_own_lines c.args.model.body)
 
 pub link-requires-clause-lines : goal.link-requires-clause-lines

@@ -1,6 +1,7 @@
 use Rattle.rewriting.specs.Rewriting.{IsLoopFreeForm}
-use Rattle.rewriting.proofs.CaseLemmas.{care_kept, form_through}
-use Rattle.rewriting.proofs.SplitLemmas.{small_weaker}
+use Rattle.case_search.proofs.KeptLemmas.{care_kept}
+use Rattle.case_search.proofs.SplitLemmas.{small_weaker}
+use Rattle.rewriting.proofs.CaseLemmas.{form_through}
 use Rattle.rewriting.proofs.by_cases.rewrite_in_cases.Goals as goal
 
 pub rewrite_split-requires-clause-care : goal.rewrite_split-requires-clause-care

@@ -1,7 +1,7 @@
 use Rattle.std.proofs.lemmas.Result.{IfOk-weaker}
 use Rattle.refusals.specs.declared.observe.Observe.TheVariants.{Outputs}
+use Rattle.case_search.proofs.SplitLemmas.{of_small}
 use Rattle.rewriting.specs.Rewriting.{IsLoopFreeForm}
-use Rattle.rewriting.proofs.SplitLemmas.{of_small}
 use Rattle.rewriting.proofs.by_cases.rewrite_looped.Goals as goal
 
 pub returns-in-Accepted-clause-form : goal.returns-in-Accepted-clause-form

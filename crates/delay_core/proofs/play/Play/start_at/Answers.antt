@@ -5,8 +5,8 @@ use Rattle.delay_core.proofs.PlayLemmas.{opens}
 use Rattle.delay_core.proofs.ReadingLemmas.{starts-none}
 use Rattle.delay_core.proofs.play.Play.start_at.Goals as goal
 
-pub opened-requires : goal.opened-requires
-opened-requires c = grind arith
+pub opening_timeline-requires : goal.opening_timeline-requires
+opening_timeline-requires c = grind arith
 
 pub invariant_of-result : goal.invariant_of-result
 invariant_of-result c =

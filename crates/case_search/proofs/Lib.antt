@@ -1,0 +1,3 @@
+pub mod KeptLemmas
+mod ShownLemmas
+pub mod SplitLemmas

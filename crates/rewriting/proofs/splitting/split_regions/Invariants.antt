@@ -1,6 +1,0 @@
-use Rattle.std.specs.Prelude.{IfSome}
-use Rattle.rewriting.specs.Splits.{IsSplitOf}
-use Rattle.rewriting.proofs.splitting.split_regions.Given as goal
-
-abbrev pub invariant-loop-region : goal.invariant-loop-region
-invariant-loop-region l = IfSome l.made (IsSplitOf l.net l.care)
