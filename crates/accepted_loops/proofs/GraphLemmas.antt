@@ -1,7 +1,8 @@
 -- The graph of loops.
-use Rattle.std.proofs.Common.{◌≡◌, ◌<◌, ◌≤◌, ℕ, Bool, List, ◌++◌, length, ap, ◌∙◌, append_assoc, arith}
+use Rattle.std.proofs.Common.{◌≡◌, ◌<◌, ◌≤◌, ℕ, Bool, List, ◌++◌, length, ap, ap₂, ◌∙◌, append_assoc, arith}
 use Rattle.std.proofs.lemmas.Bool.{lt-ltb}
 use Rattle.accepted_loops.proofs.Common.{CareSet, loops_of, gate_numbers, loop_of, begins_with, Parts, sweeps_needed, counts_are_needed, Counted, counted_sweeps, IsCounted, IsCountedOnCare, if◌then◌else◌, short_cluster, told_cluster, whole_cluster}
+use Rattle.loops.specs.Looped.{Looped}
 use Rattle.accepted_loops.specs.Graphs.{told_clusters}
 use Rattle.accepted_loops.proofs.LineLemmas.{begun-passes, numbered-alike}
 
@@ -13,6 +14,14 @@ three_told old one two new front middle back first second third =
     ∙ ap (λ (text : List ℕ). text ++ back) (second ∙ ap (λ (text : List ℕ). text ++ middle) first)
     ∙ append_assoc (old ++ front) middle back
     ∙ append_assoc old front (middle ++ back)
+
+-- a cluster, by what its parts are
+pub cluster_told : (cluster : Looped → List ℕ → List ℕ → List ℕ) (old new : List ℕ) (given looped : Looped) (label text gates of_loop : List ℕ)
+    → new ≡ old ++ cluster given label gates → given ≡ looped → label ≡ text → gates ≡ of_loop → new ≡ old ++ cluster looped text of_loop
+cluster_told cluster old new given looped label text gates of_loop told netlist texts same =
+    told
+    ∙ ap (λ (l : Looped). old ++ cluster l label gates) netlist
+    ∙ ap₂ (λ (t g : List ℕ). old ++ cluster looped t g) texts same
 
 -- the sweeps that are needed
 pub drawn_on_care : (counted : Counted) (care : CareSet) → IsCounted counted → IsCountedOnCare counted care

@@ -1,11 +1,10 @@
 -- The lines of loops, one after another.
-use Rattle.std.proofs.Common.{◌≡◌, ◌<◌, ℕ, ◌+◌, Bool, true, false, cond, List, [], ◌∷◌, ◌++◌, length, filter, refl, sym, ap, ap₂, ◌∙◌, arith, append_assoc, true≢false}
+use Rattle.std.proofs.Common.{◌≡◌, ℕ, ◌+◌, Bool, true, false, cond, List, [], ◌∷◌, ◌++◌, length, filter, refl, sym, ap, ap₂, ◌∙◌, arith, append_assoc, true≢false}
 use Rattle.accepted_loops.proofs.Common.{eqb-true, Parts, loops_of, gate_numbers, loop_of, begins_with, first_gate, CareSet, is_marked, loops_left, loop_lines, told_first, sweeps_needed, counts_are_needed, Counted, counted_sweeps, IsCounted, IsCountedOnCare, columns_read, is_read, marked_columns, AreColumnsRead, sweeps_line, columns_line, told_lines}
-use Rattle.loops.specs.Listed.{first_gates}
 use Rattle.std.specs.Iterator.{Yields, YieldsFirstBy}
 use Rattle.std.specs.Prelude.{Some}
 use Rattle.loops.specs.Left.{loop_seen}
-use Rattle.loops.specs.Numbered.{listed_loops, numbered}
+use Rattle.loops.specs.Numbered.{listed_loops}
 use Rattle.loops.specs.declared.loop_list.ListedLoop.{ListedLoop}
 use Rattle.loops.specs.declared.loop_list.LoopList.{LoopList}
 use Rattle.loops.proofs.ListedLemmas.{kept_below}

@@ -1,5 +1,6 @@
 -- The text of a graph is read as its circuit.
 use Rattle.std.proofs.Common.{◌≡◌, ℕ, zero, suc, ◌+◌, ◌-◌, ◌*◌, ◌%◌, ◌^◌, ◌<◌, ◌≤◌, Bool, true, false, ◌==◌, ◌&&◌, nat_le, List, [], ◌∷◌, ◌++◌, length, map, All, Some, option_map, option_and_then, slice_get, get_or, map-id, eq-eqb, ne_eqb, le-leb, lt-ltb, refl, ap, ap₂, sym, ◌∙◌, subst, append_assoc, append-nil, arith}
+use Rattle.aig_core.specs.declared.aig.TheConstants.{MAX_ANDS, MAX_COLUMNS}
 use Rattle.aig_core.proofs.Common.{codes, decimal, flat_map, enumerate_from, range_with_len, And, Latch, edge, input_line, latch_line, output_line, and_line, load_line, and_groups, symbol_line, name_of, length-map}
 use Rattle.std.specs.List.{slice_split}
 use Rattle.std.proofs.lemmas.Bool.{and_from}
@@ -155,12 +156,12 @@ pub record IsBounded (net : Parts) (built : Built) : Type 0 where
   pub valid : IsNetlist net
   pub fits : FitsNetlist net built
   pub sound : IsSound built.aig
-  pub columns : built.aig.inputs + built.aig.latches ≤ 1000000000
-  pub ands : length built.aig.ands ≤ 4000000
+  pub columns : built.aig.inputs + built.aig.latches ≤ MAX_COLUMNS
+  pub ands : length built.aig.ands ≤ MAX_ANDS
   pub outputs : length net.outputs ≤ 4294967295
 
 pub bounded : (net : Parts) (built : Built) (ands : ℕ) → IsNetlist net → FitsNetlist net built → IsSound built.aig
-    → built.aig.inputs + built.aig.latches ≤ 1000000000 → ands ≡ length built.aig.ands → ands ≤ 4000000 → IsBounded net built
+    → built.aig.inputs + built.aig.latches ≤ MAX_COLUMNS → ands ≡ length built.aig.ands → ands ≤ MAX_ANDS → IsBounded net built
 bounded net built ands valid fits sound columns count few = record {
   valid = valid;
   fits = fits;

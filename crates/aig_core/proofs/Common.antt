@@ -13,7 +13,7 @@ unfoldable pub use Rattle.aig_core.specs.Graphs.{den}
 pub use Rattle.aig_core.specs.Soundness.{Extends, IsSound, IsVector}
 pub use Rattle.aig_core.specs.Tasks.{AreWithin, HasMarks, finished, node_of, visit}
 pub use Rattle.aig_core.specs.Text.{and_groups, and_line, input_line, latch_line, load_line, output_line, symbol_line}
-pub use Rattle.aig_core.specs.declared.depth.Task.{Task}
+pub use Rattle.aig_core.specs.declared.depth.NodeTask.{NodeTask}
 pub use Rattle.aig_core.specs.declared.edge.And.{And}
 pub use Rattle.aig_core.specs.declared.edge.Edge.{Edge}
 pub use Rattle.components.specs.Graphs.{successors}

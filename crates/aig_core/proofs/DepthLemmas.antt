@@ -1,6 +1,6 @@
 -- In a graph without a loop a depth-first search needs no bound on its depth, and tasks lead to the same list.
 use Rattle.std.proofs.Common.{◌≡◌, ◌≢◌, ℕ, zero, suc, ◌+◌, ◌<◌, ◌≤◌, ◌||◌, Bool, true, false, List, [], ◌∷◌, ◌++◌, length, get_or, set, take, map, reverse, fold, All, refl, sym, ap, ap₂, ◌∙◌, arith}
-use Rattle.aig_core.proofs.Common.{nat_eq, list_any, eq-eqb, append_assoc, fold-append, list_any-append, All-head, All-tail, successors, Task, HasRanks, visit, node_of, AreWithin, finished, HasMarks}
+use Rattle.aig_core.proofs.Common.{nat_eq, list_any, eq-eqb, append_assoc, fold-append, list_any-append, All-head, All-tail, successors, NodeTask, HasRanks, visit, node_of, AreWithin, finished, HasMarks}
 use Rattle.std.specs.List.{sum_by}
 use Rattle.std.proofs.lemmas.Bool.{cases_eq, ne_eqb, or_right}
 use Rattle.std.proofs.lemmas.List.{reverse-append, reverse-reverse, map-append, get_or-set_same, get_or-set_other, length-set, map_more}
@@ -8,7 +8,7 @@ use Rattle.std.proofs.lemmas.List.Sums.{sum_by-cons, sum_by-append, sum_by_push}
 use Rattle.std.proofs.lemmas.List.Folds.{fold-map}
 use Rattle.std.proofs.lemmas.List.Elements.{All-append, All-push, All-map, Contains-get_or}
 use Rattle.cyc_base.proofs.TruthLemmas.{or-false}
-use Rattle.aig_core.specs.declared.depth.Task.TheVariants.{Visit, Place}
+use Rattle.aig_core.specs.declared.depth.NodeTask.TheVariants.{Visit, Place}
 use Rattle.aig_core.specs.Depth.{placed}
 use Rattle.aig_core.specs.Tasks.{done, weight, task_weight, tasks_left, Advances}
 
@@ -80,24 +80,24 @@ weight-positive graph g n = grind arith
 
 -- ---- tasks
 
-pub finished_push : (graph : List (List ℕ)) (before : List ℕ) (tasks : List Task) (task : Task) → finished graph before (tasks ++ task ∷ []) ≡ finished graph (done graph before task) tasks
+pub finished_push : (graph : List (List ℕ)) (before : List ℕ) (tasks : List NodeTask) (task : NodeTask) → finished graph before (tasks ++ task ∷ []) ≡ finished graph (done graph before task) tasks
 finished_push graph before tasks task = ap (fold (done graph) before) (reverse-append tasks (task ∷ []))
 
-pub tasks_push : (graph : List (List ℕ)) (tasks : List Task) (task : Task) → tasks_left graph (tasks ++ task ∷ []) ≡ tasks_left graph tasks + task_weight graph task
+pub tasks_push : (graph : List (List ℕ)) (tasks : List NodeTask) (task : NodeTask) → tasks_left graph (tasks ++ task ∷ []) ≡ tasks_left graph tasks + task_weight graph task
 tasks_push graph tasks task = sum_by_push (task_weight graph) tasks task
 
 visits : (graph : List (List ℕ)) (before nodes : List ℕ) → fold (done graph) before (map visit nodes) ≡ fold (placed graph (length graph)) before nodes
 visits graph before nodes = fold-map (done graph) visit before nodes
 
-pub finished_visits : (graph : List (List ℕ)) (before : List ℕ) (tasks : List Task) (nodes : List ℕ) → finished graph before (tasks ++ map visit (reverse nodes)) ≡ finished graph (fold (placed graph (length graph)) before nodes) tasks
+pub finished_visits : (graph : List (List ℕ)) (before : List ℕ) (tasks : List NodeTask) (nodes : List ℕ) → finished graph before (tasks ++ map visit (reverse nodes)) ≡ finished graph (fold (placed graph (length graph)) before nodes) tasks
 finished_visits graph before tasks nodes =
     grind (arith, reverse-append tasks (map visit (reverse nodes)), map-reverse visit (reverse nodes), reverse-reverse nodes, fold-append (done graph) before (map visit nodes) (reverse tasks), visits graph before nodes)
 
-visits_left : (graph : List (List ℕ)) (tasks : List Task) (nodes : List ℕ) → tasks_left graph (tasks ++ map visit (reverse nodes)) ≡ tasks_left graph tasks + sum_by (weight graph (length graph)) nodes
+visits_left : (graph : List (List ℕ)) (tasks : List NodeTask) (nodes : List ℕ) → tasks_left graph (tasks ++ map visit (reverse nodes)) ≡ tasks_left graph tasks + sum_by (weight graph (length graph)) nodes
 visits_left graph tasks nodes = grind (arith, fold-map, sum_by-reverse (weight graph (length graph)) nodes, sum_by-append (task_weight graph) tasks (map visit (reverse nodes)))
 
 -- one more visit, as a loop adds it
-pub visits_more : (old tasks : List Task) (nodes : List ℕ) (k n : ℕ) → k < length nodes → n ≡ get_or nodes k n → tasks ≡ old ++ map visit (take k nodes) → tasks ++ Visit n ∷ [] ≡ old ++ map visit (take (k + 1) nodes)
+pub visits_more : (old tasks : List NodeTask) (nodes : List ℕ) (k n : ℕ) → k < length nodes → n ≡ get_or nodes k n → tasks ≡ old ++ map visit (take k nodes) → tasks ++ Visit n ∷ [] ≡ old ++ map visit (take (k + 1) nodes)
 visits_more old tasks nodes k n l is e = grind (arith, append_assoc old (map visit (take k nodes)) (visit (get_or nodes k n) ∷ []), map_more visit nodes k n l)
 
 reversed_within : (count : ℕ) (nodes : List ℕ) → All (λ n. n < count) nodes → All (λ n. n < count) (reverse nodes)
@@ -106,17 +106,17 @@ reversed_within count (x ∷ xs) h =
     rw (reverse-append (x ∷ []) xs)
     (All-push (λ n. n < count) (reverse xs) x (reversed_within count xs (All-tail (λ n. n < count) x xs h)) (All-head (λ n. n < count) x xs h))
 
-pub visits_within : (count : ℕ) (tasks : List Task) (nodes : List ℕ) → AreWithin count tasks → All (λ n. n < count) nodes → AreWithin count (tasks ++ map visit (reverse nodes))
+pub visits_within : (count : ℕ) (tasks : List NodeTask) (nodes : List ℕ) → AreWithin count tasks → All (λ n. n < count) nodes → AreWithin count (tasks ++ map visit (reverse nodes))
 visits_within count tasks nodes h k =
-    All-append (λ (t : Task). node_of t < count) tasks (map visit (reverse nodes)) h
-    (All-map (λ (t : Task). node_of t < count) visit (reverse nodes) (reversed_within count nodes k))
+    All-append (λ (t : NodeTask). node_of t < count) tasks (map visit (reverse nodes)) h
+    (All-map (λ (t : NodeTask). node_of t < count) visit (reverse nodes) (reversed_within count nodes k))
 
 -- a node that is visited again
-pub pass_advances : (graph : List (List ℕ)) (before : List ℕ) (tasks : List Task) (n : ℕ) → AreWithin (length graph) tasks → list_any (nat_eq n) before ≡ true → Advances graph before before (tasks ++ Visit n ∷ []) tasks
+pub pass_advances : (graph : List (List ℕ)) (before : List ℕ) (tasks : List NodeTask) (n : ℕ) → AreWithin (length graph) tasks → list_any (nat_eq n) before ≡ true → Advances graph before before (tasks ++ Visit n ∷ []) tasks
 pass_advances graph before tasks n within there = grind (arith, finished_push graph before tasks (Visit n), placed-there graph (length graph) before n there, tasks_push graph tasks (Visit n), weight-positive graph (length graph) n)
 
 -- a node that is visited first
-pub open_advances : (graph : List (List ℕ)) → HasRanks graph → (before : List ℕ) (tasks : List Task) (n : ℕ) → AreWithin (length graph) tasks → n < length graph → list_any (nat_eq n) before ≡ false → Advances graph before before (tasks ++ Visit n ∷ []) ((tasks ++ Place n ∷ []) ++ map visit (reverse (successors graph n)))
+pub open_advances : (graph : List (List ℕ)) → HasRanks graph → (before : List ℕ) (tasks : List NodeTask) (n : ℕ) → AreWithin (length graph) tasks → n < length graph → list_any (nat_eq n) before ≡ false → Advances graph before before (tasks ++ Visit n ∷ []) ((tasks ++ Place n ∷ []) ++ map visit (reverse (successors graph n)))
 open_advances graph ranks before tasks n within l new = record {
   end =
       finished_visits graph before (tasks ++ Place n ∷ []) (successors graph n)
@@ -125,7 +125,7 @@ open_advances graph ranks before tasks n within l new = record {
   less =
       let visited = visits_left graph (tasks ++ Place n ∷ []) (successors graph n) in
       omega (arith, visited, tasks_push graph tasks (Place n), tasks_push graph tasks (Visit n), weight-new graph ranks n l);
-  within = visits_within (length graph) (tasks ++ Place n ∷ []) (successors graph n) (All-push (λ (t : Task). node_of t < length graph) tasks (Place n) within l) (ranks.nodes n l);
+  within = visits_within (length graph) (tasks ++ Place n ∷ []) (successors graph n) (All-push (λ (t : NodeTask). node_of t < length graph) tasks (Place n) within l) (ranks.nodes n l);
 }
 
 -- ---- marks

@@ -1,5 +1,6 @@
 -- What calls answer, and what the answer means.
 use Rattle.std.specs.Prelude.{◌≡◌, ◌<◌, Bool, List, length, map, All, Result, Ok, Err}
+use Rattle.aig_core.specs.declared.aig.TheConstants.{MAX_ANDS}
 use Rattle.cyc_base.specs.Values.{bits}
 use Rattle.netlist.specs.declared.parts.Parts.{Parts}
 use Rattle.netlist.specs.Fixpoint.{outs, next}
@@ -14,7 +15,7 @@ use Rattle.aig_core.specs.Building.{columns, Building, built}
 
 -- `TooLarge` comes only where there are over 4,000,000 ANDs
 abbrev pub IsFault : Graph → AigFault → Type 0
-IsFault g TooLarge = 4000000 < length g.ands
+IsFault g TooLarge = MAX_ANDS < length g.ands
 IsFault g Memory = Unit {0}
 
 -- the edge and the graph are those that the definition makes, or it makes too many ANDs, or memory ran out
@@ -50,5 +51,5 @@ Builds (Err fault) g edges b = IsFault b.graph fault
 
 -- `TooLarge` comes only for a netlist without loops whose graph has over 4,000,000 ANDs
 abbrev pub IsRefusal : Parts → AigFault → Type 0
-IsRefusal net TooLarge = IsLoopFree net × (4000000 < length (built net).aig.ands)
+IsRefusal net TooLarge = IsLoopFree net × (MAX_ANDS < length (built net).aig.ands)
 IsRefusal net Memory = Unit {0}

@@ -12,7 +12,10 @@ use std::alloc::{AllocError, Global};
 use std::marker::Model;
 
 /// The most ANDs of a graph.
-const MAX_ANDS: usize = 4_000_000;
+pub const MAX_ANDS: usize = 4_000_000;
+
+/// The most inputs and latches of a graph, counted together.
+pub const MAX_COLUMNS: u32 = 1_000_000_000;
 
 /// The edge that is the conjunction of two, where none has to be made.
 fn simple_and(a: Edge, b: Edge) -> Option<Edge>
@@ -45,11 +48,11 @@ fn pair_of(a: Edge, b: Edge) -> And
 
 /// The place of an AND, which goes last where it is new.
 fn enter(ands: &mut IndexSet<And>, and: And) -> Result<u32, AigFault>
-    requires { length ands.old.keys ≤ 4000000 }
+    requires { length ands.old.keys ≤ MAX_ANDS }
     ensures place { IfOk result (λ place. place ≡ position_or_len (same_pair and) ands.old.keys) }
     ensures entered { OnOk result (ands.new.keys ≡ entered ands.old.keys and) }
-    ensures room { length ands.new.keys ≤ 4000000 }
-    ensures too_large { (result ≡ Err AigFault.TooLarge) ↔ ((list_any (same_pair and) ands.old.keys ≡ false) × (length ands.old.keys ≡ 4000000)) }
+    ensures room { length ands.new.keys ≤ MAX_ANDS }
+    ensures too_large { (result ≡ Err AigFault.TooLarge) ↔ ((list_any (same_pair and) ands.old.keys ≡ false) × (length ands.old.keys ≡ MAX_ANDS)) }
     ensures unchanged { OnErr result (ands.new.keys ≡ ands.old.keys) }
 {
     if ands.len() < MAX_ANDS {
@@ -83,6 +86,7 @@ impl Drop for Aig {
 
 impl Model for Aig {
     ghost use Rattle.std.specs.Prelude.{◌+◌, ◌≤◌, length};
+    ghost use Rattle.aig_core.specs.declared.aig.TheConstants.{MAX_ANDS, MAX_COLUMNS};
     ghost use Rattle.aig_core.specs.Graphs.{Graph};
     ghost use Rattle.aig_core.specs.Soundness.{IsSound};
 
@@ -90,13 +94,13 @@ impl Model for Aig {
 
     ghost view = { λ g. record { inputs = g.inputs; latches = g.latches; ands = g.ands.keys } };
 
-    ghost invariant = { λ g. (g.inputs + g.latches ≤ 1000000000) × (length g.ands.keys ≤ 4000000) × IsSound (record { inputs = g.inputs; latches = g.latches; ands = g.ands.keys }) };
+    ghost invariant = { λ g. (g.inputs + g.latches ≤ MAX_COLUMNS) × (length g.ands.keys ≤ MAX_ANDS) × IsSound (record { inputs = g.inputs; latches = g.latches; ands = g.ands.keys }) };
 }
 
 impl Aig {
     /// The graph of so many inputs and latches, at most 1,000,000,000 together, without ANDs.
     pub fn new(alloc: Global, inputs: u32, latches: u32) -> Result<Aig, AllocError>
-        requires { inputs + latches ≤ 1000000000 }
+        requires { inputs + latches ≤ MAX_COLUMNS }
         ensures { IfOk result (λ g. g ≡ empty inputs latches) }
     {
         Ok(Aig {
@@ -109,7 +113,7 @@ impl Aig {
     /// How many inputs there are.
     pub fn inputs(&self) -> u32
         ensures inputs { result ≡ self.now.inputs }
-        ensures columns { self.now.inputs + self.now.latches ≤ 1000000000 }
+        ensures columns { self.now.inputs + self.now.latches ≤ MAX_COLUMNS }
     {
         self.inputs
     }
@@ -117,7 +121,7 @@ impl Aig {
     /// How many latches there are.
     pub fn latches(&self) -> u32
         ensures latches { result ≡ self.now.latches }
-        ensures columns { self.now.inputs + self.now.latches ≤ 1000000000 }
+        ensures columns { self.now.inputs + self.now.latches ≤ MAX_COLUMNS }
     {
         self.latches
     }
@@ -125,7 +129,7 @@ impl Aig {
     /// How many ANDs there are.
     pub fn count(&self) -> u32
         ensures count { result ≡ length self.now.ands }
-        ensures within { result ≤ 4000000 }
+        ensures within { result ≤ MAX_ANDS }
     {
         self.ands.len() as u32
     }
@@ -159,7 +163,7 @@ impl Aig {
         ensures edge { IfOk result (IsEdge self.new) }
         ensures value { IfOk result (λ e. (v : List Bool) → IsVector self.old v → den self.new e v ≡ (den self.old a v && den self.old b v)) }
         ensures extends { Extends self.old self.new }
-        ensures too_large { (result ≡ Err AigFault.TooLarge) ↔ (NeedsAnd self.old a b × (length self.old.ands ≡ 4000000)) }
+        ensures too_large { (result ≡ Err AigFault.TooLarge) ↔ (NeedsAnd self.old a b × (length self.old.ands ≡ MAX_ANDS)) }
         ensures unchanged { OnErr result (self.new ≡ self.old) }
     {
         if let Some(edge) = simple_and(a, b) {
@@ -177,7 +181,7 @@ impl Aig {
         ensures edge { IfOk result (IsEdge self.new) }
         ensures value { IfOk result (λ e. (v : List Bool) → IsVector self.old v → den self.new e v ≡ (den self.old a v || den self.old b v)) }
         ensures extends { Extends self.old self.new }
-        ensures too_large { (result ≡ Err AigFault.TooLarge) ↔ (NeedsAnd self.old (complement a) (complement b) × (length self.old.ands ≡ 4000000)) }
+        ensures too_large { (result ≡ Err AigFault.TooLarge) ↔ (NeedsAnd self.old (complement a) (complement b) × (length self.old.ands ≡ MAX_ANDS)) }
         ensures unchanged { OnErr result (self.new ≡ self.old) }
     {
         let none = self.and(a.complement(), b.complement())?;

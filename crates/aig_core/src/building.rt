@@ -6,7 +6,7 @@ ghost use Rattle.aig_core.specs.Graphs.{edge, empty, IsEdge};
 ghost use Rattle.aig_core.specs.Building.{columns, needed_signals, build_order as build_order_of, signal_edge as signal_edge_of, with_gate, building, built_from, built};
 ghost use Rattle.aig_core.specs.Answers.{IsFault, IsRefusal, HasEdges, Builds, HasValues, FitsNetlist};
 
-use crate::aig::Aig;
+use crate::aig::{Aig, MAX_ANDS, MAX_COLUMNS};
 use crate::covers::cover_edge;
 use crate::depth::postorder;
 use crate::edge::Edge;
@@ -87,7 +87,7 @@ fn build_order(
 fn signal_edge(net: &Netlist, edges: &[Edge], signal: Sig) -> Edge
     requires signal { IsSignal net.now signal }
     requires width { length edges.now ≡ length net.now.gates }
-    requires columns { columns net.now ≤ 1000000000 }
+    requires columns { columns net.now ≤ MAX_COLUMNS }
     ensures { result ≡ signal_edge_of net.now edges.now signal }
 {
     match net.driver(signal) {
@@ -104,7 +104,7 @@ fn signal_edges(
 ) -> Result<Vec<Edge>, AllocError>
     requires signals { All (IsSignal net.now) signals.now }
     requires width { length edges.now ≡ length net.now.gates }
-    requires columns { columns net.now ≤ 1000000000 }
+    requires columns { columns net.now ≤ MAX_COLUMNS }
     ensures { IfOk result (λ found. found.items ≡ map (signal_edge_of net.now edges.now) signals.now) }
 {
     let mut found = Vec::with_capacity(alloc, signals.len())?;
@@ -123,7 +123,7 @@ fn add_gate(
     number: u32,
 ) -> Result<(), AigFault>
     requires gate { number < length net.now.gates }
-    requires columns { columns net.now ≤ 1000000000 }
+    requires columns { columns net.now ≤ MAX_COLUMNS }
     requires has { HasEdges net.now aig.old edges.old }
     ensures builds { Builds result aig.new edges.new (with_gate net.now (record { graph = aig.old; edges = edges.old }) number) }
     ensures has { OnOk result (HasEdges net.now aig.new edges.new) }
@@ -143,7 +143,7 @@ fn add_gates(
     edges: &mut [Edge],
 ) -> Result<(), AigFault>
     requires gates { All (λ n. n < length net.now.gates) gates.now }
-    requires columns { columns net.now ≤ 1000000000 }
+    requires columns { columns net.now ≤ MAX_COLUMNS }
     requires graph { aig.old ≡ empty (length net.now.inputs) (length net.now.latches) }
     requires edges { edges.old ≡ replicate (length net.now.gates) (edge 0) }
     ensures builds { Builds result aig.new edges.new (building net.now gates.now) }
@@ -163,7 +163,7 @@ fn gate_edges(
     aig: &mut Aig,
 ) -> Result<Vec<Edge>, AigFault>
     requires gates { All (λ n. n < length net.now.gates) gates.now }
-    requires columns { columns net.now ≤ 1000000000 }
+    requires columns { columns net.now ≤ MAX_COLUMNS }
     requires graph { aig.old ≡ empty (length net.now.inputs) (length net.now.latches) }
     ensures builds { IfOk result (λ edges. (aig.new ≡ (building net.now gates.now).graph) × (edges.items ≡ (building net.now gates.now).edges)) }
     ensures fault { IfErr result (IsFault (building net.now gates.now).graph) }
@@ -184,7 +184,7 @@ fn with_ends(
 ) -> Result<Built, AllocError>
     requires sources { sources.now ≡ map (λ latch. latch.from) net.now.latches }
     requires width { length edges.now ≡ length net.now.gates }
-    requires columns { columns net.now ≤ 1000000000 }
+    requires columns { columns net.now ≤ MAX_COLUMNS }
     ensures { IfOk result (λ b. b ≡ built_from net.now (record { graph = aig; edges = edges.now })) }
 {
     let outputs = Items::of(signal_edges(alloc, net, edges, net.outputs())?);
@@ -205,7 +205,7 @@ fn build_gates(
 ) -> Result<Built, AigFault>
     requires sources { sources.now ≡ map (λ latch. latch.from) net.now.latches }
     requires gates { All (λ n. n < length net.now.gates) gates.now }
-    requires columns { columns net.now ≤ 1000000000 }
+    requires columns { columns net.now ≤ MAX_COLUMNS }
     ensures built { IfOk result (λ b. b ≡ built_from net.now (building net.now gates.now)) }
     ensures fault { IfErr result (IsFault (building net.now gates.now).graph) }
 {
@@ -217,7 +217,7 @@ fn build_gates(
 /// The graph of a netlist of which `order` shows that it has no loop.
 fn build_in_order(alloc: Global, net: &Netlist, order: &[u32]) -> Result<Built, AigFault>
     requires order { IsGateOrder net.now order.now }
-    requires columns { columns net.now ≤ 1000000000 }
+    requires columns { columns net.now ≤ MAX_COLUMNS }
     ensures built { IfOk result (λ b. b ≡ built net.now) }
     ensures fault { IfErr result (IsFault (built net.now).aig) }
 {
@@ -232,7 +232,7 @@ fn build_in_order(alloc: Global, net: &Netlist, order: &[u32]) -> Result<Built, 
 ///
 /// `TooLarge` comes exactly where the graph has over 4,000,000 ANDs.
 pub fn build(alloc: Global, net: &Netlist) -> Result<Option<Built>, AigFault>
-    requires { columns net.now ≤ 1000000000 }
+    requires { columns net.now ≤ MAX_COLUMNS }
     ensures built { IfOk result (λ found. IfSome found (λ b. b ≡ built net.now)) }
     ensures loop_free { IfOk result (λ found. OnSome found (IsLoopFree net.now)) }
     ensures has_loop { IfOk result (λ found. IfNone found (HasLoop net.now)) }
@@ -240,7 +240,7 @@ pub fn build(alloc: Global, net: &Netlist) -> Result<Option<Built>, AigFault>
 
     // It has at most 4,000,000 ANDs, its edges are the graph's, and at each Boolean vector they have the values of the
     // netlist's fixpoint.
-    ensures few { IfOk result (λ found. IfSome found (λ b. length b.aig.ands ≤ 4000000)) }
+    ensures few { IfOk result (λ found. IfSome found (λ b. length b.aig.ands ≤ MAX_ANDS)) }
     ensures fits { IfOk result (λ found. IfSome found (FitsNetlist net.now)) }
     ensures values { IfOk result (λ found. IfSome found (HasValues net.now)) }
 {

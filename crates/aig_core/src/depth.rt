@@ -9,7 +9,7 @@ use std::alloc::{AllocError, Global};
 
 /// What is left to do with a node: to visit it, or to place it behind the nodes that it needs.
 #[derive(Clone, Copy)]
-pub(crate) enum Task {
+pub(crate) enum NodeTask {
     Visit(u32),
     Place(u32),
 }
@@ -61,11 +61,11 @@ fn place(placed: &mut Placed, node: u32) -> Result<(), AllocError>
 }
 
 /// Adds visits to these nodes, the first of which is taken first.
-fn add_visits(tasks: &mut Vec<Task>, nodes: &[u32]) -> Result<(), AllocError>
+fn add_visits(tasks: &mut Vec<NodeTask>, nodes: &[u32]) -> Result<(), AllocError>
     ensures { OnOk result (tasks.new.items ≡ tasks.old.items ++ map visit (reverse nodes.now)) }
 {
     for node in nodes.iter().rev() {
-        tasks.push(Task::Visit(*node))?;
+        tasks.push(NodeTask::Visit(*node))?;
     }
     Ok(())
 }
@@ -74,8 +74,8 @@ fn add_visits(tasks: &mut Vec<Task>, nodes: &[u32]) -> Result<(), AllocError>
 fn step(
     graph: &Graph,
     placed: &mut Placed,
-    tasks: &mut Vec<Task>,
-    task: Task,
+    tasks: &mut Vec<NodeTask>,
+    task: NodeTask,
 ) -> Result<(), AllocError>
     requires ranks { HasRanks graph.now }
     requires task { node_of task < length graph.now }
@@ -87,12 +87,12 @@ fn step(
     ensures width { length placed.new.marks.items ≡ length placed.old.marks.items }
 {
     match task {
-        Task::Place(node) => place(placed, node),
-        Task::Visit(node) => {
+        NodeTask::Place(node) => place(placed, node),
+        NodeTask::Visit(node) => {
             if placed.marks[node as usize] {
                 return Ok(());
             }
-            tasks.push(Task::Place(node))?;
+            tasks.push(NodeTask::Place(node))?;
             add_visits(tasks, graph.successors(node))
         }
     }

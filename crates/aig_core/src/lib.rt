@@ -22,7 +22,7 @@ mod lines;
 mod symbols;
 mod text;
 
-pub use aig::Aig;
+pub use aig::{Aig, MAX_ANDS, MAX_COLUMNS};
 pub use building::{Built, build};
 pub use edge::{And, Edge};
 pub use fault::AigFault;

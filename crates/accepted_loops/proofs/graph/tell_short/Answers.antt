@@ -1,5 +1,6 @@
-use Rattle.std.proofs.Common.{◌++◌, ◌∙◌, List, ℕ, ap₂}
-use Rattle.accepted_loops.proofs.Common.{IfOk-weaker, text_bytes, cut_cluster, loops_of}
+use Rattle.std.proofs.Common.{◌∙◌}
+use Rattle.accepted_loops.proofs.Common.{IfOk-weaker, cut_cluster, loops_of}
+use Rattle.accepted_loops.proofs.GraphLemmas.{cluster_told}
 use Rattle.loops.proofs.ListedLemmas.{loop_gates_inside}
 use Rattle.accepted_loops.proofs.graph.tell_short.Goals as goal
 
@@ -9,7 +10,6 @@ tell_cuts-requires c = rw (c.looped.ensures.looped, c.requires.gates) (loop_gate
 pub returns : goal.returns
 returns c =
     IfOk-weaker c.tell_cuts.result _ _ (λ done told.
-    told
-    ∙ ap₂ (λ (text gates : List ℕ). text_bytes c.args.sink.now ++ cut_cluster c.args.counted.now.net (loops_of c.args.counted.now.net) c.args.listed.number text gates)
-    (c.deref.ensures.value ∙ c.in_ok-line.ensures) c.requires.gates)
-    (rw c.looped.ensures.looped at c.tell_cuts.ensures)
+    cluster_told (λ looped text gates. cut_cluster looped.net (loops_of looped.net) c.args.listed.number text gates) _ _ _ _ _ _ _ _ told
+    c.looped.ensures.looped (c.deref.ensures.value ∙ c.in_ok-line.ensures) c.requires.gates)
+    c.tell_cuts.ensures

@@ -1,5 +1,6 @@
-use Rattle.std.proofs.Common.{◌++◌, ◌∙◌, List, ℕ, ap₂}
-use Rattle.accepted_loops.proofs.Common.{IfOk-weaker, text_bytes, labelled_cluster, loops_of}
+use Rattle.std.proofs.Common.{◌∙◌}
+use Rattle.accepted_loops.proofs.Common.{IfOk-weaker, labelled_cluster, loops_of}
+use Rattle.accepted_loops.proofs.GraphLemmas.{cluster_told}
 use Rattle.loops.proofs.ListedLemmas.{loop_gates_inside}
 use Rattle.accepted_loops.proofs.graph.tell_whole.Goals as goal
 
@@ -9,7 +10,6 @@ tell_labelled-requires c = rw (c.looped.ensures.looped, c.requires.gates) (loop_
 pub returns : goal.returns
 returns c =
     IfOk-weaker c.tell_labelled.result _ _ (λ done told.
-    told
-    ∙ ap₂ (λ (text gates : List ℕ). text_bytes c.args.sink.now ++ labelled_cluster c.args.counted.now.net (loops_of c.args.counted.now.net) c.args.listed.number text gates)
-    (c.deref.ensures.value ∙ c.in_ok-lines.ensures) c.requires.gates)
-    (rw c.looped.ensures.looped at c.tell_labelled.ensures)
+    cluster_told (λ looped text gates. labelled_cluster looped.net (loops_of looped.net) c.args.listed.number text gates) _ _ _ _ _ _ _ _ told
+    c.looped.ensures.looped (c.deref.ensures.value ∙ c.in_ok-lines.ensures) c.requires.gates)
+    c.tell_labelled.ensures

@@ -1,8 +1,8 @@
 use Rattle.std.proofs.Common.{◌≡◌, ◌++◌, ◌∷◌, [], ◌<◌, List, length, map, reverse, false, sym, ap₂, subst, ◌∙◌, arith}
-use Rattle.aig_core.proofs.Common.{nat_eq, list_any, successors, Task, visit}
+use Rattle.aig_core.proofs.Common.{nat_eq, list_any, successors, NodeTask, visit}
 use Rattle.std.proofs.lemmas.List.{get_or_default}
 use Rattle.std.proofs.lemmas.Result.{on_ok_weaker}
-use Rattle.aig_core.specs.declared.depth.Task.TheVariants.{Place}
+use Rattle.aig_core.specs.declared.depth.NodeTask.TheVariants.{Place}
 use Rattle.aig_core.specs.Tasks.{Advances}
 use Rattle.aig_core.proofs.DepthLemmas.{pass_advances, open_advances}
 use Rattle.aig_core.proofs.depth.step.Goals as goal
@@ -32,5 +32,5 @@ returns-in_ok-push-in-Visit-clause-advances c =
     sym (c.requires.marks n marked) ∙ get_or_default marks n false c.index.result.now marked ∙ sym c.index.ensures ∙ c.if-index.false in
     let advances : Advances graph nodes nodes (tasks ++ c.args.task ∷ []) ((tasks ++ Place n ∷ []) ++ map visit (reverse (successors graph n))) = rw c.in-Visit.is (open_advances graph c.requires.ranks nodes tasks n c.requires.tasks l new) in
     on_ok_weaker c.add_visits.result
-    (λ e. subst (λ (after : List Task). Advances graph nodes nodes (tasks ++ c.args.task ∷ []) after) (sym (e ∙ ap₂ (λ xs ys. xs ++ map visit (reverse ys)) c.in_ok-push-in-Visit.ensures.items c.successors.ensures)) advances)
+    (λ e. subst (λ (after : List NodeTask). Advances graph nodes nodes (tasks ++ c.args.task ∷ []) after) (sym (e ∙ ap₂ (λ xs ys. xs ++ map visit (reverse ys)) c.in_ok-push-in-Visit.ensures.items c.successors.ensures)) advances)
     c.add_visits.ensures
