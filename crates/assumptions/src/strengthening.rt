@@ -6,7 +6,7 @@ ghost use Rattle.care_rows.specs.Rows.{AreSteadyRows};
 ghost use Rattle.care_rows.specs.Restricted.{IsRestrictFault};
 ghost use Rattle.assumptions.specs.Making.{Excludes, IsBeside};
 
-use care_rows::{RestrictFault, Row, restricted};
+use care_rows::{RestrictFault, Row, restricted_model};
 use care_sets::{Care, CareFault, bind};
 use loops::LoopedNetlist;
 use netlist::{Netlist, copy_netlist};
@@ -54,6 +54,6 @@ pub(crate) fn stronger_care(
     ensures excludes { IfOk result (Excludes looped.now.net care.now rows.now) }
     ensures fault { IfErr result (IsRestrictFault looped.now.net care.now rows.now) }
 {
-    let model = restricted(alloc, looped, care, rows)?;
+    let model = restricted_model(alloc, looped, care, rows)?;
     Ok(beside(alloc, looped.net(), care, model)?)
 }
