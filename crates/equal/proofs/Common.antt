@@ -8,7 +8,7 @@ pub use Rattle.bdd_store.specs.Subfunctions.{nodes}
 pub use Rattle.bdd_store.specs.declared.node.Node.{Node}
 pub use Rattle.care_sets.specs.Binding.{IsCareOf}
 pub use Rattle.care_sets.specs.Care.{CareSet, columns, is_care_vector, state_of}
-pub use Rattle.clause_decision.specs.Apart.{AreNeverApart, IsPairOf}
+pub use Rattle.clause_decision.specs.Apart.{IsPairOf}
 pub use Rattle.clause_decision.specs.declared.pairs.Pair.{Pair}
 pub use Rattle.cyc_base.proofs.VectorLemmas.{find-alike}
 pub use Rattle.cyc_base.specs.Values.{bit, bits}
@@ -45,7 +45,6 @@ pub use Rattle.refusals.specs.declared.refusal.Refusal.TheVariants.{Undetermined
 pub use Rattle.refusals.specs.declared.refusal.Refusal.{Refusal}
 pub use Rattle.std.proofs.lemmas.Bool.{cases_lt}
 pub use Rattle.std.proofs.lemmas.List.{append-nil, get_or_append_left, length-append, length-map}
-pub use Rattle.std.proofs.lemmas.Result.{IfOk-weaker}
 pub use Rattle.std.proofs.lemmas.Simd.{map-map}
 pub use Rattle.std.specs.List.{range_with_len}
 pub use Rattle.std.specs.Prelude.{Err, IfOk, Ok, Result, find, option_map}

@@ -1,16 +1,17 @@
-//! Whether two netlists that are accepted agree, found with the help of their inner wires (Kuehlmann and Krohm 1997).
+//! Whether two netlists that are accepted agree, or on which vector they first differ, found with the help of their inner
+//! wires (Kuehlmann and Krohm 1997).
 
-ghost use Rattle.std.specs.Prelude.{◌≡◌, ◌+◌, ◌≤◌, [], None, true, length, All, IfOk};
-ghost use Rattle.netlist.specs.Netlists.{count};
-ghost use Rattle.care_sets.specs.Binding.{IsCareOf};
-ghost use Rattle.clause_decision.specs.Apart.{AreNeverApart, IsPairOf};
+ghost use Rattle.std.specs.Prelude.{◌≡◌, [], IfOk};
 ghost use Rattle.miters.specs.Cases.{ArePaired, TellsIn};
 ghost use Rattle.miters.specs.Differences.{difference};
 ghost use Rattle.miters.specs.Joined.{joined};
+ghost use Rattle.miters.specs.Pairs.{least_apart as least_apart_of};
+ghost use Rattle.equal.specs.Early.{IsFound};
 
 use crate::accepted::AcceptedNetlists;
-use care_sets::Care;
-use clause_decision::{Budget, Pair, PairSearch};
+use crate::least::{Early, FEW_CONFLICTS};
+use clause_decision::{Budget, PairSearch};
+use cyc_base::Bits;
 use loops::{LoopedNetlist, find_blocks, find_cut};
 use miters::{BUDGET, JoinedPairs, PairsTold, joined_netlist, steering_columns, whole_scope};
 use netlist::Netlist;
@@ -42,60 +43,86 @@ fn tell(alloc: Global, joined: &JoinedPairs<'_>, budget: Budget) -> Result<Pairs
     Ok(PairsTold::of(never))
 }
 
-/// Whether none of these pairs is ever apart: at once, or by cases, or else with more conflicts.
-fn are_told_equal(alloc: Global, joined: &JoinedPairs<'_>) -> Result<bool, AllocError>
+/// What is told of these pairs on all care vectors: at once, or by cases, or else with more conflicts.
+fn tell_pairs(alloc: Global, joined: &JoinedPairs<'_>) -> Result<PairsTold, AllocError>
     requires { ArePaired joined.now }
-    ensures { IfOk result (λ never. never ≡ true → AreNeverApart joined.now.looped.now.net joined.now.care.now joined.now.pairs.now) }
+    ensures { IfOk result (TellsIn joined.now.looped.now.net joined.now.care.now [] joined.now.pairs.now) }
 {
     match tell(alloc, joined, BUDGET)? {
-        PairsTold::Never => return Ok(true),
-        PairsTold::Apart => return Ok(false),
         PairsTold::Open => {}
+        told => return Ok(told),
     }
     let columns = steering_columns(alloc, joined.looped, MOST_FIXED)?;
     match joined.tell_by_cases(alloc, &[], &columns)? {
-        PairsTold::Never => Ok(true),
-        PairsTold::Apart => Ok(false),
-        PairsTold::Open => Ok(tell(alloc, joined, BUDGET.times(MORE))? == PairsTold::Never),
+        PairsTold::Open => tell(alloc, joined, BUDGET.times(MORE)),
+        told => Ok(told),
     }
 }
 
-/// Whether the wires of none of these pairs of the joined netlist are ever apart.
-fn never_apart_joined(
-    alloc: Global,
-    a: &Netlist,
-    b: &Netlist,
-    net: &Netlist,
-    care: &Care,
-    pairs: &[Pair],
-) -> Result<bool, AllocError>
-    requires joined { net.now ≡ joined a.now b.now [] }
-    requires fits { count a.now + length b.now.gates ≤ 4294967295 }
-    requires care { IsCareOf net.now care.now }
-    requires pairs { All (IsPairOf net.now) pairs.now }
-    ensures { IfOk result (λ never. never ≡ true → AreNeverApart net.now care.now pairs.now) }
-{
-    let blocks = find_blocks(alloc, net)?;
-    let cut = find_cut(alloc, net, &blocks)?;
-    let looped = LoopedNetlist::new(net, &blocks, &cut);
-    let scope = whole_scope(alloc, net)?;
-    let joined = JoinedPairs {
-        a,
-        b,
-        looped: &looped,
-        scope: &scope,
-        care,
-        pairs,
-    };
-    are_told_equal(alloc, &joined)
-}
-
 impl<'a> AcceptedNetlists<'a> {
-    /// Whether they differ on no care vector. False says nothing: simulation may tell at once that they do.
-    pub(crate) fn are_alike(&self, alloc: Global) -> Result<bool, AllocError>
-        ensures { IfOk result (λ alike. alike ≡ true → difference self.now.a self.now.b self.now.care ≡ None) }
+    /// The least vector of a difference, where columns steer a loop: from the miter if few conflicts are enough, since its
+    /// solver learns from one column to the next, and else column by column.
+    fn least_where_loops(
+        &self,
+        alloc: Global,
+        joined: &JoinedPairs<'_>,
+    ) -> Result<Early, AllocError>
+        requires paired { ArePaired joined.now }
+        requires least { least_apart_of joined.now.looped.now.net joined.now.care.now joined.now.pairs.now ≡ difference self.now.a self.now.b self.now.care }
+        ensures { IfOk result (IsFound (difference self.now.a self.now.b self.now.care)) }
+    {
+        let columns = steering_columns(alloc, joined.looped, MOST_FIXED)?;
+        if columns.is_empty() {
+            return Ok(Early::Nothing);
+        }
+        if let Early::Found(found) = self.unknown_in_miter(alloc, FEW_CONFLICTS)? {
+            return Ok(Early::Found(found));
+        }
+        match joined.least_apart(alloc, &columns)? {
+            Some(vector) => Ok(Early::Found(Some(Bits::of(vector)))),
+            None => Ok(Early::Nothing),
+        }
+    }
+
+    /// The least vector on which they differ, as far as it is found by these pairs of their joined netlist.
+    #[tactic(auto, using(miters::proofs::AlikeLemmas::never_least))]
+    fn least_by_pairs(&self, alloc: Global, joined: &JoinedPairs<'_>) -> Result<Early, AllocError>
+        requires paired { ArePaired joined.now }
+        requires least { least_apart_of joined.now.looped.now.net joined.now.care.now joined.now.pairs.now ≡ difference self.now.a self.now.b self.now.care }
+        ensures { IfOk result (IsFound (difference self.now.a self.now.b self.now.care)) }
+    {
+        match tell_pairs(alloc, joined)? {
+            PairsTold::Never => Ok(Early::Found(None)),
+            PairsTold::Apart => self.least_where_loops(alloc, joined),
+            PairsTold::Open => Ok(Early::Nothing),
+        }
+    }
+
+    /// The least vector on which they differ, as far as it is found by pairs of wires of this netlist that joins them.
+    fn difference_in(&self, alloc: Global, net: &Netlist) -> Result<Early, AllocError>
+        requires { net.now ≡ joined self.now.a self.now.b [] }
+        ensures { IfOk result (IsFound (difference self.now.a self.now.b self.now.care)) }
+    {
+        let blocks = find_blocks(alloc, net)?;
+        let cut = find_cut(alloc, net, &blocks)?;
+        let looped = LoopedNetlist::new(net, &blocks, &cut);
+        let scope = whole_scope(alloc, net)?;
+        let joined = JoinedPairs {
+            a: self.a,
+            b: self.b,
+            looped: &looped,
+            scope: &scope,
+            care: self.care,
+            pairs: self.pairs,
+        };
+        self.least_by_pairs(alloc, &joined)
+    }
+
+    /// The least vector on which they differ, as far as it is found by pairs of their wires.
+    pub(crate) fn difference_by_pairs(&self, alloc: Global) -> Result<Early, AllocError>
+        ensures { IfOk result (IsFound (difference self.now.a self.now.b self.now.care)) }
     {
         let net = joined_netlist(alloc, self.a, self.b, self.columns)?;
-        never_apart_joined(alloc, self.a, self.b, &net, self.care, self.pairs)
+        self.difference_in(alloc, &net)
     }
 }

@@ -39,6 +39,9 @@ use verdict::{DecideFault, Judgement, Observe, judge};
 /// How many conflicts each search for the least vector of the miter's last gate may meet.
 const CONFLICTS: u64 = 100_000;
 
+/// How many, before that vector is looked for column by column.
+pub(crate) const FEW_CONFLICTS: u64 = 4_000;
+
 /// How many nodes the diagrams may have that the netlist of differences gets.
 const FEW_NODES: u32 = 200_000;
 
@@ -60,7 +63,13 @@ fn has_loops(alloc: Global, net: &Netlist) -> Result<bool, AllocError> {
 
 /// The least care vector at which a gate of the miter is unknown, asked for that gate alone. Nothing where there are no
 /// loops: then a judgement asks for it at once, and one variable does for each gate.
-fn unknown_within(alloc: Global, net: &Netlist, care: &Care, gate: u32) -> Result<Early, AllocError>
+fn unknown_within(
+    alloc: Global,
+    net: &Netlist,
+    care: &Care,
+    gate: u32,
+    conflicts: u64,
+) -> Result<Early, AllocError>
     requires care { IsCareOf net.now care.now }
     requires gate { gate < length net.now.gates }
     ensures { IfOk result (IsFound (find (is_unknown_at net.now care.now gate) (vectors (columns net.now)))) }
@@ -69,7 +78,7 @@ fn unknown_within(alloc: Global, net: &Netlist, care: &Care, gate: u32) -> Resul
         return Ok(Early::Nothing);
     }
     let scope = whole_scope(alloc, net)?;
-    match least_unknown(alloc, net, care, &scope, gate, CONFLICTS)? {
+    match least_unknown(alloc, net, care, &scope, gate, conflicts)? {
         Found::Least(vector) => Ok(Early::Found(Some(Bits::of(vector)))),
         Found::NoVector => Ok(Early::Found(None)),
         Found::Unknown => Ok(Early::Nothing),
@@ -144,6 +153,19 @@ fn least_on(
 }
 
 impl<'a> AcceptedNetlists<'a> {
+    /// The least vector on which they differ, if the last gate of their miter tells it within so many conflicts.
+    pub(crate) fn unknown_in_miter(
+        &self,
+        alloc: Global,
+        conflicts: u64,
+    ) -> Result<Early, AllocError>
+        ensures { IfOk result (IsFound (difference self.now.a self.now.b self.now.care)) }
+    {
+        let net = miter_of(alloc, self.a, self.b, self.columns, self.pairs)?;
+        let last = net.gates() - 1;
+        unknown_within(alloc, &net, self.care, last, conflicts)
+    }
+
     /// The least vector on which they differ, if the miter is decided within a budget. Its last gate is asked for alone
     /// before: a judgement would show of all gates in loops again that they are known.
     fn difference_by_miter(&self, alloc: Global, limit: u32) -> Result<Early, AllocError>
@@ -152,7 +174,7 @@ impl<'a> AcceptedNetlists<'a> {
     {
         let net = miter_of(alloc, self.a, self.b, self.columns, self.pairs)?;
         let last = net.gates() - 1;
-        match unknown_within(alloc, &net, self.care, last)? {
+        match unknown_within(alloc, &net, self.care, last, CONFLICTS)? {
             Early::Found(found) => Ok(Early::Found(found)),
             Early::Nothing => refusal_within(alloc, &net, self.care, limit),
         }
@@ -166,10 +188,10 @@ impl<'a> AcceptedNetlists<'a> {
         if stands_in_first(alloc, self.a, self.b, self.columns)? {
             return Ok(Early::Found(None));
         }
-        if self.are_alike(alloc)? {
-            return Ok(Early::Found(None));
+        match self.difference_by_pairs(alloc)? {
+            Early::Found(found) => Ok(Early::Found(found)),
+            Early::Nothing => self.difference_by_miter(alloc, limit),
         }
-        self.difference_by_miter(alloc, limit)
     }
 
     /// The least vector on which they differ, by the diagrams of the joined netlist.
