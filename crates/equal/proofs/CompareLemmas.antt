@@ -1,5 +1,5 @@
 -- What the parts of a comparison come to.
-use Rattle.std.proofs.Common.{◌≡◌, ◌⊎◌, ℕ, ◌-◌, Bool, List, length, All, Option, Some, None, subst, arith}
+use Rattle.std.proofs.Common.{◌≡◌, ◌⊎◌, ℕ, ◌-◌, Bool, List, length, Option, Some, None, subst, arith}
 use Rattle.equal.proofs.Common.{option_map, Result, IfOk, Err, Ok, Sig, Parts, IsNetlist, CareSet, columns, IsKnownEarly, IsFound, Answer, difference, AreAccepted, miter, find, vectors, Refusal, refusal, accepted_without_refusal, comparison, Undetermined, Early, Arena, IsBelowEnoughForBoth, IsOutOfNodesForBoth, Matched, Compares}
 use Rattle.refusals.specs.declared.observe.Observe.TheVariants as observe
 use Rattle.refusals.specs.Acceptance.{Accepts}

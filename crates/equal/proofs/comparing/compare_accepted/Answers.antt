@@ -1,4 +1,4 @@
-use Rattle.std.proofs.Common.{None, sym, ◌∙◌, arith}
+use Rattle.std.proofs.Common.{None, sym, ◌∙◌}
 use Rattle.miters.proofs.ComparisonLemmas.{difference_wide, told_of}
 use Rattle.equal.proofs.comparing.compare_accepted.Goals as goal
 

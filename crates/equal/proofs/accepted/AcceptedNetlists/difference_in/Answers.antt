@@ -1,4 +1,4 @@
-use Rattle.std.proofs.Common.{◌≡◌, ◌<◌, true, ℕ, Bool, Option, List, All, [], length, ap, ap₂, subst, sym, ◌∙◌, arith}
+use Rattle.std.proofs.Common.{◌≡◌, ◌<◌, true, ℕ, List, All, [], length, ap, ap₂, subst, sym, ◌∙◌, arith}
 use Rattle.equal.proofs.Common.{Parts, IsCareOf, Pair, IsPairOf, difference, joined, least_apart, Accepted}
 use Rattle.loops.specs.Looped.{Looped}
 use Rattle.clause_decision.specs.Scopes.{is_marked, IsScopeOf}
