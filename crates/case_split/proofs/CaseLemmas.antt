@@ -30,7 +30,8 @@ use Rattle.case_split.specs.Added.{AreNew, IsMore}
 use Rattle.case_split.specs.Sizes.{copied_gates}
 use Rattle.case_split.specs.Tables.{operand_at, plain_of, ArePlain, IsPlain, IsMade, IsTable, AreStanding, AreCopySteps}
 use Rattle.case_split.specs.CaseTables.{IsBelowCase, IsPossible, IsImpossible, IsCaseTable, IsTableStep, IsEntry, AreTables}
-use Rattle.case_split.specs.Choices.{IsCube, AreLeavesOf, IsChosen}
+use Rattle.case_split.specs.Cubes.{IsCube}
+use Rattle.case_split.specs.Choices.{AreLeavesOf, IsChosen}
 use Rattle.case_split.specs.Heads.{leaves_of, AreStandingIn, IsWithinAny, IsRoot, IsRootStep, AreRoots, IsHead, AreHeads}
 use Rattle.case_split.proofs.AddedLemmas.{agrees_before, all_within_more, more_length, more_none, more_trans, more_weaker, within_more}
 use Rattle.case_split.proofs.CofactorLemmas.{all_filtered}

@@ -5,6 +5,7 @@ use Rattle.std.proofs.lemmas.Bool.Decides.{nat_tests}
 use Rattle.std.specs.List.{AllZip, AllByRecursion, list_any, filter, position_from}
 use Rattle.std.proofs.lemmas.Bool.{and_parts, cases_Bool, eq-eqb, false_from_ne_true, ne_eqb, or_parts}
 use Rattle.std.proofs.lemmas.List.Elements.{All-from_recursion, All-head, All-tail, recursion_from_All}
+use Rattle.cyc_base.specs.declared.limits.TheConstants.{MAX_PINS}
 use Rattle.cyc_base.specs.declared.sig.Sig.{Sig}
 use Rattle.cyc_base.specs.declared.trit.Trit.{Trit}
 use Rattle.cyc_base.specs.declared.trit.Trit.TheVariants.{Zero, One, X}
@@ -37,10 +38,10 @@ no_other_width pins (row ∷ rows) i h =
     ap (λ (t : Bool). cond (not t) (Some i) (position_from (λ r. not (has_width pins r)) (i + 1) rows)) is
     ∙ no_other_width pins rows (i + 1) (All-tail (λ r. length r.lits ≡ pins) row rows h)
 
-few : (pins : ℕ) → pins ≤ 1024 → nat_le pins 1024 ≡ true
+few : (pins : ℕ) → pins ≤ MAX_PINS → nat_le pins MAX_PINS ≡ true
 few pins fits = grind (arith, nat_tests)
 
-pub no_fault : (pins : ℕ) (rows : List Row) → pins ≤ 1024 → All (λ row. length row.lits ≡ pins) rows → first_fault pins rows ≡ None
+pub no_fault : (pins : ℕ) (rows : List Row) → pins ≤ MAX_PINS → All (λ row. length row.lits ≡ pins) rows → first_fault pins rows ≡ None
 no_fault pins rows fits each = grind (arith, few pins, no_other_width pins rows 0 each)
 
 -- ---- a completion of the wires that are left as one of all operands
@@ -423,7 +424,7 @@ rest_fits cover os known rows live rest left wires count proper pins ek er el ar
     let counted : count ≡ length (wires_of left) = ec ∙ ap length ew in
     let small = left_few left in
     let fits = left_rows_fit cover os left proper pins are.width in
-    let most : cover.pins ≤ 1024 = proper.pins in
+    let most : cover.pins ≤ MAX_PINS = proper.pins in
     let wide = are.width in
     no_fault count rest (omega arith)
     (subst (λ (n : ℕ). All (λ row. length row.lits ≡ n) rest) (sym counted)

@@ -1,5 +1,6 @@
 pub mod CofactorLemmas
 pub mod CubeLemmas
+pub mod PinLemmas
 pub mod LawLemmas
 pub mod AddedLemmas
 pub mod ChoiceLemmas

@@ -15,6 +15,7 @@ use Rattle.std.proofs.lemmas.Map.Made.{IsDistinct-from_AllPairs}
 use Rattle.std.proofs.lemmas.Slice.Eq.{bytes_eq-Decides}
 use Rattle.tildes.specs.Runs.{longest_run, longest_run_of}
 use Rattle.tildes.proofs.RunLemmas.{longest-append}
+use Rattle.cyc_base.specs.declared.limits.TheConstants.{MAX_REWRITTEN_ITEMS}
 use Rattle.cyc_base.specs.Names.{IsBlifName}
 use Rattle.cyc_base.proofs.ListLemmas.{list_any-map, range-suc}
 use Rattle.cyc_base.specs.declared.sig.Sig.{Sig}
@@ -217,7 +218,7 @@ sizes : (c l a b : ℕ) → a ≤ 0 + c * l → b ≤ a + l * c → b ≤ 2 * (c
 sizes c l a b x y = omega arith
 
 module _ (net : Parts) (valid : IsNetlist net) (marks : List Bool) (cases : List Case) (heads more : List Gate) (parts : AreSplitParts net marks cases heads more) (usable : All (IsUsable (first_gate net)) cases)
-    (inputs : length net.inputs ≤ 4000000000) (small : length net.gates + length net.latches + 2 * (length cases * length (copied_gates net marks)) ≤ 4000000) where
+    (inputs : length net.inputs ≤ 4000000000) (small : length net.gates + length net.latches + 2 * (length cases * length (copied_gates net marks)) ≤ MAX_REWRITTEN_ITEMS) where
   few_more : length more ≤ 2 * (length cases * length (copied_gates net marks))
   few_more =
       sizes (length cases) (length (copied_gates net marks)) (length parts.first) (length more)
@@ -314,7 +315,7 @@ module _ (net : Parts) (valid : IsNetlist net) (marks : List Bool) (cases : List
   }
 
 pub split_is : (net : Parts) → IsNetlist net → (marks : List Bool) (cases : List Case) (gates : List Gate) → IsSplit net marks cases gates → All (IsUsable (first_gate net)) cases → length net.inputs ≤ 4000000000 →
-    length net.gates + length net.latches + 2 * (length cases * length (copied_gates net marks)) ≤ 4000000 → IsSplitNetlist net marks cases (with_gates net gates net.outputs)
+    length net.gates + length net.latches + 2 * (length cases * length (copied_gates net marks)) ≤ MAX_REWRITTEN_ITEMS → IsSplitNetlist net marks cases (with_gates net gates net.outputs)
 split_is net valid marks cases gates h usable inputs small =
     subst (λ (gs : List Gate). IsSplitNetlist net marks cases (with_gates net gs net.outputs)) (sym h.is)
     (made_is_split net valid marks cases h.heads h.more h.parts usable inputs small)

@@ -12,7 +12,7 @@ use Rattle.case_split.specs.declared.cases.Case.{Case}
 use Rattle.case_split.specs.declared.operands.Operand.{Operand}
 use Rattle.case_split.specs.declared.operands.Operand.TheVariants.{Constant}
 use Rattle.case_split.specs.Cases.{IsInCase}
-use Rattle.case_split.specs.Choices.{IsCube}
+use Rattle.case_split.specs.Cubes.{IsCube}
 use Rattle.case_split.specs.Operands.{IsWithin}
 use Rattle.case_split.specs.Added.{AreNew, IsMore}
 use Rattle.case_split.specs.Sizes.{copied_gates}

@@ -16,7 +16,8 @@ use Rattle.case_split.specs.declared.operands.Operand.TheVariants.{Constant}
 use Rattle.case_split.specs.Operands.{value_by, Agrees, IsWithin}
 use Rattle.case_split.specs.Added.{AreNew, IsMore}
 use Rattle.loops.specs.Cones.{is_marked}
-use Rattle.case_split.specs.Choices.{IsCube, IsOnlyBy}
+use Rattle.case_split.specs.Cubes.{IsCube}
+use Rattle.case_split.specs.Choices.{IsOnlyBy}
 use Rattle.case_split.specs.Splits.{SameGate}
 use Rattle.case_split.specs.Tables.{operand_at}
 

@@ -7,6 +7,8 @@ pub mod Cofactors
 pub mod Tables
 pub mod Splits
 pub mod Added
+pub mod Cubes
+pub mod Pins
 pub mod Choices
 pub mod CaseTables
 pub mod Heads

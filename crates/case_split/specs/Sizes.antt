@@ -1,6 +1,7 @@
 -- How large a netlist can become that is split by cases.
 use Rattle.std.specs.Prelude.{◌≡◌, ◌+◌, ◌*◌, ◌<◌, ◌≤◌, ℕ, Bool, List, length, filter}
 use Rattle.std.specs.List.{range_with_len}
+use Rattle.cyc_base.specs.declared.limits.TheConstants.{MAX_REWRITTEN_ITEMS}
 use Rattle.netlist.specs.declared.parts.Parts.{Parts}
 use Rattle.loops.specs.Cones.{is_marked}
 use Rattle.case_split.specs.declared.fault.SplitFault.{SplitFault}
@@ -16,5 +17,5 @@ most_items net marks cases = length net.gates + length net.latches + 2 * (cases 
 
 -- there may be over 4,000,000, or there aren't and memory ran out
 abbrev pub IsSplitFault : ℕ → SplitFault → Type 0
-IsSplitFault size (TooLarge answered) = (4000000 < size) × (answered ≡ size)
-IsSplitFault size Memory = size ≤ 4000000
+IsSplitFault size (TooLarge answered) = (MAX_REWRITTEN_ITEMS < size) × (answered ≡ size)
+IsSplitFault size Memory = size ≤ MAX_REWRITTEN_ITEMS

@@ -1,134 +1,44 @@
 //! The selection among what stands for a gate in the cases.
 
-ghost use Rattle.std.specs.Prelude.{◌≡◌, ◌+◌, ◌*◌, ◌<◌, ◌≤◌, ℕ, [], ◌∷◌, ◌++◌, length, map, replicate, set, All, IfOk, IfSome, slice_index_or};
+ghost use Rattle.std.specs.Prelude.{◌≡◌, ◌+◌, ◌<◌, ◌≤◌, length, All, IfOk, IfSome};
 ghost use Rattle.cyc_base.specs.Names.{IsBlifName};
 ghost use Rattle.netlist.specs.Netlists.{count};
-ghost use Rattle.case_split.specs.declared.operands.Operand.{Operand as Standing};
 ghost use Rattle.case_split.specs.Added.{AreNew};
 ghost use Rattle.case_split.specs.Cases.{IsUsable};
-ghost use Rattle.case_split.specs.Choices.{asked_of as asked_by, cube_of, column_wire as wire_of, IsRowOf, AreRowsOf, AreNarrow, IsGroupSize, AreLeavesOf, IsCommon, IsSelected, IsChosenNext, IsChosenUpTo, IsChosen};
+ghost use Rattle.case_split.specs.Choices.{AreNarrow, IsGroupSize, AreLeavesOf, IsCommon, IsSelected, IsChosenNext, IsChosen};
 ghost use Rattle.case_split.specs.Operands.{IsWithin};
 
 use crate::added::{Added, Base};
 use crate::cases::{Case, ColumnValue};
 use crate::cofactors::cover_by;
-use crate::cubes::{asks_of, columns_of};
 use crate::operands::Operand;
-use cover_logic::{Lit, Row};
-use cyc_base::{Items, Name, Sig};
+use crate::pins::{first_places, operands_on, pins_of, rows_of};
+use cyc_base::{MAX_PINS, Name};
 use std::alloc::{AllocError, Global};
 
-/// The most pins of a cover.
-const MOST_PINS: usize = 1024;
-
-/// The first place at which there stands the same as at this one.
-fn first_place(leaves: &[Operand], place: usize) -> usize
-    requires { place < length leaves.now }
-    ensures within { result < length leaves.now }
-    ensures same { (d : Standing) → slice_index_or leaves.now result d ≡ slice_index_or leaves.now place d }
-{
-    for first in 0..place {
-        if leaves[first] == leaves[place] {
-            return first;
-        }
-    }
-    place
-}
-
-/// Of so many pins the value 1 at this place alone.
-fn pin_at(alloc: Global, pins: usize, place: usize) -> Result<Vec<Lit>, AllocError>
-    requires { place < pins }
-    ensures { IfOk result (λ lits. lits.items ≡ set (replicate pins Lit.Any) place Lit.One) }
-{
-    let mut lits = vec![in alloc; Lit::Any; pins]?;
-    lits[place] = Lit::One;
-    Ok(lits)
-}
-
-/// The row of a case: it matches where columns have what the cube asks, and what stands for the gate is 1.
-fn row_of(
-    alloc: Global,
-    columns: &[u32],
-    leaves: &[Operand],
-    cube: &[ColumnValue],
-    place: usize,
-) -> Result<Row, AllocError>
-    requires { place < length leaves.now }
-    ensures { IfOk result (IsRowOf columns.now leaves.now cube.now place) }
-{
-    let pins = pin_at(alloc, leaves.len(), first_place(leaves, place))?;
-    let mut lits = asks_of(alloc, cube, columns)?;
-    lits.extend_from_slice(&pins)?;
-    Ok(Row {
-        lits: Items::of(lits),
-    })
-}
-
-/// The rows of these cases, and one of what was chosen before, the last leaf.
-fn rows_of(
-    alloc: Global,
-    columns: &[u32],
-    leaves: &[Operand],
-    cases: &[Case],
-) -> Result<Vec<Row>, AllocError>
-    requires { length leaves.now ≡ length cases.now + 1 }
-    ensures { IfOk result (λ rows. AreRowsOf columns.now leaves.now (map cube_of cases.now ++ [] ∷ []) rows.items) }
-{
-    let mut rows = Vec::with_capacity(alloc, leaves.len())?;
-    for (place, case) in cases.iter().enumerate() {
-        rows.push(row_of(alloc, columns, leaves, &case.cube, place)?)?;
-    }
-    rows.push(row_of(alloc, columns, leaves, &[], cases.len())?)?;
-    Ok(rows)
-}
-
-fn column_wire(column: u32) -> Operand
-    ensures { result ≡ wire_of column }
-{
-    Operand::Wire(Sig(column))
-}
-
-fn column_wires(alloc: Global, columns: &[u32]) -> Result<Vec<Operand>, AllocError>
-    ensures { IfOk result (λ wires. wires.items ≡ map wire_of columns.now) }
-{
-    columns
-        .iter()
-        .map(|column| column_wire(*column))
-        .collect(alloc)
-}
-
-/// What is on the pins of a selection: columns, and then leaves.
-fn pins_of(alloc: Global, columns: &[u32], leaves: &[Operand]) -> Result<Vec<Operand>, AllocError>
-    ensures { IfOk result (λ pins. pins.items ≡ map wire_of columns.now ++ leaves.now) }
-{
-    let mut pins = column_wires(alloc, columns)?;
-    pins.extend_from_slice(leaves)?;
-    Ok(pins)
-}
-
-/// What is chosen by the cubes of these columns among some leaves, the last of which was chosen before.
+/// What is chosen by the cubes of the cases among some leaves, the last of which was chosen before.
 fn choose_by(
     alloc: Global,
     base: &Base<'_>,
     added: &mut Added,
     name: &Name,
     cases: &[Case],
-    columns: &[u32],
     leaves: &[Operand],
 ) -> Result<Operand, AllocError>
     requires room { count base.now.net.now + length added.old.gates.items < 4294967295 }
     requires name { IsBlifName name.now }
-    requires columns { All (λ column. column < count base.now.net.now) columns.now }
-    requires leaves { length leaves.now ≡ length cases.now + 1 }
-    requires fits { length columns.now + length leaves.now ≤ 1024 }
+    requires columns { All (IsUsable (count base.now.net.now)) cases.now }
+    requires narrow { AreNarrow cases.now }
     requires within { All (IsWithin (count base.now.net.now + length added.old.gates.items)) leaves.now }
     requires new { AreNew base.now.net.now added.old.gates.items }
-    ensures { IfOk result (IsSelected base.now.net.now cases.now columns.now leaves.now added.old.gates.items added.new.gates.items) }
+    ensures { IfOk result (IsSelected base.now.net.now cases.now leaves.now added.old.gates.items added.new.gates.items) }
 {
-    let rows = rows_of(alloc, columns, leaves, cases)?;
-    let cover = cover_by(columns.len() + leaves.len(), true, rows);
-    let pins = pins_of(alloc, columns, leaves)?;
-    let operand = added.add(alloc, base, name, &cover, &pins)?;
+    let firsts = first_places(alloc, leaves)?;
+    let pins = pins_of(alloc, cases, &firsts)?;
+    let rows = rows_of(alloc, cases, &firsts, &pins)?;
+    let cover = cover_by(pins.len(), true, rows);
+    let operands = operands_on(alloc, leaves, &pins)?;
+    let operand = added.add(alloc, base, name, &cover, &operands)?;
     Ok(operand)
 }
 
@@ -153,10 +63,9 @@ fn choose_next(
     requires new { AreNew base.now.net.now added.old.gates.items }
     ensures { IfOk result (IsChosenNext base.now.net.now cases.now leaves.now before added.old.gates.items added.new.gates.items) }
 {
-    let columns = columns_of(alloc, cases)?;
     let mut all = leaves.to_vec(alloc)?;
     all.push(before)?;
-    let operand = choose_by(alloc, base, added, name, cases, &columns, &all)?;
+    let operand = choose_by(alloc, base, added, name, cases, &all)?;
     Ok(operand)
 }
 
@@ -180,7 +89,7 @@ fn group_size(cases: &[Case]) -> usize
     ensures some { 1 ≤ result }
     ensures fits { IsGroupSize cases.now result }
 {
-    (MOST_PINS - 1) / (widest(cases) + 1)
+    (MAX_PINS - 1) / (widest(cases) + 1)
 }
 
 /// What is chosen among the cases, by one cover after another: it selects among as many as fit, and what was chosen before.

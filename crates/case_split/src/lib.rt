@@ -20,6 +20,7 @@ mod marking;
 mod nearness;
 mod operands;
 mod ordering;
+mod pins;
 mod splitting;
 mod tables;
 

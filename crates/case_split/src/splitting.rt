@@ -62,7 +62,7 @@ fn check_size(net: &Netlist, copied: &[bool], cases: usize) -> Result<(), SplitF
     requires copied { length copied.now ≡ length net.now.gates }
     requires cases { cases ≤ 4096 }
     ensures fault { IfErr result (IsSplitFault (most_items net.now copied.now cases)) }
-    ensures small { OnOk result (most_items net.now copied.now cases ≤ 4000000) }
+    ensures small { OnOk result (most_items net.now copied.now cases ≤ MAX_REWRITTEN_ITEMS) }
     ensures valid { IsNetlist net.now }
 {
     let size = size_of(net, copied_count(net, copied), cases);
@@ -130,7 +130,7 @@ fn split_small(
     requires copied { length copied.now ≡ length net.now.gates }
     requires cases { All (IsUsable (first_gate net.now)) cases.now }
     requires inputs { length net.now.inputs ≤ 4000000000 }
-    requires small { most_items net.now copied.now (length cases.now) ≤ 4000000 }
+    requires small { most_items net.now copied.now (length cases.now) ≤ MAX_REWRITTEN_ITEMS }
     ensures { IfOk result (IsSplitNetlist net.now copied.now cases.now) }
 {
     net.laws();
@@ -174,7 +174,7 @@ pub fn split(
     requires few { length cases.now ≤ 4096 }
     requires inputs { length net.now.inputs ≤ 4000000000 }
     ensures fault { IfErr result (IsSplitFault (most_items net.now copied.now (length cases.now))) }
-    ensures small { OnOk result (most_items net.now copied.now (length cases.now) ≤ 4000000) }
+    ensures small { OnOk result (most_items net.now copied.now (length cases.now) ≤ MAX_REWRITTEN_ITEMS) }
     ensures size { IfOk result (λ other. length other.gates + length other.latches ≤ most_items net.now copied.now (length cases.now)) }
     ensures valid { IfOk result IsNetlist }
     ensures interface { IfOk result (KeepsInterface net.now) }

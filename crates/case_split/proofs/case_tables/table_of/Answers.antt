@@ -1,6 +1,6 @@
 use Rattle.std.proofs.Common.{true≢false, sym, subst, ◌∙◌, rules}
 use Rattle.case_split.specs.CaseTables.{IsBelowCase}
-use Rattle.case_split.specs.Choices.{IsCube}
+use Rattle.case_split.specs.Cubes.{IsCube}
 use Rattle.case_split.proofs.CaseLemmas.{possible_entry, impossible_entry}
 use Rattle.case_split.proofs.case_tables.table_of.Goals as goal
 

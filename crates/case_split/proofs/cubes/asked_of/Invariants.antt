@@ -1,5 +1,5 @@
 use Rattle.std.proofs.Common.{◌≡◌, drop}
-use Rattle.case_split.specs.Choices.{asked_of}
+use Rattle.case_split.specs.Cubes.{asked_of}
 use Rattle.case_split.proofs.cubes.asked_of.Given as goal
 
 abbrev pub invariant-loop-literal : goal.invariant-loop-literal

@@ -1,5 +1,5 @@
 use Rattle.std.proofs.Common.{◌≡◌, All, take}
-use Rattle.case_split.specs.Choices.{asked_of, literal_of}
+use Rattle.case_split.specs.Cubes.{asked_of, literal_of}
 use Rattle.case_split.proofs.cubes.is_cube.Given as goal
 
 abbrev pub invariant-loop-literal : goal.invariant-loop-literal
