@@ -2,6 +2,7 @@
 use Rattle.std.proofs.Common.{◌≡◌, ◌⊎◌, ℕ, zero, suc, ◌≤◌, Bool, false, List, [], ◌∷◌, length, map, Option, Some, None, IfSome, refl, ap, sym, ◌∙◌, subst, arith}
 use Rattle.std.specs.Prelude.{find, nat_lt, option_map}
 use Rattle.std.specs.List.{All}
+use Rattle.cyc_base.specs.declared.limits.TheConstants.{MAX_FLAT_ITEMS}
 use Rattle.netlist.specs.declared.parts.Parts.{Parts}
 use Rattle.care_sets.specs.Binding.{column_of, is_before, HasNoFault, IsBoundTo, IsCare, IsCareOf, IsCareModel, IsFirstFault, BindsAny, BindsBoth}
 use Rattle.care_sets.specs.Care.{CareSet, holds_at, is_allowed}
@@ -85,7 +86,7 @@ is_beside net care model i stronger old same binds bound = made stronger.assume 
 allowed_by : (care : CareSet) (model : CareModel) (v : List Bool) → care.assume ≡ Some model → is_allowed care v ≡ holds_at model v
 allowed_by care model v e = grind (arith, e)
 
-pub excludes : (net : Parts) (care : CareSet) (rows : List Row) (model : Parts) (stronger : CareSet) → IsRestricted net care rows model → length model.gates ≤ 4000000 → IsBeside net care model stronger →
+pub excludes : (net : Parts) (care : CareSet) (rows : List Row) (model : Parts) (stronger : CareSet) → IsRestricted net care rows model → length model.gates ≤ MAX_FLAT_ITEMS → IsBeside net care model stronger →
     Excludes net care rows stronger
 excludes net care rows model stronger restricted small beside = record {
   bound = beside.bound;

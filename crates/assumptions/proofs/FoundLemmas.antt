@@ -6,6 +6,7 @@ use Rattle.std.specs.Option.{option_map_or}
 use Rattle.std.proofs.lemmas.Bool.{cases_eq}
 use Rattle.std.proofs.lemmas.List.{get_or_append_left, get_or_push, length-append, take-append-le, take_all}
 use Rattle.std.proofs.lemmas.List.Elements.{All-nil, All-push, All-weaker}
+use Rattle.assumptions.specs.declared.search.TheConstants.{MAX_ROWS}
 use Rattle.cyc_base.specs.declared.sig.Sig.{Sig}
 use Rattle.cyc_base.specs.declared.trit.Trit.TheVariants.{X}
 use Rattle.cyc_base.specs.Values.{bits}
@@ -63,7 +64,7 @@ strengthened_by_none net care what is = record {
 pub strengthened_by : (net : Parts) (care : CareSet) (what : Observe) (rows : List Row) (stronger : CareSet) → AreFound net care what rows → Excludes net care rows stronger → IsStrengthened net care what rows stronger
 strengthened_by net care what rows stronger found excludes = record { found = found; bound = excludes.bound; invariant = excludes.invariant; lets = excludes.lets }
 
-pub weakest_by : (net : Parts) (care : CareSet) (what : Observe) (rows : List Row) (stronger : CareSet) → length rows ≤ 4096 → AreFound net care what rows → Excludes net care rows stronger →
+pub weakest_by : (net : Parts) (care : CareSet) (what : Observe) (rows : List Row) (stronger : CareSet) → length rows ≤ MAX_ROWS → AreFound net care what rows → Excludes net care rows stronger →
     Accepts net stronger what → IsWeakest net care what stronger
 weakest_by net care what rows stronger few found excludes accepted = record {
   rows = rows;
@@ -111,11 +112,11 @@ refused_beside net care what rows r h other = record { stronger = h.stronger; st
     exact (Undetermined v s) is other = absurd (other tt)
     exact (Leaves v q) is other = is
 
-pub refused_rest : (net : Parts) (care : CareSet) (what : Observe) (rows : List Row) (r : Refusal) → length rows ≤ 4096 → IsShownBeside net care what rows r → ¬ IsForUndetermined r → IsRefused net care what r
+pub refused_rest : (net : Parts) (care : CareSet) (what : Observe) (rows : List Row) (r : Refusal) → length rows ≤ MAX_ROWS → IsShownBeside net care what rows r → ¬ IsForUndetermined r → IsRefused net care what r
 refused_rest net care what rows r few h other = record { rows = rows; few = few; refused = refused_beside net care what rows r h other; other = other }
 
 -- beside any witness there is that of the definition
-pub many_rows_by : (net : Parts) (care : CareSet) (what : Observe) (rows : List Row) (r : Refusal) → length rows ≡ 4096 → IsShownBeside net care what rows r → IsForUndetermined r → HasManyRows net care what
+pub many_rows_by : (net : Parts) (care : CareSet) (what : Observe) (rows : List Row) (r : Refusal) → length rows ≡ MAX_ROWS → IsShownBeside net care what rows r → IsForUndetermined r → HasManyRows net care what
 many_rows_by net care what rows r many h is = by r h.refused is
   where
     by : (r : Refusal) → IsSomeRefusal net h.stronger what r → IsForUndetermined r → HasManyRows net care what
@@ -133,7 +134,7 @@ many_rows_by net care what rows r many h is = by r h.refused is
 pub next_row : (net : Parts) (care : CareSet) (what : Observe) (rows : List Row) (v : List Bool) (s : Sig) (row : Row) → IsOpenAt net care what rows v s → IsOpenRow net what row → IsIn net v row → IsNextRow net care what rows row
 next_row net care what rows v s row at opens inside = record { opens = opens; new = record { vector = v; counts = at.counts; inside = inside; beyond = at.beyond } }
 
-pub one_more : (net : Parts) (care : CareSet) (what : Observe) (rows : List Row) (row : Row) → length rows < 4096 → AreFound net care what rows → IsNextRow net care what rows row → HasOneMore net care what rows (rows ++ row ∷ [])
+pub one_more : (net : Parts) (care : CareSet) (what : Observe) (rows : List Row) (row : Row) → length rows < MAX_ROWS → AreFound net care what rows → IsNextRow net care what rows row → HasOneMore net care what rows (rows ++ row ∷ [])
 one_more net care what rows row few found next =
     let long = length-append rows (row ∷ []) in
     record { found = found_more net care what rows row found next; more = omega arith; few = omega arith }
@@ -181,7 +182,7 @@ shown_without net care what rows r is none refused =
 pub found_at_first : (net : Parts) (care : CareSet) (what : Observe) (rows : List Row) → rows ≡ [] → AreFound net care what rows
 found_at_first net care what rows none = subst (AreFound net care what) (sym none) (found_none net care what)
 
-pub too_large_by : (net : Parts) (care : CareSet) (what : Observe) (rows : List Row) (gates : ℕ) → length rows ≤ 4096 → AreFound net care what rows → IsRestrictFault net care rows (fault.TooLarge gates) → IsTooLarge net care what gates
+pub too_large_by : (net : Parts) (care : CareSet) (what : Observe) (rows : List Row) (gates : ℕ) → length rows ≤ MAX_ROWS → AreFound net care what rows → IsRestrictFault net care rows (fault.TooLarge gates) → IsTooLarge net care what gates
 too_large_by net care what rows gates few found (inl e) = absurd (too_large_is_not_memory e)
   where
     too_large_is_not_memory : fault.TooLarge gates ≢ fault.Memory

@@ -1,5 +1,7 @@
 -- The weakest assumption under which a netlist is harmless: rows of vectors are excluded, one after another.
 use Rattle.std.specs.Prelude.{◌≡◌, ◌<◌, ◌≤◌, ◌↔◌, ◌⊎◌, ℕ, Bool, true, List, length, take, All, Some, IfSome, is_some, slice_index_or, codes}
+use Rattle.assumptions.specs.declared.search.TheConstants.{MAX_ROWS}
+use Rattle.cyc_base.specs.declared.limits.TheConstants.{MAX_FLAT_ITEMS}
 use Rattle.netlist.specs.declared.parts.Parts.{Parts}
 use Rattle.care_sets.specs.Binding.{IsCareOf}
 use Rattle.care_sets.specs.Care.{CareSet, columns, is_allowed, IsCareVector}
@@ -43,12 +45,12 @@ pub record IsStrengthened (net : Parts) (care : CareSet) (what : Observe) (rows 
 -- a model `assume` that is small enough to be read again
 pub record IsAssumeModel (model : CareModel) : Type 0 where
   pub named : model.net.name ≡ codes "assume"
-  pub small : length model.net.gates ≤ 4000000
+  pub small : length model.net.gates ≤ MAX_FLAT_ITEMS
 
 -- the netlist is accepted where some rows are excluded, at most 4,096 of them
 pub record IsWeakest (net : Parts) (care : CareSet) (what : Observe) (stronger : CareSet) : Type 0 where
   pub rows : List Row
-  pub few : length rows ≤ 4096
+  pub few : length rows ≤ MAX_ROWS
   pub strengthened : IsStrengthened net care what rows stronger
   pub accepted : Accepts net stronger what
   pub some : is_some stronger.assume ≡ true
@@ -74,14 +76,14 @@ pub record IsRefusedBeside (net : Parts) (care : CareSet) (what : Observe) (rows
 -- and not for an undetermined wire: the invariant fails, or nothing is left of the care set
 pub record IsRefused (net : Parts) (care : CareSet) (what : Observe) (r : Refusal) : Type 0 where
   pub rows : List Row
-  pub few : length rows ≤ 4096
+  pub few : length rows ≤ MAX_ROWS
   pub refused : IsRefusedBeside net care what rows r
   pub other : ¬ IsUndetermined r
 
 -- 4,096 rows leave an observed wire undetermined at some vector
 pub record HasManyRows (net : Parts) (care : CareSet) (what : Observe) : Type 0 where
   pub rows : List Row
-  pub many : length rows ≡ 4096
+  pub many : length rows ≡ MAX_ROWS
   pub refusal_left : Refusal
   pub refused : IsRefusedBeside net care what rows refusal_left
   pub open_left : IsUndetermined refusal_left
@@ -89,10 +91,10 @@ pub record HasManyRows (net : Parts) (care : CareSet) (what : Observe) : Type 0 
 -- the model that excludes some rows would have so many gates, over 4,000,000
 pub record IsTooLarge (net : Parts) (care : CareSet) (what : Observe) (gates : ℕ) : Type 0 where
   pub rows : List Row
-  pub few : length rows ≤ 4096
+  pub few : length rows ≤ MAX_ROWS
   pub found : AreFound net care what rows
   pub size : IsModelSize net care rows gates
-  pub over : 4000000 < gates
+  pub over : MAX_FLAT_ITEMS < gates
 
 -- what is found of the assumptions under which a netlist is harmless
 abbrev pub IsAssumption : Parts → CareSet → Observe → Assumption → Type 0

@@ -1,5 +1,7 @@
 -- How rows are made of an explanation, and care sets of rows.
-use Rattle.std.specs.Prelude.{◌≡◌, ◌⊎◌, ◌<◌, ◌≤◌, ◌↔◌, ◌+◌, ◌-◌, ◌++◌, ℕ, Bool, true, false, List, [], ◌∷◌, length, map, All, Contains, Some, slice_index_or}
+use Rattle.std.specs.Prelude.{◌≡◌, ◌⊎◌, ◌<◌, ◌≤◌, ◌↔◌, ◌+◌, ◌-◌, ◌++◌, ℕ, Bool, true, false, List, [], ◌∷◌, length, map, All, Contains, Some, None, slice_index_or}
+use Rattle.std.specs.declared.option.Option.{Option}
+use Rattle.assumptions.specs.declared.search.TheConstants.{MAX_ROWS}
 use Rattle.cyc_base.specs.declared.sig.Sig.{Sig}
 use Rattle.cyc_base.specs.declared.trit.Trit.{Trit}
 use Rattle.cyc_base.specs.declared.trit.Trit.TheVariants.{Zero, One, X}
@@ -22,7 +24,8 @@ use Rattle.loops.specs.Looped.{Looped}
 use Rattle.refusals.specs.declared.refusal.Refusal.{Refusal}
 use Rattle.verdict.specs.Determination.{SettleInOneSweep}
 use Rattle.verdict.specs.Witnessed.{IsSomeRefusal}
-use Rattle.assumptions.specs.Assumptions.{AreFound, IsAssumeModel, IsOpenRow, HasNewVector, IsStrengthened}
+use Rattle.assumptions.specs.declared.assumption.Assumption.{Assumption}
+use Rattle.assumptions.specs.Assumptions.{AreFound, IsAssumption, IsAssumeModel, IsOpenRow, HasNewVector, IsStrengthened}
 
 abbrev pub wire_value : ℕ → Bool → WireValue
 wire_value n value = record { wire = signal n; value = value }
@@ -95,7 +98,12 @@ pub record IsNextRow (net : Parts) (care : CareSet) (what : Observe) (rows : Lis
 pub record HasOneMore (net : Parts) (care : CareSet) (what : Observe) (old new : List Row) : Type 0 where
   pub found : AreFound net care what new
   pub more : length new ≡ length old + 1
-  pub few : length new ≤ 4096
+  pub few : length new ≤ MAX_ROWS
+
+-- what a round finds: an assumption, or one more row
+abbrev pub IsRound : Parts → CareSet → Observe → List Row → List Row → Option Assumption → Type 0
+IsRound net care what old new (Some found) = IsAssumption net care what found
+IsRound net care what old new None = HasOneMore net care what old new
 
 -- a mark for each block: loops with one are settled by themselves in one sweep
 pub record AreSettled (l : Looped) (settled : List Bool) : Type 0 where

@@ -7,7 +7,7 @@ ghost use Rattle.care_sets.specs.Care.{columns as column_count, is_care_vector};
 ghost use Rattle.clause_queries.specs.Vectors.{TellsWhetherAny};
 ghost use Rattle.assumptions.specs.Implied.{HasTriedWithout, Implies, IsThinned, excluded_row, other_value, refuted_rows};
 
-use crate::strengthening::strengthened;
+use crate::strengthening::stronger_care;
 use care_rows::{RestrictFault, Row, WireValue};
 use care_sets::Care;
 use clause_decision::is_possible;
@@ -33,7 +33,7 @@ fn single(alloc: Global, value: WireValue) -> Result<Row, AllocError>
 }
 
 /// The other value of the wire.
-fn flipped(value: WireValue) -> WireValue
+fn with_other_value(value: WireValue) -> WireValue
     ensures { result ≡ other_value value }
 {
     WireValue {
@@ -52,7 +52,7 @@ fn refuting_rows(
 {
     let mut rows = Vec::new(alloc);
     for other in others {
-        rows.push(single(alloc, flipped(*other))?)?;
+        rows.push(single(alloc, with_other_value(*other))?)?;
     }
     rows.push(single(alloc, value)?)?;
     Ok(rows)
@@ -81,7 +81,7 @@ fn is_implied(
     ensures { IfOk result (λ implied. implied ≡ true → Implies looped.now.net others.now value) }
 {
     let rows = refuting_rows(alloc, others, value)?;
-    match strengthened(alloc, looped, &Care::none(), &rows) {
+    match stronger_care(alloc, looped, &Care::none(), &rows) {
         Ok(care) => is_surely_empty(alloc, looped.net(), &care),
         Err(RestrictFault::TooLarge { .. }) => Ok(false),
         Err(RestrictFault::Memory) => Err(AllocError),
@@ -154,7 +154,7 @@ fn thin(
 
 /// The same row, without values that its others imply, where it has not too many.
 #[tactic(auto, using(crate::proofs::ImpliedLemmas::thinned_none))]
-pub(crate) fn shortened(
+pub(crate) fn without_implied_values(
     alloc: Global,
     looped: &LoopedNetlist<'_>,
     row: &Row,

@@ -1,6 +1,7 @@
 //! Rows, found one after another.
 
-ghost use Rattle.std.specs.Prelude.{◌≡◌, ◌⊎◌, ◌≤◌, ◌↔◌, [], true, length, is_some, IfOk, IfErr, IfSome, IfNone};
+ghost use Rattle.std.specs.Prelude.{◌≡◌, ◌⊎◌, ◌≤◌, ◌↔◌, [], true, length, is_some, IfOk, IfErr};
+ghost use Rattle.cyc_base.specs.declared.limits.TheConstants.{MAX_NODES as most_nodes};
 ghost use Rattle.care_sets.specs.Binding.{IsCareOf};
 ghost use Rattle.care_rows.specs.Rows.{AreSteadyMarks};
 ghost use Rattle.verdict.specs.Causes.{IsOutOfNodes};
@@ -8,12 +9,12 @@ ghost use Rattle.verdict.specs.Enough.{IsBelowEnough};
 ghost use Rattle.verdict.specs.Witnessed.{IsSomeJudgement};
 ghost use Rattle.assumptions.specs.Assumptions.{AreFound, IsAssumption, IsUndetermined as IsForUndetermined};
 ghost use Rattle.assumptions.specs.Limits.{RunsOutOfNodes};
-ghost use Rattle.assumptions.specs.Making.{AreSettled, Excludes, HasOneMore, IsNextRow, IsShownBeside};
+ghost use Rattle.assumptions.specs.Making.{AreSettled, Excludes, IsNextRow, IsRound, IsShownBeside};
 
 use crate::assumption::Assumption;
-use crate::implied::shortened;
+use crate::implied::without_implied_values;
 use crate::rows::row_at;
-use crate::strengthening::strengthened;
+use crate::strengthening::stronger_care;
 use bdd_ops::Diagrams;
 use care_rows::{RestrictFault, Row, steady_signals};
 use care_sets::Care;
@@ -34,7 +35,7 @@ const LEAST_ROWS: usize = 4;
 
 /// What is to be made harmless.
 #[derive(Drop)]
-struct Task<'a> {
+struct Weakening<'a> {
     looped: &'a LoopedNetlist<'a>,
     care: &'a Care,
     /// Marks of the signals that no loop takes part in.
@@ -43,6 +44,10 @@ struct Task<'a> {
     settled: &'a [bool],
     limit: u32,
     observe: Observe,
+    ghost bound: { IsCareOf looped.now.net care.now },
+    ghost steady_marks: { AreSteadyMarks looped.now.net steady.now },
+    ghost settled_marks: { AreSettled looped.now settled.now },
+    ghost most: { limit ≤ most_nodes },
 }
 
 fn is_undetermined(refusal: &Refusal) -> bool
@@ -63,11 +68,10 @@ fn has_model(care: &Care) -> bool
 /// One more row, by a refusal for an undetermined wire.
 fn next_row(
     alloc: Global,
-    task: &Task<'_>,
+    task: &Weakening<'_>,
     rows: &[Row],
     refusal: &Refusal,
 ) -> Result<Row, AllocError>
-    requires steady { AreSteadyMarks task.now.looped.now.net task.now.steady.now }
     requires refused { IsShownBeside task.now.looped.now.net task.now.care.now task.now.observe rows.now refusal.now }
     requires undetermined { IsForUndetermined refusal.now }
     ensures { IfOk result (IsNextRow task.now.looped.now.net task.now.care.now task.now.observe rows.now) }
@@ -89,18 +93,17 @@ fn next_row(
 /// The same row, without values that its others imply. That is done for the first rows alone, which a person may read.
 fn short_row(
     alloc: Global,
-    task: &Task<'_>,
+    task: &Weakening<'_>,
     rows: &[Row],
     refusal: &Refusal,
 ) -> Result<Row, AllocError>
-    requires steady { AreSteadyMarks task.now.looped.now.net task.now.steady.now }
     requires refused { IsShownBeside task.now.looped.now.net task.now.care.now task.now.observe rows.now refusal.now }
     requires undetermined { IsForUndetermined refusal.now }
     ensures { IfOk result (IsNextRow task.now.looped.now.net task.now.care.now task.now.observe rows.now) }
 {
     let row = next_row(alloc, task, rows, refusal)?;
     if rows.len() < READ_ROWS {
-        shortened(alloc, task.looped, &row)
+        without_implied_values(alloc, task.looped, &row)
     } else {
         Ok(row)
     }
@@ -110,16 +113,14 @@ fn short_row(
 #[tactic(auto, using(crate::proofs::FoundLemmas::refused_rest, crate::proofs::FoundLemmas::many_rows_by))]
 fn go_on(
     alloc: Global,
-    task: &Task<'_>,
+    task: &Weakening<'_>,
     rows: &mut Vec<Row>,
     refusal: Refusal,
 ) -> Result<Option<Assumption>, AllocError>
-    requires steady { AreSteadyMarks task.now.looped.now.net task.now.steady.now }
     requires rows { AreFound task.now.looped.now.net task.now.care.now task.now.observe rows.old.items }
-    requires few { length rows.old.items ≤ 4096 }
+    requires few { length rows.old.items ≤ MAX_ROWS }
     requires refused { IsShownBeside task.now.looped.now.net task.now.care.now task.now.observe rows.old.items refusal }
-    ensures found { IfOk result (λ found. IfSome found (IsAssumption task.now.looped.now.net task.now.care.now task.now.observe)) }
-    ensures grown { IfOk result (λ found. IfNone found (HasOneMore task.now.looped.now.net task.now.care.now task.now.observe rows.old.items rows.new.items)) }
+    ensures { IfOk result (IsRound task.now.looped.now.net task.now.care.now task.now.observe rows.old.items rows.new.items) }
 {
     if !is_undetermined(&refusal) {
         return Ok(Some(Assumption::Refused(refusal)));
@@ -135,16 +136,14 @@ fn go_on(
 /// The same, where memory runs out as it does for a judgement.
 fn go_on_from(
     alloc: Global,
-    task: &Task<'_>,
+    task: &Weakening<'_>,
     rows: &mut Vec<Row>,
     refusal: Refusal,
 ) -> Result<Option<Assumption>, DecideFault>
-    requires steady { AreSteadyMarks task.now.looped.now.net task.now.steady.now }
     requires rows { AreFound task.now.looped.now.net task.now.care.now task.now.observe rows.old.items }
-    requires few { length rows.old.items ≤ 4096 }
+    requires few { length rows.old.items ≤ MAX_ROWS }
     requires refused { IsShownBeside task.now.looped.now.net task.now.care.now task.now.observe rows.old.items refusal }
-    ensures found { IfOk result (λ found. IfSome found (IsAssumption task.now.looped.now.net task.now.care.now task.now.observe)) }
-    ensures grown { IfOk result (λ found. IfNone found (HasOneMore task.now.looped.now.net task.now.care.now task.now.observe rows.old.items rows.new.items)) }
+    ensures round { IfOk result (IsRound task.now.looped.now.net task.now.care.now task.now.observe rows.old.items rows.new.items) }
     ensures fault { IfErr result (λ fault. fault ≡ DecideFault.Memory) }
 {
     match go_on(alloc, task, rows, refusal) {
@@ -156,16 +155,14 @@ fn go_on_from(
 /// The judgement on a care set that has so many rows excluded. The first rows, which a person reads most, come from least vectors,
 /// and each further one from any.
 #[tactic(auto, using(verdict::proofs::WitnessLemmas::exact_judgement))]
-fn judged(
+fn judgement_on(
     alloc: Global,
     d: &mut Diagrams,
-    task: &Task<'_>,
+    task: &Weakening<'_>,
     care: &Care,
     rows: usize,
 ) -> Result<Judgement, DecideFault>
-    requires settled { AreSettled task.now.looped.now task.now.settled.now }
     requires care { IsCareOf task.now.looped.now.net care.now }
-    requires limit { task.now.limit ≤ MAX_NODES }
     ensures judgement { IfOk result (IsSomeJudgement task.now.looped.now.net care.now task.now.observe) }
     ensures fault { IfErr result (λ fault. (fault ≡ DecideFault.Memory) ⊎ (fault ≡ DecideFault.NodeLimit task.now.limit)) }
     ensures cause { result ≡ Err (DecideFault.NodeLimit task.now.limit) → IsOutOfNodes d.new task.now.looped.now.net care.now task.now.limit }
@@ -194,21 +191,16 @@ fn judged(
 fn round_without_rows(
     alloc: Global,
     d: &mut Diagrams,
-    task: &Task<'_>,
+    task: &Weakening<'_>,
     rows: &mut Vec<Row>,
 ) -> Result<Option<Assumption>, DecideFault>
-    requires settled { AreSettled task.now.looped.now task.now.settled.now }
-    requires steady { AreSteadyMarks task.now.looped.now.net task.now.steady.now }
-    requires care { IsCareOf task.now.looped.now.net task.now.care.now }
-    requires limit { task.now.limit ≤ MAX_NODES }
     requires none { rows.old.items ≡ [] }
     requires some { (is_some task.now.care.now.assume ≡ true) ⊎ (is_some task.now.care.now.invariant ≡ true) }
-    ensures found { IfOk result (λ found. IfSome found (IsAssumption task.now.looped.now.net task.now.care.now task.now.observe)) }
-    ensures grown { IfOk result (λ found. IfNone found (HasOneMore task.now.looped.now.net task.now.care.now task.now.observe rows.old.items rows.new.items)) }
+    ensures round { IfOk result (IsRound task.now.looped.now.net task.now.care.now task.now.observe rows.old.items rows.new.items) }
     ensures fault { IfErr result (λ fault. (fault ≡ DecideFault.Memory) ⊎ (fault ≡ DecideFault.NodeLimit task.now.limit)) }
     ensures cause { result ≡ Err (DecideFault.NodeLimit task.now.limit) → RunsOutOfNodes d.new task.now.looped.now.net task.now.care.now task.now.observe task.now.limit }
 {
-    match judged(alloc, d, task, task.care, 0)? {
+    match judgement_on(alloc, d, task, task.care, 0)? {
         Judgement::Accepted { .. } => Ok(Some(Assumption::Stands)),
         Judgement::Refused(refusal) => go_on_from(alloc, task, rows, refusal),
     }
@@ -219,22 +211,18 @@ fn round_without_rows(
 fn round_on(
     alloc: Global,
     d: &mut Diagrams,
-    task: &Task<'_>,
+    task: &Weakening<'_>,
     rows: &mut Vec<Row>,
     stronger: Care,
 ) -> Result<Option<Assumption>, DecideFault>
-    requires settled { AreSettled task.now.looped.now task.now.settled.now }
-    requires steady { AreSteadyMarks task.now.looped.now.net task.now.steady.now }
-    requires limit { task.now.limit ≤ MAX_NODES }
     requires rows { AreFound task.now.looped.now.net task.now.care.now task.now.observe rows.old.items }
-    requires few { length rows.old.items ≤ 4096 }
+    requires few { length rows.old.items ≤ MAX_ROWS }
     requires excludes { Excludes task.now.looped.now.net task.now.care.now rows.old.items stronger }
-    ensures found { IfOk result (λ found. IfSome found (IsAssumption task.now.looped.now.net task.now.care.now task.now.observe)) }
-    ensures grown { IfOk result (λ found. IfNone found (HasOneMore task.now.looped.now.net task.now.care.now task.now.observe rows.old.items rows.new.items)) }
+    ensures round { IfOk result (IsRound task.now.looped.now.net task.now.care.now task.now.observe rows.old.items rows.new.items) }
     ensures fault { IfErr result (λ fault. (fault ≡ DecideFault.Memory) ⊎ (fault ≡ DecideFault.NodeLimit task.now.limit)) }
     ensures cause { result ≡ Err (DecideFault.NodeLimit task.now.limit) → RunsOutOfNodes d.new task.now.looped.now.net task.now.care.now task.now.observe task.now.limit }
 {
-    match judged(alloc, d, task, &stronger, rows.len())? {
+    match judgement_on(alloc, d, task, &stronger, rows.len())? {
         Judgement::Accepted { .. } => Ok(Some(Assumption::Weakest(stronger))),
         Judgement::Refused(refusal) => go_on_from(alloc, task, rows, refusal),
     }
@@ -245,21 +233,16 @@ fn round_on(
 fn round_with_rows(
     alloc: Global,
     d: &mut Diagrams,
-    task: &Task<'_>,
+    task: &Weakening<'_>,
     rows: &mut Vec<Row>,
 ) -> Result<Option<Assumption>, DecideFault>
-    requires settled { AreSettled task.now.looped.now task.now.settled.now }
-    requires steady { AreSteadyMarks task.now.looped.now.net task.now.steady.now }
-    requires care { IsCareOf task.now.looped.now.net task.now.care.now }
-    requires limit { task.now.limit ≤ MAX_NODES }
     requires rows { AreFound task.now.looped.now.net task.now.care.now task.now.observe rows.old.items }
-    requires few { length rows.old.items ≤ 4096 }
-    ensures found { IfOk result (λ found. IfSome found (IsAssumption task.now.looped.now.net task.now.care.now task.now.observe)) }
-    ensures grown { IfOk result (λ found. IfNone found (HasOneMore task.now.looped.now.net task.now.care.now task.now.observe rows.old.items rows.new.items)) }
+    requires few { length rows.old.items ≤ MAX_ROWS }
+    ensures round { IfOk result (IsRound task.now.looped.now.net task.now.care.now task.now.observe rows.old.items rows.new.items) }
     ensures fault { IfErr result (λ fault. (fault ≡ DecideFault.Memory) ⊎ (fault ≡ DecideFault.NodeLimit task.now.limit)) }
     ensures cause { result ≡ Err (DecideFault.NodeLimit task.now.limit) → RunsOutOfNodes d.new task.now.looped.now.net task.now.care.now task.now.observe task.now.limit }
 {
-    match strengthened(alloc, task.looped, task.care, rows) {
+    match stronger_care(alloc, task.looped, task.care, rows) {
         Ok(stronger) => round_on(alloc, d, task, rows, stronger),
         Err(RestrictFault::TooLarge { gates }) => Ok(Some(Assumption::TooLarge { gates })),
         Err(RestrictFault::Memory) => Err(DecideFault::Memory),
@@ -270,17 +253,12 @@ fn round_with_rows(
 fn round(
     alloc: Global,
     d: &mut Diagrams,
-    task: &Task<'_>,
+    task: &Weakening<'_>,
     rows: &mut Vec<Row>,
 ) -> Result<Option<Assumption>, DecideFault>
-    requires settled { AreSettled task.now.looped.now task.now.settled.now }
-    requires steady { AreSteadyMarks task.now.looped.now.net task.now.steady.now }
-    requires care { IsCareOf task.now.looped.now.net task.now.care.now }
-    requires limit { task.now.limit ≤ MAX_NODES }
     requires rows { AreFound task.now.looped.now.net task.now.care.now task.now.observe rows.old.items }
-    requires few { length rows.old.items ≤ 4096 }
-    ensures found { IfOk result (λ found. IfSome found (IsAssumption task.now.looped.now.net task.now.care.now task.now.observe)) }
-    ensures grown { IfOk result (λ found. IfNone found (HasOneMore task.now.looped.now.net task.now.care.now task.now.observe rows.old.items rows.new.items)) }
+    requires few { length rows.old.items ≤ MAX_ROWS }
+    ensures round { IfOk result (IsRound task.now.looped.now.net task.now.care.now task.now.observe rows.old.items rows.new.items) }
     ensures fault { IfErr result (λ fault. (fault ≡ DecideFault.Memory) ⊎ (fault ≡ DecideFault.NodeLimit task.now.limit)) }
     ensures cause { result ≡ Err (DecideFault.NodeLimit task.now.limit) → RunsOutOfNodes d.new task.now.looped.now.net task.now.care.now task.now.observe task.now.limit }
 {
@@ -292,11 +270,7 @@ fn round(
 }
 
 /// What is found by a task.
-fn search(alloc: Global, d: &mut Diagrams, task: &Task<'_>) -> Result<Assumption, DecideFault>
-    requires settled { AreSettled task.now.looped.now task.now.settled.now }
-    requires steady { AreSteadyMarks task.now.looped.now.net task.now.steady.now }
-    requires care { IsCareOf task.now.looped.now.net task.now.care.now }
-    requires limit { task.now.limit ≤ MAX_NODES }
+fn search(alloc: Global, d: &mut Diagrams, task: &Weakening<'_>) -> Result<Assumption, DecideFault>
     ensures found { IfOk result (IsAssumption task.now.looped.now.net task.now.care.now task.now.observe) }
     ensures fault { IfErr result (λ fault. (fault ≡ DecideFault.Memory) ⊎ (fault ≡ DecideFault.NodeLimit task.now.limit)) }
     ensures cause { result ≡ Err (DecideFault.NodeLimit task.now.limit) → RunsOutOfNodes d.new task.now.looped.now.net task.now.care.now task.now.observe task.now.limit }
@@ -346,7 +320,7 @@ pub fn weakest_assumption(
     let Ok(settled) = settled_loops(alloc, looped, LOOP_NODES) else {
         return Err(DecideFault::Memory);
     };
-    let task = Task {
+    let task = Weakening {
         looped,
         care,
         steady: &steady,

@@ -43,7 +43,7 @@ fn beside(alloc: Global, net: &Netlist, care: &Care, model: Netlist) -> Result<C
 }
 
 /// The care set with these rows excluded.
-pub(crate) fn strengthened(
+pub(crate) fn stronger_care(
     alloc: Global,
     looped: &LoopedNetlist<'_>,
     care: &Care,

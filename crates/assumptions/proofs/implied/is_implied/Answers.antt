@@ -5,8 +5,8 @@ use Rattle.care_rows.specs.declared.rows.Row.{Row}
 use Rattle.assumptions.proofs.ImpliedLemmas.{refuted_steady, found_implied}
 use Rattle.assumptions.proofs.implied.is_implied.Goals as goal
 
-pub strengthened-requires-clause-steady : goal.strengthened-requires-clause-steady
-strengthened-requires-clause-steady c =
+pub stronger_care-requires-clause-steady : goal.stronger_care-requires-clause-steady
+stronger_care-requires-clause-steady c =
     subst (λ (rows : List Row). AreSteadyRows c.args.looped.now.net rows) (sym (c.deref.ensures.value ∙ c.in_ok-rows.ensures))
     (refuted_steady c.args.looped.now.net c.args.others.now c.args.value c.requires.others c.requires.value)
 

@@ -4,7 +4,7 @@ use Rattle.care_rows.specs.declared.rows.Row.{Row}
 use Rattle.assumptions.proofs.FoundLemmas.{found_steady}
 use Rattle.assumptions.proofs.search.round_with_rows.Goals as goal
 
-pub strengthened-requires-clause-steady : goal.strengthened-requires-clause-steady
-strengthened-requires-clause-steady c =
+pub stronger_care-requires-clause-steady : goal.stronger_care-requires-clause-steady
+stronger_care-requires-clause-steady c =
     subst (λ (rs : List Row). AreSteadyRows c.args.task.now.looped.now.net rs) (sym c.deref.ensures.value)
     (found_steady c.args.task.now.looped.now.net c.args.task.now.care.now c.args.task.now.observe c.args.rows.now.items c.requires.rows)

@@ -2,7 +2,7 @@ use Rattle.std.proofs.Common.{subst}
 use Rattle.netlist.specs.declared.parts.Parts.{Parts}
 use Rattle.assumptions.specs.Making.{IsBeside}
 use Rattle.assumptions.proofs.CareLemmas.{excludes}
-use Rattle.assumptions.proofs.strengthening.strengthened.Goals as goal
+use Rattle.assumptions.proofs.strengthening.stronger_care.Goals as goal
 
 pub returns-clause-excludes : goal.returns-clause-excludes
 returns-clause-excludes c =
