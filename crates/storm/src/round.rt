@@ -5,7 +5,7 @@ ghost use Rattle.std.specs.List.{range_with_len};
 ghost use Rattle.storm.specs.Building.{FitsRound};
 ghost use Rattle.storm.specs.Plans.{each_gate};
 ghost use Rattle.storm.specs.declared.planning.StormPlan.{StormPlan as Plan};
-ghost use Rattle.storm.specs.Storms.{shakes, shaking_count, low_turn, high_turn, turn_events, storm_round, zeros_back, storm_rounds};
+ghost use Rattle.storm.specs.Storms.{shakes, shaking_count, low_turn, high_turn, turn_events, storm_round, zeros_back, storm_rounds, most_events};
 
 use crate::planning::StormPlan;
 use cyc_base::{Bits, Items};
@@ -33,7 +33,7 @@ impl<'a> StormRound<'a> {
     /// The first half of the round: each gate is computed once, the shaking ones on their low values.
     fn low_events(&self, alloc: Global) -> Result<Events, AllocError>
         requires fits { FitsRound self.now.net.now self.now.plan.now }
-        requires back { self.now.back ≤ 4000000 }
+        requires back { self.now.back ≤ most_events }
         ensures { IfOk result (λ events. events ≡ turn_events self.now.net.now self.now.plan.now self.now.back 0 (each_gate self.now.net.now (low_turn self.now.plan.now))) }
     {
         let mut events = Events::new(alloc);
@@ -66,7 +66,7 @@ impl<'a> StormRound<'a> {
     /// Adds the second half of the round: each shaking gate is computed once more, on its high values.
     fn push_high_events(&self, alloc: Global, events: &mut Events) -> Result<(), AllocError>
         requires fits { FitsRound self.now.net.now self.now.plan.now }
-        requires back { self.now.back ≤ 4000000 }
+        requires back { self.now.back ≤ most_events }
         requires first { length events.old ≡ length self.now.net.now.gates }
         ensures { OnOk result (events.new ≡ events.old ++ turn_events self.now.net.now self.now.plan.now self.now.back (length events.old) (map (high_turn self.now.plan.now) (filter (shakes self.now.plan.now) (range_with_len 0 (length self.now.net.now.gates))))) }
     {
@@ -79,7 +79,7 @@ impl<'a> StormRound<'a> {
     /// The round as it is planned: both halves.
     fn round_plan(&self, alloc: Global) -> Result<RoundPlan, AllocError>
         requires fits { FitsRound self.now.net.now self.now.plan.now }
-        requires back { self.now.back ≤ 4000000 }
+        requires back { self.now.back ≤ most_events }
         ensures { IfOk result (λ round. round ≡ storm_round self.now.net.now self.now.plan.now self.now.back) }
     {
         let mut events = self.low_events(alloc)?;
