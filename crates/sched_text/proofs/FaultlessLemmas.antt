@@ -8,8 +8,8 @@ use Rattle.std.proofs.lemmas.Bool.{eq-eqb, lt-ltb}
 use Rattle.netlist.specs.declared.parts.Init.{Init}
 use Rattle.netlist.specs.Netlists.{count}
 use Rattle.netlist.specs.Fixpoint.{Permits, IsInitialState}
-use Rattle.sched_text.specs.declared.kind.Kind.{Kind}
-use Rattle.sched_text.specs.declared.kind.Kind.TheVariants.{FormatTwo, Window, Past, Latches, State, Gates, Tick, Round, Event}
+use Rattle.sched_text.specs.declared.kind.ScheduleKind.{ScheduleKind}
+use Rattle.sched_text.specs.declared.kind.ScheduleKind.TheVariants.{FormatTwo, Window, Past, Latches, State, Gates, Tick, Round, Event}
 use Rattle.sched_text.specs.Kinds.{kind_of_words, may_follow}
 use Rattle.sched_text.specs.LineFaults.{are_bits, is_bit, is_age, has_words_of, width_fault, start_fault, fault_of_kind}
 use Rattle.sched_text.proofs.GateLemmas.{gate_of_name}
@@ -60,41 +60,41 @@ ages_are (age ∷ ages) small = rw (number_decimal age (All-head IsSmall age age
 
 -- ---- which lines may stand where
 
-round_is_in_tick : (before : Option Kind) → may_follow before Round ≡ true → may_follow before Tick ≡ true
+round_is_in_tick : (before : Option ScheduleKind) → may_follow before Round ≡ true → may_follow before Tick ≡ true
 round_is_in_tick before may = grind arith
 
-event_is_in_tick : (before : Option Kind) → may_follow before Event ≡ true → may_follow before Round ≡ true
+event_is_in_tick : (before : Option ScheduleKind) → may_follow before Event ≡ true → may_follow before Round ≡ true
 event_is_in_tick before may = grind arith
 
 -- what the latches start with, free or as their inits permit
-abbrev start_kind : Bool → Kind
+abbrev start_kind : Bool → ScheduleKind
 start_kind true = State
 start_kind false = Latches
 
-start_behind_past : (free : Bool) (before : Option Kind) → may_follow before Past ≡ true → may_follow before (start_kind free) ≡ true
+start_behind_past : (free : Bool) (before : Option ScheduleKind) → may_follow before Past ≡ true → may_follow before (start_kind free) ≡ true
 start_behind_past free before may = grind arith
 
 -- ---- lines without a fault
 
 -- behind a line of this kind, with so many ticks begun
-record At (k : Option Kind) (b : ℕ) (earlier : List Line) : Type 0 where
+record At (k : Option ScheduleKind) (b : ℕ) (earlier : List Line) : Type 0 where
   pub before : nearest earlier ≡ k
   pub begun : ticks_begun earlier ≡ b
 
 module _ (net : Parts) (ticks end : ℕ) where
-  record IsFine (before : Option Kind) (begun : ℕ) (k : Kind) (line : List (List ℕ)) : Type 0 where
+  record IsFine (before : Option ScheduleKind) (begun : ℕ) (k : ScheduleKind) (line : List (List ℕ)) : Type 0 where
     pub kind : kind_of_words line ≡ k
     pub follows : may_follow before k ≡ true
     pub words : has_words_of k (arguments line) ≡ true
     pub fault : (n : ℕ) → fault_of_kind net ticks k n begun (arguments line) ≡ None
 
   -- these lines have no fault where they stand
-  abbrev Free : Option Kind → ℕ → ℕ → List (List (List ℕ)) → Type 0
+  abbrev Free : Option ScheduleKind → ℕ → ℕ → List (List (List ℕ)) → Type 0
   Free before begun n ws = (earlier : List Line) → At before begun earlier → first_fault net ticks end earlier (numbered n ws) ≡ None
 
   -- nor wherever a line of this kind may stand
-  abbrev FreeAt : Kind → ℕ → List (List (List ℕ)) → Type 0
-  FreeAt k begun ws = (before : Option Kind) (n : ℕ) → may_follow before k ≡ true → n + length ws ≡ end → Free before begun n ws
+  abbrev FreeAt : ScheduleKind → ℕ → List (List (List ℕ)) → Type 0
+  FreeAt k begun ws = (before : Option ScheduleKind) (n : ℕ) → may_follow before k ≡ true → n + length ws ≡ end → Free before begun n ws
 
   -- a line that isn't the text's last
   before_end : (n : ℕ) (words : List (List ℕ)) (ws : List (List (List ℕ))) → n + suc (length ws) ≡ end → is_cut_off end (record { number = n; words = words }) (numbered (n + 1) ws) ≡ false
@@ -102,7 +102,7 @@ module _ (net : Parts) (ticks end : ℕ) where
   before_end n words (next ∷ ws) size = refl
 
   -- a fine line before lines without a fault
-  step : (before : Option Kind) (begun now n : ℕ) (k : Kind) (words : List (List ℕ)) (ws : List (List (List ℕ))) → IsFine before begun k words → now ≡ cond (is_tick k) 1 0 + begun → n + suc (length ws) ≡ end
+  step : (before : Option ScheduleKind) (begun now n : ℕ) (k : ScheduleKind) (words : List (List ℕ)) (ws : List (List (List ℕ))) → IsFine before begun k words → now ≡ cond (is_tick k) 1 0 + begun → n + suc (length ws) ≡ end
       → Free (Some k) now (n + 1) ws → Free before begun n (words ∷ ws)
   step before begun now n k words ws fine count size free earlier at =
       rw (at.before, at.begun, before_end n words ws size, fine.kind, fine.follows, fine.words, fine.fault n)
@@ -112,7 +112,7 @@ module _ (net : Parts) (ticks end : ℕ) where
       }))
 
   module _ (valid : IsNetlist net) where
-    event_fine : (before : Option Kind) (begun : ℕ) (planned : PlannedEvent) → may_follow before Event ≡ true → IsWritable net planned → IsFine before begun Event (event_line net planned)
+    event_fine : (before : Option ScheduleKind) (begun : ℕ) (planned : PlannedEvent) → may_follow before Event ≡ true → IsWritable net planned → IsFine before begun Event (event_line net planned)
     event_fine before begun planned may good = grind (arith, ages_are planned.event.ages good.1, gate_of_name net planned.event.gate valid good.0)
 
     events_free : (begun : ℕ) (planned : List PlannedEvent) (more : List (List (List ℕ))) → All (IsWritable net) planned → FreeAt Event begun more → FreeAt Event begun (map (event_line net) planned ++ more)
@@ -159,7 +159,7 @@ module _ (net : Parts) (ticks end : ℕ) where
         (record { kind = refl; follows = may; words = words_are_bits moment; fault = λ n. width_is n (count net) moment width }) refl size
         (past_free past more (All-tail (λ (m : List Bool). length m ≡ count net) moment past widths) free (Some Past) (n + 1) refl (omega (arith, size)))
 
-    start_fine : (before : Option Kind) (free : Bool) (bits : List Bool) → may_follow before Past ≡ true → length bits ≡ length net.latches → (free ≡ false → IsInitialState net bits)
+    start_fine : (before : Option ScheduleKind) (free : Bool) (bits : List Bool) → may_follow before Past ≡ true → length bits ≡ length net.latches → (free ≡ false → IsInitialState net bits)
         → IsFine before 0 (start_kind free) (start_word free ∷ bits_words bits)
     start_fine before free bits may width initial = grind (arith, start_behind_past, words_are_bits, width_is, start_is)
 

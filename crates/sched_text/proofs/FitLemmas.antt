@@ -13,8 +13,8 @@ use Rattle.netlist.specs.declared.parts.Init.{Init}
 use Rattle.netlist.specs.Netlists.{count}
 use Rattle.netlist.specs.Fixpoint.{Permits, IsInitialState}
 use Rattle.sched_text.specs.declared.fault.SchedFault.TheVariants.{TickCount}
-use Rattle.sched_text.specs.declared.kind.Kind.{Kind}
-use Rattle.sched_text.specs.declared.kind.Kind.TheVariants as kinds
+use Rattle.sched_text.specs.declared.kind.ScheduleKind.{ScheduleKind}
+use Rattle.sched_text.specs.declared.kind.ScheduleKind.TheVariants as kinds
 use Rattle.sched_text.specs.Kinds.{is_of_a_tick, may_follow}
 use Rattle.sched_text.specs.LineFaults.{has_words_of, width_fault, start_fault, gate_fault, tick_fault, fault_of_kind, fault_of_words, line_fault}
 use Rattle.sched_text.specs.Statements.{gate_of, planned, statement_of}
@@ -56,34 +56,34 @@ event_added gates event inside tick good = by tick.round good
 
 -- ---- what is known behind a line of each kind
 
-abbrev is_start : Option Kind → Bool
+abbrev is_start : Option ScheduleKind → Bool
 is_start (Some kinds.Latches) = true
 is_start (Some kinds.State) = true
 is_start before = false
 
 -- what the latches start with was told
-abbrev has_start : Option Kind → Bool
+abbrev has_start : Option ScheduleKind → Bool
 has_start before = is_start before || not (lacks_lines before)
 
 record FitStart (net : Parts) (free : Bool) (latches : List Bool) : Type 0 where
   width : length latches ≡ length net.latches
   permitted : free ≡ false → IsInitialState net latches
 
-record FitsSoFar (net : Parts) (ticks : ℕ) (before : Option Kind) (begun : ℕ) (draft : Draft) : Type 0 where
+record FitsSoFar (net : Parts) (ticks : ℕ) (before : Option ScheduleKind) (begun : ℕ) (draft : Draft) : Type 0 where
   past : All (λ moment. length moment ≡ count net) draft.past
   start : has_start before ≡ true → FitStart net draft.free draft.latches
   gates : lacks_lines before ≡ false → length draft.gates ≡ length net.gates
   ticks_so_far : FitTicks (length net.gates) ticks begun (ended_ticks draft)
 
-started : (before : Option Kind) → may_follow before kinds.Gates ≡ true → has_start before ≡ true
+started : (before : Option ScheduleKind) → may_follow before kinds.Gates ≡ true → has_start before ≡ true
 started before may = grind arith
 
 -- a line of a tick stands behind a whole head
-pub head_before : (k : Kind) → is_of_a_tick k ≡ true → (before : Option Kind) → may_follow before k ≡ true → lacks_lines before ≡ false
+pub head_before : (k : ScheduleKind) → is_of_a_tick k ≡ true → (before : Option ScheduleKind) → may_follow before k ≡ true → lacks_lines before ≡ false
 head_before k of before may = grind arith
 
 -- the head is whole, so the start was told
-start_in_head : (before : Option Kind) → lacks_lines before ≡ false → has_start before ≡ true
+start_in_head : (before : Option ScheduleKind) → lacks_lines before ≡ false → has_start before ≡ true
 start_in_head before whole = rw whole (or-true (is_start before))
 
 -- ---- what a line without a fault says
@@ -118,21 +118,21 @@ tick_fits n ticks begun none = ltb-true begun ticks (passes (nat_lt begun ticks)
 
 -- ---- a line behind others
 
-module _ (net : Parts) (ticks : ℕ) (before : Option Kind) (begun : ℕ) (draft : Draft) (n : ℕ) (words : List (List ℕ)) (at : FitsSoFar net ticks before begun draft) where
-  abbrev now : Kind → Draft
+module _ (net : Parts) (ticks : ℕ) (before : Option ScheduleKind) (begun : ℕ) (draft : Draft) (n : ℕ) (words : List (List ℕ)) (at : FitsSoFar net ticks before begun draft) where
+  abbrev now : ScheduleKind → Draft
   now k = follow draft (statement_of net k n words)
 
-  past_next : (k : Kind) → fault_of_kind net ticks k n begun words ≡ None → All (λ moment. length moment ≡ count net) (now k).past
+  past_next : (k : ScheduleKind) → fault_of_kind net ticks k n begun words ≡ None → All (λ moment. length moment ≡ count net) (now k).past
   past_next kinds.Past none = All-push (λ moment. length moment ≡ count net) draft.past (bits_of words) at.past (width_is n (count net) (bits_of words) none)
   past_next k none = at.past
 
-  start_next : (k : Kind) → may_follow before k ≡ true → fault_of_kind net ticks k n begun words ≡ None → has_start (Some k) ≡ true → FitStart net (now k).free (now k).latches
+  start_next : (k : ScheduleKind) → may_follow before k ≡ true → fault_of_kind net ticks k n begun words ≡ None → has_start (Some k) ≡ true → FitStart net (now k).free (now k).latches
   start_next k may none told = grind (arith, option_or-neither, width_is, permitted, initial, started, start_in_head, head_before)
 
-  gates_next : (k : Kind) → may_follow before k ≡ true → fault_of_kind net ticks k n begun words ≡ None → lacks_lines (Some k) ≡ false → length (now k).gates ≡ length net.gates
+  gates_next : (k : ScheduleKind) → may_follow before k ≡ true → fault_of_kind net ticks k n begun words ≡ None → lacks_lines (Some k) ≡ false → length (now k).gates ≡ length net.gates
   gates_next k may none whole = grind arith
 
-  ticks_next : (k : Kind) → has_words_of k words ≡ true → fault_of_kind net ticks k n begun words ≡ None
+  ticks_next : (k : ScheduleKind) → has_words_of k words ≡ true → fault_of_kind net ticks k n begun words ≡ None
       → FitTicks (length net.gates) ticks (cond (is_tick k) 1 0 + begun) (ended_ticks (now k))
   ticks_next kinds.Tick good none =
       let held = at.ticks_so_far in
@@ -149,12 +149,12 @@ module _ (net : Parts) (ticks : ℕ) (before : Option Kind) (begun : ℕ) (draft
       (event_added (length net.gates) (planned net n words) (gate_inside net n words good none)) at.ticks_so_far
   ticks_next k good none = let held = at.ticks_so_far in record { events = held.events; count = omega arith; few = omega arith }
 
-  fits_next : (k : Kind) → may_follow before k ≡ true → fault_of_words net ticks k n begun words ≡ None → FitsSoFar net ticks (Some k) (cond (is_tick k) 1 0 + begun) (now k)
+  fits_next : (k : ScheduleKind) → may_follow before k ≡ true → fault_of_words net ticks k n begun words ≡ None → FitsSoFar net ticks (Some k) (cond (is_tick k) 1 0 + begun) (now k)
   fits_next k may none = grind (arith, passes, past_next, start_next, gates_next, ticks_next)
 
 -- ---- the end, and all lines
 
-fits_end : (net : Parts) (ticks end : ℕ) (before : Option Kind) (begun : ℕ) (draft : Draft)
+fits_end : (net : Parts) (ticks end : ℕ) (before : Option ScheduleKind) (begun : ℕ) (draft : Draft)
     → FitsSoFar net ticks before begun draft → fault_at_end ticks end before begun ≡ None → FitsNetlist net ticks (ended draft)
 fits_end net ticks end before begun draft at none = grind arith
 

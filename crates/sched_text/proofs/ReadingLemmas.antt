@@ -5,7 +5,7 @@ use Rattle.std.specs.Prelude.{◌==◌, ◌&&◌}
 use Rattle.std.proofs.Math.Seq.{drop-append_seam}
 use Rattle.std.proofs.lemmas.List.{get_or-drop, get_or_append_left, drop-drop}
 use Rattle.blif_text.specs.Texts.{unless_bad}
-use Rattle.sched_text.specs.declared.place.Place.{Place}
+use Rattle.sched_text.specs.declared.place.SchedulePlace.{SchedulePlace}
 use Rattle.sched_text.specs.Faults.{of_lines}
 use Rattle.sched_text.specs.LineFaults.{place_behind}
 use Rattle.sched_text.specs.Schedules.{schedule_read}
@@ -21,13 +21,13 @@ use Rattle.sched_text.proofs.ScheduleLemmas.{at_next, at_fault, answers_end}
 abbrev pub ends_here : ℕ → Line → Bool
 ends_here end line = (line.number == end) && lacks_lines (Some (kind line))
 
-module _ (net : Parts) (ticks end : ℕ) (piece : List Line) (place : Place) (draft : Draft) where
-  module _ (now : Place) (so_far : Draft) (i : ℕ) (before : ReadsPiece net ticks end piece place draft now so_far i) (inside : i < length piece) where
+module _ (net : Parts) (ticks end : ℕ) (piece : List Line) (place : SchedulePlace) (draft : Draft) where
+  module _ (now : SchedulePlace) (so_far : Draft) (i : ℕ) (before : ReadsPiece net ticks end piece place draft now so_far i) (inside : i < length piece) where
     cut_here : (lines : List Line) (base : ℕ) → IsPieceOf end lines base piece
         → is_cut_off end (line_at lines (base + i)) (drop (base + i + 1) lines) ≡ ends_here end (line_at lines (base + i))
     cut_here lines base is = let within = is.within in is.ends (base + i) (omega arith)
 
-    pub piece_next : (next : Place) (after : Draft) → fault_at net ticks now.before now.begun (ends_here end (line_at piece i)) (line_at piece i) ≡ None
+    pub piece_next : (next : SchedulePlace) (after : Draft) → fault_at net ticks now.before now.begun (ends_here end (line_at piece i)) (line_at piece i) ≡ None
         → after ≡ follow so_far (statement net (line_at piece i))
         → next.before ≡ Some (kind (line_at piece i)) → next.begun ≡ cond (is_tick (kind (line_at piece i))) 1 0 + now.begun → next.begun ≤ now.begun + 1
         → ReadsPiece net ticks end piece place draft next after (i + 1)
@@ -48,7 +48,7 @@ bad_answer read bad all fault is = grind arith
 
 module _ (net : Parts) (ticks end : ℕ) (text : List ℕ) where
   -- so many lines were read, and these are left
-  pub record AtPiece (done : ℕ) (left : List ℕ) (place : Place) (draft : Draft) : Type 0 where
+  pub record AtPiece (done : ℕ) (left : List ℕ) (place : SchedulePlace) (draft : Draft) : Type 0 where
     pub base : ℕ
     pub inside : base ≤ length (lines_from 1 text)
     pub lines : drop base (lines_from 1 text) ≡ lines_from (done + 1) left
@@ -67,7 +67,7 @@ module _ (net : Parts) (ticks end : ℕ) (text : List ℕ) (end_is : end ≡ end
   ends : (i : ℕ) → i < length all_lines → is_cut_off end (line_at all_lines i) (drop (i + 1) all_lines) ≡ ends_here end (line_at all_lines i)
   ends i inside = grind (arith, cases_lt, size_of_physical, rising, ne_eqb, drop_of_length-le)
 
-  module _ (done : ℕ) (left : List ℕ) (place : Place) (draft : Draft) (at : AtPiece net ticks end text done left place draft) where
+  module _ (done : ℕ) (left : List ℕ) (place : SchedulePlace) (draft : Draft) (at : AtPiece net ticks end text done left place draft) where
     pub bad_here : (fault : SchedFault) → option_map (λ n. BadLine n) (bad_line (done + 1) left) ≡ Some fault → schedule_read text net ticks ≡ Err fault
     bad_here fault is = bad_answer (schedule net ticks (end_number text)) (bad_line 1 text) all_lines fault (ap (option_map (λ n. BadLine n)) at.bad ∙ is)
 
@@ -87,7 +87,7 @@ module _ (net : Parts) (ticks end : ℕ) (text : List ℕ) (end_is : end ≡ end
       pub few : place.begun + length piece ≤ end
       few = grind (arith, size_of_physical, numbered_few, within)
 
-      pub at_later : (now : Place) (so_far : Draft) → ReadsPiece net ticks end piece place draft now so_far (length piece) → AtPiece net ticks end text after later now so_far
+      pub at_later : (now : SchedulePlace) (so_far : Draft) → ReadsPiece net ticks end piece place draft now so_far (length piece) → AtPiece net ticks end text after later now so_far
       at_later now so_far reads = record {
         base = at.base + length piece;
         inside = within;

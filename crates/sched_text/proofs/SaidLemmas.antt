@@ -3,8 +3,8 @@ use Rattle.std.proofs.Common.{◌≡◌, ◌+◌, ℕ, Bool, false, ◌||◌, Li
 use Rattle.sched_text.proofs.Common.{codes, decimal, unwrap_or, flat_map, list_any, option_or, All-nil, All-cons, All-head, All-tail, Parts, IsNetlist, PlannedEvent, RoundPlan, Schedule, end_number, IsLine, numbered, unless, arguments, IsSmall, schedule, statement, Draft, new_draft, follow, bits_words, past_line, start_word, event_line, round_lines, tick_lines, lines_of}
 use Rattle.std.specs.List.{filter_map, cons_option}
 use Rattle.std.specs.declared.option.Option.{Option}
-use Rattle.sched_text.specs.declared.statement.Statement.{Statement}
-use Rattle.sched_text.specs.declared.statement.Statement.TheVariants.{Format, Window, Past, Gates, Tick, Round, Event}
+use Rattle.sched_text.specs.declared.statement.ScheduleStatement.{ScheduleStatement}
+use Rattle.sched_text.specs.declared.statement.ScheduleStatement.TheVariants.{Format, Window, Past, Gates, Tick, Round, Event}
 use Rattle.sched_text.specs.Faults.{of_lines}
 use Rattle.sched_text.specs.Numbers.{number_of}
 use Rattle.sched_text.specs.ReadingBack.{event_unnumbered, round_unnumbered, unnumbered, WrittenReadsBack}
@@ -22,7 +22,7 @@ use Rattle.sched_text.proofs.FaultlessLemmas.{bits_back, no_fault}
 use Rattle.sched_text.proofs.NamedLemmas.{lines_named}
 
 -- a statement tells nothing of the head
-record TellsNothing (said : Statement) : Type 0 where
+record TellsNothing (said : ScheduleStatement) : Type 0 where
   pub window : window_told said ≡ None
   pub past : past_told said ≡ None
   pub start : start_told said ≡ None
@@ -38,52 +38,52 @@ round_tells n = record { window = refl; past = refl; start = refl; gates = refl;
 tick_tells : TellsNothing Tick
 tick_tells = record { window = refl; past = refl; start = refl; gates = refl; state = refl }
 
-last_none : {X : Type 0} (told : Statement → Option X) (said : List Statement) → All (λ s. told s ≡ None) said → last_there told said ≡ None
+last_none : {X : Type 0} (told : ScheduleStatement → Option X) (said : List ScheduleStatement) → All (λ s. told s ≡ None) said → last_there told said ≡ None
 last_none told [] none = refl
 last_none told (s ∷ said) none =
     ap (λ o. option_or o (told s)) (last_none told said (All-tail (λ s. told s ≡ None) s said none)) ∙ All-head (λ s. told s ≡ None) s said none
 
-kept_none : {X : Type 0} (told : Statement → Option X) (said : List Statement) → All (λ s. told s ≡ None) said → filter_map told said ≡ []
+kept_none : {X : Type 0} (told : ScheduleStatement → Option X) (said : List ScheduleStatement) → All (λ s. told s ≡ None) said → filter_map told said ≡ []
 kept_none told [] none = refl
 kept_none told (s ∷ said) none =
     ap (λ o. cons_option o (filter_map told said)) (All-head (λ s. told s ≡ None) s said none) ∙ kept_none told said (All-tail (λ s. told s ≡ None) s said none)
 
-any_none : (p : Statement → Bool) (said : List Statement) → All (λ s. p s ≡ false) said → list_any p said ≡ false
+any_none : (p : ScheduleStatement → Bool) (said : List ScheduleStatement) → All (λ s. p s ≡ false) said → list_any p said ≡ false
 any_none p [] none = refl
 any_none p (s ∷ said) none =
     ap (λ t. t || list_any p said) (All-head (λ s. p s ≡ false) s said none) ∙ any_none p said (All-tail (λ s. p s ≡ false) s said none)
 
 module _ (net : Parts) where
   -- what lines of these words say, numbered from n
-  abbrev pub says : ℕ → List (List (List ℕ)) → List Statement
+  abbrev pub says : ℕ → List (List (List ℕ)) → List ScheduleStatement
   says n ws = map (statement net) (numbered n ws)
 
   says-append : (n : ℕ) (xs ys : List (List (List ℕ))) → says n (xs ++ ys) ≡ says n xs ++ says (n + length xs) ys
   says-append n [] ys = ap (λ k. says k ys) (let e : n ≡ n + 0 = omega arith in e)
   says-append n (x ∷ xs) ys = grind (arith, says-append (n + 1) xs ys)
 
-  says_before : (n : ℕ) (xs ys : List (List (List ℕ))) (rest : List Statement) → says n (xs ++ ys) ++ rest ≡ says n xs ++ (says (n + length xs) ys ++ rest)
+  says_before : (n : ℕ) (xs ys : List (List (List ℕ))) (rest : List ScheduleStatement) → says n (xs ++ ys) ++ rest ≡ says n xs ++ (says (n + length xs) ys ++ rest)
   says_before n xs ys rest = ap (λ l. l ++ rest) (says-append n xs ys) ∙ append_assoc (says n xs) (says (n + length xs) ys) rest
 
   -- ---- events, rounds and ticks
 
   -- where the first of these lines is a tick, nothing else is ahead
-  tick_first : {X : Type 0} (ahead : List Statement → List X) → ahead [] ≡ [] → ((rest : List Statement) → ahead (Tick ∷ rest) ≡ [])
+  tick_first : {X : Type 0} (ahead : List ScheduleStatement → List X) → ahead [] ≡ [] → ((rest : List ScheduleStatement) → ahead (Tick ∷ rest) ≡ [])
       → (n : ℕ) (ticks : List (List RoundPlan)) → ahead (says n (flat_map (tick_lines net) ticks)) ≡ []
   tick_first ahead none over n [] = none
   tick_first ahead none over n (tick ∷ ticks) = over (says (n + 1) (flat_map (round_lines net) tick ++ flat_map (tick_lines net) ticks))
 
-  no_event_first : (n : ℕ) (rounds : List RoundPlan) (rest : List Statement) → events_ahead rest ≡ [] → events_ahead (says n (flat_map (round_lines net) rounds) ++ rest) ≡ []
+  no_event_first : (n : ℕ) (rounds : List RoundPlan) (rest : List ScheduleStatement) → events_ahead rest ≡ [] → events_ahead (says n (flat_map (round_lines net) rounds) ++ rest) ≡ []
   no_event_first n [] rest none = none
   no_event_first n (round ∷ rounds) rest none = refl
 
   -- events are passed over
-  events_passed : {X : Type 0} (ahead : List Statement → List X) → ((p : PlannedEvent) (rest : List Statement) → ahead (Event p ∷ rest) ≡ ahead rest)
-      → (n : ℕ) (ps : List PlannedEvent) (rest : List Statement) → ahead (says n (map (event_line net) ps) ++ rest) ≡ ahead rest
+  events_passed : {X : Type 0} (ahead : List ScheduleStatement → List X) → ((p : PlannedEvent) (rest : List ScheduleStatement) → ahead (Event p ∷ rest) ≡ ahead rest)
+      → (n : ℕ) (ps : List PlannedEvent) (rest : List ScheduleStatement) → ahead (says n (map (event_line net) ps) ++ rest) ≡ ahead rest
   events_passed ahead pass n [] rest = refl
   events_passed ahead pass n (p ∷ ps) rest = grind (arith, events_passed ahead pass (n + 1) ps rest)
 
-  rounds_end_no_tick : (n : ℕ) (rounds : List RoundPlan) (rest : List Statement) → ticks_ahead (says n (flat_map (round_lines net) rounds) ++ rest) ≡ ticks_ahead rest
+  rounds_end_no_tick : (n : ℕ) (rounds : List RoundPlan) (rest : List ScheduleStatement) → ticks_ahead (says n (flat_map (round_lines net) rounds) ++ rest) ≡ ticks_ahead rest
   rounds_end_no_tick n [] rest = refl
   rounds_end_no_tick n (round ∷ rounds) rest =
       let m : ℕ = n + 1 + length (map (event_line net) round.events) in
@@ -97,17 +97,17 @@ module _ (net : Parts) where
     event_back : (n : ℕ) (p : PlannedEvent) → IsWritable net p → planned net n (arguments (event_line net p)) ≡ record { line = n; event = p.event }
     event_back n p good = rw (gate_of_name net p.event.gate valid good.0, ages_back p.event.ages good.1) refl
 
-    events_said : (n : ℕ) (ps : List PlannedEvent) (rest : List Statement) → All (IsWritable net) ps
+    events_said : (n : ℕ) (ps : List PlannedEvent) (rest : List ScheduleStatement) → All (IsWritable net) ps
         → map event_unnumbered (events_ahead (says n (map (event_line net) ps) ++ rest)) ≡ map event_unnumbered ps ++ map event_unnumbered (events_ahead rest)
     events_said n [] rest good = refl
     events_said n (p ∷ ps) rest good = grind (arith, event_back n p (All-head (IsWritable net) p ps good), All-head (IsWritable net) p ps good, events_said (n + 1) ps rest (All-tail (IsWritable net) p ps good), All-tail (IsWritable net) p ps good)
 
-    rounds_said : (n : ℕ) (rounds : List RoundPlan) (rest : List Statement) → All (AreWritable net) rounds → events_ahead rest ≡ []
+    rounds_said : (n : ℕ) (rounds : List RoundPlan) (rest : List ScheduleStatement) → All (AreWritable net) rounds → events_ahead rest ≡ []
         → map round_unnumbered (rounds_ahead (says n (flat_map (round_lines net) rounds) ++ rest)) ≡ map round_unnumbered rounds ++ map round_unnumbered (rounds_ahead rest)
     rounds_said n [] rest good none = refl
     rounds_said n (round ∷ rounds) rest good none =
         let m : ℕ = n + 1 + length (map (event_line net) round.events) in
-        let later : List Statement = says m (flat_map (round_lines net) rounds) ++ rest in
+        let later : List ScheduleStatement = says m (flat_map (round_lines net) rounds) ++ rest in
         let here = events_said (n + 1) round.events later (All-head (AreWritable net) round rounds good) in
         rw (
           says_before (n + 1) (map (event_line net) round.events) (flat_map (round_lines net) rounds) rest,
@@ -123,13 +123,13 @@ module _ (net : Parts) where
     ticks_said n [] good = refl
     ticks_said n (tick ∷ ticks) good =
         let m : ℕ = n + 1 + length (flat_map (round_lines net) tick) in
-        let later : List Statement = says m (flat_map (tick_lines net) ticks) in
+        let later : List ScheduleStatement = says m (flat_map (tick_lines net) ticks) in
         let here = rounds_said (n + 1) tick later (All-head (All (AreWritable net)) tick ticks good) (tick_first events_ahead refl (λ rest. refl) m ticks) in
         grind (arith, says-append (n + 1) (flat_map (round_lines net) tick) (flat_map (tick_lines net) ticks), tick_first rounds_ahead, append-nil (map round_unnumbered tick), rounds_end_no_tick (n + 1) tick later, ticks_said m ticks (All-tail (All (AreWritable net)) tick ticks good), All-tail (All (AreWritable net)) tick ticks good)
 
   -- ---- lines of ticks say nothing of the head
 
-  says_each : (P : Statement → Type 0) (n : ℕ) (ws : List (List (List ℕ))) → All (λ words. (k : ℕ) → P (statement net (record { number = k; words = words }))) ws → All P (says n ws)
+  says_each : (P : ScheduleStatement → Type 0) (n : ℕ) (ws : List (List (List ℕ))) → All (λ words. (k : ℕ) → P (statement net (record { number = k; words = words }))) ws → All P (says n ws)
   says_each P n [] each = All-nil P
   says_each P n (w ∷ ws) each =
       let Q : List (List ℕ) → Type 0 = λ words. (k : ℕ) → P (statement net (record { number = k; words = words })) in
@@ -150,7 +150,7 @@ module _ (net : Parts) where
       let rest = says (n + 1) (map past_line past ++ more) in
       grind (arith, bits_back moment, whole_step draft (Past moment) rest, past_said (n + 1) (follow draft (Past moment)) past more, append_assoc draft.past (moment ∷ []) past)
 
-  start_said : (n : ℕ) (draft : Draft) (free : Bool) (bits : List Bool) (rest : List Statement) → draft.free ≡ false
+  start_said : (n : ℕ) (draft : Draft) (free : Bool) (bits : List Bool) (rest : List ScheduleStatement) → draft.free ≡ false
       → whole draft (statement net (record { number = n; words = start_word free ∷ bits_words bits }) ∷ rest) ≡ whole (record draft { free = free; latches = bits }) rest
   start_said n draft free bits rest held = grind (arith, bits_back, whole_step)
 
@@ -185,7 +185,7 @@ module _ (net : Parts) where
 
     said_back : IsNetlist net → All (All (AreWritable net)) s.ticks → unnumbered (schedule_of (says 1 (lines_of net s))) ≡ unnumbered s
     said_back valid good =
-        let later : List Statement = says last_number tick_part in
+        let later : List ScheduleStatement = says last_number tick_part in
         grind (arith, ticks_tell last_number s.ticks good, head_said, last_none window_told later, last_none start_told later, last_none gates_told later, kept_none past_told later, append-nil s.past, any_none is_state later, or-false s.free, ticks_said valid last_number s.ticks good)
 
 pub reads_back : WrittenReadsBack

@@ -11,9 +11,9 @@ use Rattle.netlist.specs.Netlists.{count}
 use Rattle.blif_text.specs.Texts.{Line}
 use Rattle.sched_text.specs.declared.fault.SchedFault.{SchedFault}
 use Rattle.sched_text.specs.declared.fault.SchedFault.TheVariants.{BadLine, WrongWidth, BadStart, UnknownGate, TickCount}
-use Rattle.sched_text.specs.declared.kind.Kind.{Kind}
-use Rattle.sched_text.specs.declared.kind.Kind.TheVariants.{FormatOne, FormatTwo, Window, Past, Latches, State, Gates, Tick, Round, Event, Unknown}
-use Rattle.sched_text.specs.declared.place.Place.{Place}
+use Rattle.sched_text.specs.declared.kind.ScheduleKind.{ScheduleKind}
+use Rattle.sched_text.specs.declared.kind.ScheduleKind.TheVariants.{FormatOne, FormatTwo, Window, Past, Latches, State, Gates, Tick, Round, Event, Unknown}
+use Rattle.sched_text.specs.declared.place.SchedulePlace.{SchedulePlace}
 use Rattle.sched_text.specs.Kinds.{kind, is_tick, may_follow, lacks_lines}
 use Rattle.sched_text.specs.Numbers.{number}
 
@@ -58,7 +58,7 @@ is_event [] = false
 is_event (name ∷ ages) = list_all is_age ages
 
 -- the words behind the first are those of a line of this kind
-abbrev pub has_words_of : Kind → List (List ℕ) → Bool
+abbrev pub has_words_of : ScheduleKind → List (List ℕ) → Bool
 has_words_of FormatOne words = true
 has_words_of FormatTwo words = true
 has_words_of Window words = is_number words
@@ -101,7 +101,7 @@ gate_fault net n (name ∷ ages) = if is_some (gate_number net name) then None e
 abbrev pub tick_fault : ℕ → ℕ → ℕ → Option SchedFault
 tick_fault n ticks begun = if nat_lt begun ticks then None else Some (TickCount n)
 
-abbrev pub fault_of_kind : Parts → ℕ → Kind → ℕ → ℕ → List (List ℕ) → Option SchedFault
+abbrev pub fault_of_kind : Parts → ℕ → ScheduleKind → ℕ → ℕ → List (List ℕ) → Option SchedFault
 fault_of_kind net ticks Past n begun words = width_fault n (count net) (bits_of words)
 fault_of_kind net ticks Latches n begun words =
     option_or (width_fault n (length net.latches) (bits_of words)) (start_fault n net.latches (bits_of words))
@@ -112,14 +112,14 @@ fault_of_kind net ticks Tick n begun words = tick_fault n ticks begun
 fault_of_kind net ticks other n begun words = None
 
 -- the words behind the first, where these are behind a first word that makes the line one of this kind
-abbrev pub fault_of_words : Parts → ℕ → Kind → ℕ → ℕ → List (List ℕ) → Option SchedFault
+abbrev pub fault_of_words : Parts → ℕ → ScheduleKind → ℕ → ℕ → List (List ℕ) → Option SchedFault
 fault_of_words net ticks k n begun words =
     if has_words_of k words then fault_of_kind net ticks k n begun words else Some (BadLine n)
 
 -- Where a line lies.
 
 -- the kind of the line directly before
-abbrev pub nearest : List Line → Option Kind
+abbrev pub nearest : List Line → Option ScheduleKind
 nearest [] = None
 nearest (line ∷ earlier) = Some (kind line)
 
@@ -130,7 +130,7 @@ begins_tick line = is_tick (kind line)
 abbrev pub ticks_begun : List Line → ℕ
 ticks_begun earlier = count_by begins_tick earlier
 
-abbrev pub place_behind : List Line → Place
+abbrev pub place_behind : List Line → SchedulePlace
 place_behind earlier = record { before = nearest earlier; begun = ticks_begun earlier }
 
 -- the text ends in the line, and a line is missing behind it
@@ -139,7 +139,7 @@ is_cut_off end line [] = (line.number == end) && lacks_lines (Some (kind line))
 is_cut_off end line (next ∷ rest) = false
 
 -- The fault of a line of this kind behind a line of another, where so many ticks began before. The text may be cut off.
-abbrev pub fault_at : Parts → ℕ → Option Kind → ℕ → Bool → Line → Option SchedFault
+abbrev pub fault_at : Parts → ℕ → Option ScheduleKind → ℕ → Bool → Line → Option SchedFault
 fault_at net ticks before begun cut_off line =
     if may_follow before (kind line) && not cut_off
     then fault_of_words net ticks (kind line) line.number begun (arguments line.words)
@@ -151,7 +151,7 @@ line_fault net ticks end earlier line rest =
     fault_at net ticks (nearest earlier) (ticks_begun earlier) (is_cut_off end line rest) line
 
 -- the fault of the end, behind a line of this kind: a line is missing, or there are fewer ticks
-abbrev pub fault_at_end : ℕ → ℕ → Option Kind → ℕ → Option SchedFault
+abbrev pub fault_at_end : ℕ → ℕ → Option ScheduleKind → ℕ → Option SchedFault
 fault_at_end ticks end before begun =
     if lacks_lines before then Some (BadLine end)
     else (if nat_lt begun ticks then Some (TickCount end) else None)

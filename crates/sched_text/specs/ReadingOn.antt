@@ -9,8 +9,8 @@ use Rattle.delay_core.specs.declared.plan.Schedule.{Schedule}
 use Rattle.blif_text.specs.Texts.{Line}
 use Rattle.blif_text.specs.Lines.{line_at}
 use Rattle.sched_text.specs.declared.fault.SchedFault.{SchedFault}
-use Rattle.sched_text.specs.declared.place.Place.{Place}
-use Rattle.sched_text.specs.declared.statement.Statement.{Statement}
+use Rattle.sched_text.specs.declared.place.SchedulePlace.{SchedulePlace}
+use Rattle.sched_text.specs.declared.statement.ScheduleStatement.{ScheduleStatement}
 use Rattle.sched_text.specs.Faults.{unless}
 use Rattle.sched_text.specs.Kinds.{kind, lacks_lines}
 use Rattle.sched_text.specs.LineFaults.{nearest, ticks_begun, is_cut_off, first_fault}
@@ -20,15 +20,15 @@ use Rattle.sched_text.specs.Running.{OpenTick, Draft}
 
 -- ---- the schedule, of what is said so far and of what follows
 
-abbrev pub rounds_from : Option RoundPlan → List Statement → List RoundPlan
+abbrev pub rounds_from : Option RoundPlan → List ScheduleStatement → List RoundPlan
 rounds_from None said = rounds_ahead said
 rounds_from (Some round) said = record { line = round.line; events = round.events ++ events_ahead said } ∷ rounds_ahead said
 
-abbrev pub ticks_from : Option OpenTick → List Statement → List (List RoundPlan)
+abbrev pub ticks_from : Option OpenTick → List ScheduleStatement → List (List RoundPlan)
 ticks_from None said = ticks_ahead said
 ticks_from (Some tick) said = (tick.rounds ++ rounds_from tick.round said) ∷ ticks_ahead said
 
-abbrev pub whole : Draft → List Statement → Schedule
+abbrev pub whole : Draft → List ScheduleStatement → Schedule
 whole draft said = record {
   window = unwrap_or (last_there window_told said) draft.window;
   past = draft.past ++ filter_map past_told said;
@@ -49,7 +49,7 @@ abbrev pub answer : Parts → ℕ → ℕ → Draft → List Line → List Line 
 answer net ticks end draft earlier rest = unless (first_fault net ticks end earlier rest) (whole draft (map (statement net) rest))
 
 -- the lines up to a place are read: what the rest adds to them is what all lines are
-pub record ReadsAt (net : Parts) (ticks end : ℕ) (lines : List Line) (place : Place) (draft : Draft) (i : ℕ) : Type 0 where
+pub record ReadsAt (net : Parts) (ticks end : ℕ) (lines : List Line) (place : SchedulePlace) (draft : Draft) (i : ℕ) : Type 0 where
   pub nearest : place.before ≡ nearest (before lines i)
   pub begun : place.begun ≡ ticks_begun (before lines i)
   pub few : place.begun ≤ i
@@ -62,13 +62,13 @@ pub record IsPieceOf (end : ℕ) (lines : List Line) (base : ℕ) (piece : List 
   pub ends : (i : ℕ) → i < length lines → is_cut_off end (line_at lines i) (drop (i + 1) lines) ≡ (((line_at lines i).number == end) && lacks_lines (Some (kind (line_at lines i))))
 
 -- Whatever lines a piece is of: a reader at its begin is then at its end.
-abbrev pub ReadsPiece : Parts → ℕ → ℕ → List Line → Place → Draft → Place → Draft → ℕ → Type 0
+abbrev pub ReadsPiece : Parts → ℕ → ℕ → List Line → SchedulePlace → Draft → SchedulePlace → Draft → ℕ → Type 0
 ReadsPiece net ticks end piece place draft next after count =
     (lines : List Line) (base : ℕ) → IsPieceOf end lines base piece →
     ReadsAt net ticks end lines place draft base → ReadsAt net ticks end lines next after (base + count)
 
 -- And a fault in it is that of all lines.
-abbrev pub FailsPiece : Parts → ℕ → ℕ → List Line → Place → Draft → SchedFault → Type 0
+abbrev pub FailsPiece : Parts → ℕ → ℕ → List Line → SchedulePlace → Draft → SchedFault → Type 0
 FailsPiece net ticks end piece place draft fault =
     (lines : List Line) (base : ℕ) → IsPieceOf end lines base piece →
     ReadsAt net ticks end lines place draft base → schedule net ticks end lines ≡ Err fault

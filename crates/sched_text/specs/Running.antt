@@ -7,8 +7,8 @@ use Rattle.delay_core.specs.declared.plan.Schedule.{Schedule}
 use Rattle.sched_text.specs.declared.draft.OpenTick as held_tick
 use Rattle.sched_text.specs.declared.draft.OpenRound as held_round
 use Rattle.sched_text.specs.declared.draft.Draft as held
-use Rattle.sched_text.specs.declared.statement.Statement.{Statement}
-use Rattle.sched_text.specs.declared.statement.Statement.TheVariants.{Format, Window, Past, Latches, State, Gates, Tick, Round, Event}
+use Rattle.sched_text.specs.declared.statement.ScheduleStatement.{ScheduleStatement}
+use Rattle.sched_text.specs.declared.statement.ScheduleStatement.TheVariants.{Format, Window, Past, Latches, State, Gates, Tick, Round, Event}
 
 -- A round whose events may go on is a round so far.
 
@@ -78,7 +78,7 @@ abbrev pub without_tick : Draft → Draft
 without_tick draft = record draft { ticks = ended_ticks draft; tick = None }
 
 -- the schedule behind what the next line says
-abbrev pub follow : Draft → Statement → Draft
+abbrev pub follow : Draft → ScheduleStatement → Draft
 follow draft Format = draft
 follow draft (Window w) = record draft { window = w }
 follow draft (Past bits) = record draft { past = draft.past ++ bits ∷ [] }

@@ -4,10 +4,10 @@ use Rattle.netlist.specs.declared.parts.Parts.{Parts}
 use Rattle.schedules.specs.declared.event.Event as events
 use Rattle.delay_core.specs.declared.plan.PlannedEvent.{PlannedEvent}
 use Rattle.blif_text.specs.Texts.{Line}
-use Rattle.sched_text.specs.declared.kind.Kind.{Kind}
-use Rattle.sched_text.specs.declared.kind.Kind.TheVariants as kinds
-use Rattle.sched_text.specs.declared.statement.Statement.{Statement}
-use Rattle.sched_text.specs.declared.statement.Statement.TheVariants.{Format, Window, Past, Latches, State, Gates, Tick, Round, Event}
+use Rattle.sched_text.specs.declared.kind.ScheduleKind.{ScheduleKind}
+use Rattle.sched_text.specs.declared.kind.ScheduleKind.TheVariants as kinds
+use Rattle.sched_text.specs.declared.statement.ScheduleStatement.{ScheduleStatement}
+use Rattle.sched_text.specs.declared.statement.ScheduleStatement.TheVariants.{Format, Window, Past, Latches, State, Gates, Tick, Round, Event}
 use Rattle.sched_text.specs.Kinds.{kind}
 use Rattle.sched_text.specs.Numbers.{number_of}
 use Rattle.sched_text.specs.LineFaults.{arguments, bits_of, gate_number}
@@ -31,7 +31,7 @@ event_of net words = record { gate = gate_of net words; ages = ages_of words }
 abbrev pub planned : Parts → ℕ → List (List ℕ) → PlannedEvent
 planned net n words = record { line = n; event = event_of net words }
 
-abbrev pub statement_of : Parts → Kind → ℕ → List (List ℕ) → Statement
+abbrev pub statement_of : Parts → ScheduleKind → ℕ → List (List ℕ) → ScheduleStatement
 statement_of net kinds.Window n words = Window (window_of words)
 statement_of net kinds.Past n words = Past (bits_of words)
 statement_of net kinds.Latches n words = Latches (bits_of words)
@@ -42,5 +42,5 @@ statement_of net kinds.Round n words = Round n
 statement_of net kinds.Event n words = Event (planned net n words)
 statement_of net other n words = Format
 
-abbrev pub statement : Parts → Line → Statement
+abbrev pub statement : Parts → Line → ScheduleStatement
 statement net line = statement_of net (kind line) line.number (arguments line.words)

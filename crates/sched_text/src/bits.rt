@@ -2,14 +2,14 @@
 ghost use Rattle.std.specs.Prelude.{◌≡◌, length, map, Some, None, if◌then◌else◌};
 ghost use Rattle.std.specs.List.{list_all};
 ghost use Rattle.std.specs.Result.{result_err};
-ghost use Rattle.sched_text.specs.declared.kind.Kind.TheVariants as kinds;
+ghost use Rattle.sched_text.specs.declared.kind.ScheduleKind.TheVariants as kinds;
 ghost use Rattle.sched_text.specs.Answers.{Reads};
 ghost use Rattle.sched_text.specs.LineFaults.{arguments, is_bit, are_bits, bit_of, bits_of, width_fault, permits as permits_start, start_fault, fault_of_words};
 ghost use Rattle.sched_text.specs.Statements.{statement_of};
 
 use crate::fault::SchedFault;
 use crate::pieces::PieceLine;
-use crate::statement::Statement;
+use crate::statement::ScheduleStatement;
 use cyc_base::Bits;
 use netlist::{Init, Netlist};
 use std::alloc::Global;
@@ -86,10 +86,10 @@ pub fn read_latches(
     alloc: Global,
     net: &Netlist,
     line: &PieceLine<'_>,
-) -> Result<Statement, SchedFault>
+) -> Result<ScheduleStatement, SchedFault>
     ensures { Reads result (fault_of_words net.now 0 kinds.Latches line.now.number 0 (arguments line.now.words)) (statement_of net.now kinds.Latches line.now.number (arguments line.now.words)) }
 {
     let bits = read_width(alloc, net.latches(), line)?;
     check_start(line.number(), net, bits.items())?;
-    Ok(Statement::Latches(bits))
+    Ok(ScheduleStatement::Latches(bits))
 }

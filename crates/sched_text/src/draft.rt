@@ -2,7 +2,7 @@
 ghost use Rattle.std.specs.Prelude.{◌≡◌, IfOk, OnOk, Some};
 ghost use Rattle.sched_text.specs.Running.{seen_round, seen_tick, seen, new_round, new_tick, new_draft, add_event, without_round, begin_round, ended_tick, without_tick, follow, ended};
 
-use crate::statement::Statement;
+use crate::statement::ScheduleStatement;
 use cyc_base::{Bits, Items};
 use delay_core::{Events, PlannedEvent, RoundPlan, Schedule, TickPlan};
 use std::alloc::{AllocError, Global};
@@ -153,7 +153,7 @@ impl Draft {
     }
 
     fn begin_tick(&mut self, alloc: Global) -> Result<(), AllocError>
-        ensures { OnOk result (seen self.new ≡ follow (seen self.old) Statement.Tick) }
+        ensures { OnOk result (seen self.new ≡ follow (seen self.old) ScheduleStatement.Tick) }
     {
         self.end_tick()?;
         self.tick = Some(OpenTick::new(alloc));
@@ -161,7 +161,7 @@ impl Draft {
     }
 
     fn begin_round(&mut self, alloc: Global, line: u64) -> Result<(), AllocError>
-        ensures { OnOk result (seen self.new ≡ follow (seen self.old) (Statement.Round line)) }
+        ensures { OnOk result (seen self.new ≡ follow (seen self.old) (ScheduleStatement.Round line)) }
     {
         if let Some(tick) = &mut self.tick {
             tick.begin_round(alloc, line)?;
@@ -170,7 +170,7 @@ impl Draft {
     }
 
     fn add_event(&mut self, planned: &PlannedEvent) -> Result<(), AllocError>
-        ensures { OnOk result (seen self.new ≡ follow (seen self.old) (Statement.Event planned.now)) }
+        ensures { OnOk result (seen self.new ≡ follow (seen self.old) (ScheduleStatement.Event planned.now)) }
     {
         if let Some(tick) = &mut self.tick {
             tick.add_event(planned)?;
@@ -179,22 +179,22 @@ impl Draft {
     }
 
     // Adds what the next line says.
-    pub fn take(&mut self, alloc: Global, said: Statement) -> Result<(), AllocError>
+    pub fn take(&mut self, alloc: Global, said: ScheduleStatement) -> Result<(), AllocError>
         ensures { OnOk result (seen self.new ≡ follow (seen self.old) said) }
     {
         match said {
-            Statement::Tick => return self.begin_tick(alloc),
-            Statement::Round(line) => return self.begin_round(alloc, line),
-            Statement::Event(planned) => return self.add_event(&planned),
-            Statement::Past(bits) => self.past.push(bits)?,
-            Statement::Window(window) => self.window = window,
-            Statement::Latches(bits) => self.latches = bits,
-            Statement::State(bits) => {
+            ScheduleStatement::Tick => return self.begin_tick(alloc),
+            ScheduleStatement::Round(line) => return self.begin_round(alloc, line),
+            ScheduleStatement::Event(planned) => return self.add_event(&planned),
+            ScheduleStatement::Past(bits) => self.past.push(bits)?,
+            ScheduleStatement::Window(window) => self.window = window,
+            ScheduleStatement::Latches(bits) => self.latches = bits,
+            ScheduleStatement::State(bits) => {
                 self.latches = bits;
                 self.free = true;
             }
-            Statement::Gates(bits) => self.gates = bits,
-            Statement::Format => {}
+            ScheduleStatement::Gates(bits) => self.gates = bits,
+            ScheduleStatement::Format => {}
         }
         Ok(())
     }

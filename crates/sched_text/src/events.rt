@@ -1,7 +1,7 @@
 // Lines of events.
 ghost use Rattle.std.specs.Prelude.{◌≡◌, ◌≤◌, length, drop, map, Some, None, if◌then◌else◌};
 ghost use Rattle.std.specs.List.{list_all};
-ghost use Rattle.sched_text.specs.declared.kind.Kind.TheVariants as kinds;
+ghost use Rattle.sched_text.specs.declared.kind.ScheduleKind.TheVariants as kinds;
 ghost use Rattle.sched_text.specs.Answers.{Reads};
 ghost use Rattle.sched_text.specs.Numbers.{number_of};
 ghost use Rattle.sched_text.specs.LineFaults.{arguments, is_age, gate_number, gate_fault, fault_of_words};
@@ -10,7 +10,7 @@ ghost use Rattle.sched_text.specs.Statements.{gate_of, statement_of};
 use crate::fault::SchedFault;
 use crate::number::number;
 use crate::pieces::PieceLine;
-use crate::statement::Statement;
+use crate::statement::ScheduleStatement;
 use cyc_base::{Items, Name};
 use delay_core::{Event, PlannedEvent};
 use netlist::Netlist;
@@ -67,7 +67,7 @@ pub fn read_event(
     alloc: Global,
     net: &Netlist,
     line: &PieceLine<'_>,
-) -> Result<Statement, SchedFault>
+) -> Result<ScheduleStatement, SchedFault>
     ensures { Reads result (fault_of_words net.now 0 kinds.Event line.now.number 0 (arguments line.now.words)) (statement_of net.now kinds.Event line.now.number (arguments line.now.words)) }
 {
     if line.words() < 2 {
@@ -75,7 +75,7 @@ pub fn read_event(
     }
     let ages = read_ages(alloc, line)?;
     let gate = read_gate(alloc, net, line)?;
-    Ok(Statement::Event(PlannedEvent {
+    Ok(ScheduleStatement::Event(PlannedEvent {
         line: line.number(),
         event: Event { gate, ages },
     }))

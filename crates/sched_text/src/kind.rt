@@ -6,7 +6,7 @@ use crate::pieces::PieceLine;
 
 /// What a line of a schedule is, by its first word; a line `schedule` also by its second.
 #[derive(Clone, Copy)]
-pub enum Kind {
+pub enum ScheduleKind {
     FormatOne,
     FormatTwo,
     Window,
@@ -21,62 +21,62 @@ pub enum Kind {
 }
 
 // What a line is whose first word is `schedule`.
-fn format_of(line: &PieceLine<'_>) -> Kind
+fn format_of(line: &PieceLine<'_>) -> ScheduleKind
     ensures { result ≡ format_of line.now.words }
 {
     if line.words() != 2 {
-        return Kind::Unknown;
+        return ScheduleKind::Unknown;
     }
     let format = line.word(1);
     if format == b"1".as_slice() {
-        Kind::FormatOne
+        ScheduleKind::FormatOne
     } else if format == b"2".as_slice() {
-        Kind::FormatTwo
+        ScheduleKind::FormatTwo
     } else {
-        Kind::Unknown
+        ScheduleKind::Unknown
     }
 }
 
 // What a line is by its first word, where it stands before the gates' starting values.
-fn kind_of_head(word: &[u8]) -> Kind
+fn kind_of_head(word: &[u8]) -> ScheduleKind
     ensures { result ≡ kind_of_head word.now }
 {
     if word == b"latches".as_slice() {
-        Kind::Latches
+        ScheduleKind::Latches
     } else if word == b"state".as_slice() {
-        Kind::State
+        ScheduleKind::State
     } else if word == b"past".as_slice() {
-        Kind::Past
+        ScheduleKind::Past
     } else if word == b"window".as_slice() {
-        Kind::Window
+        ScheduleKind::Window
     } else {
-        Kind::Unknown
+        ScheduleKind::Unknown
     }
 }
 
 // What a line is by its first word, where that isn't `schedule`.
-fn kind_of(word: &[u8]) -> Kind
+fn kind_of(word: &[u8]) -> ScheduleKind
     ensures { result ≡ kind_of word.now }
 {
     if word == b"e".as_slice() {
-        Kind::Event
+        ScheduleKind::Event
     } else if word == b"round".as_slice() {
-        Kind::Round
+        ScheduleKind::Round
     } else if word == b"tick".as_slice() {
-        Kind::Tick
+        ScheduleKind::Tick
     } else if word == b"gates".as_slice() {
-        Kind::Gates
+        ScheduleKind::Gates
     } else {
         kind_of_head(word)
     }
 }
 
 // What a line is.
-pub fn kind_at(line: &PieceLine<'_>) -> Kind
+pub fn kind_at(line: &PieceLine<'_>) -> ScheduleKind
     ensures { result ≡ kind line.now }
 {
     if line.words() == 0 {
-        return Kind::Unknown;
+        return ScheduleKind::Unknown;
     }
     let first = line.word(0);
     if first == b"schedule".as_slice() {
@@ -86,32 +86,38 @@ pub fn kind_at(line: &PieceLine<'_>) -> Kind
 }
 
 // Whether a line may stand behind a line of this kind, or first.
-pub fn may_follow(before: Option<Kind>, kind: Kind) -> bool
+pub fn may_follow(before: Option<ScheduleKind>, kind: ScheduleKind) -> bool
     ensures { result ≡ may_follow before kind }
 {
     match before {
-        None => matches!(kind, Kind::FormatOne | Kind::FormatTwo),
-        Some(Kind::FormatOne) => matches!(kind, Kind::Latches),
-        Some(Kind::FormatTwo) => matches!(kind, Kind::Window),
-        Some(Kind::Window | Kind::Past) => {
-            matches!(kind, Kind::Past | Kind::Latches | Kind::State)
+        None => matches!(kind, ScheduleKind::FormatOne | ScheduleKind::FormatTwo),
+        Some(ScheduleKind::FormatOne) => matches!(kind, ScheduleKind::Latches),
+        Some(ScheduleKind::FormatTwo) => matches!(kind, ScheduleKind::Window),
+        Some(ScheduleKind::Window | ScheduleKind::Past) => {
+            matches!(
+                kind,
+                ScheduleKind::Past | ScheduleKind::Latches | ScheduleKind::State
+            )
         }
-        Some(Kind::Latches | Kind::State) => matches!(kind, Kind::Gates),
-        Some(Kind::Gates) => matches!(kind, Kind::Tick),
-        Some(Kind::Tick) => matches!(kind, Kind::Tick | Kind::Round),
-        Some(Kind::Round | Kind::Event) => {
-            matches!(kind, Kind::Tick | Kind::Round | Kind::Event)
+        Some(ScheduleKind::Latches | ScheduleKind::State) => matches!(kind, ScheduleKind::Gates),
+        Some(ScheduleKind::Gates) => matches!(kind, ScheduleKind::Tick),
+        Some(ScheduleKind::Tick) => matches!(kind, ScheduleKind::Tick | ScheduleKind::Round),
+        Some(ScheduleKind::Round | ScheduleKind::Event) => {
+            matches!(
+                kind,
+                ScheduleKind::Tick | ScheduleKind::Round | ScheduleKind::Event
+            )
         }
-        Some(Kind::Unknown) => false,
+        Some(ScheduleKind::Unknown) => false,
     }
 }
 
 // Whether a line is missing where the text ends behind a line of this kind.
-pub fn lacks_lines(before: Option<Kind>) -> bool
+pub fn lacks_lines(before: Option<ScheduleKind>) -> bool
     ensures { result ≡ lacks_lines before }
 {
     !matches!(
         before,
-        Some(Kind::Gates | Kind::Tick | Kind::Round | Kind::Event)
+        Some(ScheduleKind::Gates | ScheduleKind::Tick | ScheduleKind::Round | ScheduleKind::Event)
     )
 }

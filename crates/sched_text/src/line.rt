@@ -1,7 +1,7 @@
 // What a line of a schedule says.
 ghost use Rattle.std.specs.Prelude.{◌≡◌, ◌==◌, ◌&&◌, Some, None, if◌then◌else◌};
-ghost use Rattle.sched_text.specs.declared.kind.Kind.TheVariants as kinds;
-ghost use Rattle.sched_text.specs.declared.statement.Statement.TheVariants as statements;
+ghost use Rattle.sched_text.specs.declared.kind.ScheduleKind.TheVariants as kinds;
+ghost use Rattle.sched_text.specs.declared.statement.ScheduleStatement.TheVariants as statements;
 ghost use Rattle.sched_text.specs.Answers.{Reads};
 ghost use Rattle.sched_text.specs.Kinds.{kind as kind_of_line, lacks_lines as lacks_lines_behind};
 ghost use Rattle.sched_text.specs.LineFaults.{arguments, fault_of_words, fault_at, is_nothing, is_number};
@@ -10,33 +10,33 @@ ghost use Rattle.sched_text.specs.Statements.{statement_of, statement, window_of
 use crate::bits::{read_latches, read_width};
 use crate::events::read_event;
 use crate::fault::SchedFault;
-use crate::kind::{Kind, lacks_lines, may_follow};
+use crate::kind::{ScheduleKind, lacks_lines, may_follow};
 use crate::number::number;
 use crate::pieces::PieceLine;
-use crate::place::Place;
-use crate::statement::Statement;
+use crate::place::SchedulePlace;
+use crate::statement::ScheduleStatement;
 use netlist::Netlist;
 use std::alloc::Global;
 
-fn read_window(line: &PieceLine<'_>) -> Result<Statement, SchedFault>
+fn read_window(line: &PieceLine<'_>) -> Result<ScheduleStatement, SchedFault>
     ensures { Reads result (if is_number (arguments line.now.words) then None else Some (SchedFault.BadLine line.now.number)) (statements.Window (window_of (arguments line.now.words))) }
 {
     if line.words() != 2 {
         return Err(line.bad_line());
     }
     match number(line.word(1)) {
-        Some(window) => Ok(Statement::Window(window)),
+        Some(window) => Ok(ScheduleStatement::Window(window)),
         None => Err(line.bad_line()),
     }
 }
 
-fn read_round(line: &PieceLine<'_>) -> Result<Statement, SchedFault>
+fn read_round(line: &PieceLine<'_>) -> Result<ScheduleStatement, SchedFault>
     ensures { Reads result (if is_nothing (arguments line.now.words) then None else Some (SchedFault.BadLine line.now.number)) (statements.Round line.now.number) }
 {
     if line.words() > 1 {
         return Err(line.bad_line());
     }
-    Ok(Statement::Round(line.number()))
+    Ok(ScheduleStatement::Round(line.number()))
 }
 
 /// What the lines of a schedule are read for.
@@ -51,7 +51,7 @@ pub struct LineReader<'a> {
 
 impl<'a> LineReader<'a> {
     // What the line of a tick says, where so many began before.
-    fn read_tick(&self, begun: usize, line: &PieceLine<'_>) -> Result<Statement, SchedFault>
+    fn read_tick(&self, begun: usize, line: &PieceLine<'_>) -> Result<ScheduleStatement, SchedFault>
         ensures { Reads result (fault_of_words self.now.net.now self.now.ticks kinds.Tick line.now.number begun (arguments line.now.words)) (statement_of self.now.net.now kinds.Tick line.now.number (arguments line.now.words)) }
     {
         if line.words() > 1 {
@@ -62,7 +62,7 @@ impl<'a> LineReader<'a> {
                 line: line.number(),
             });
         }
-        Ok(Statement::Tick)
+        Ok(ScheduleStatement::Tick)
     }
 
     // What a line of this kind says.
@@ -70,27 +70,39 @@ impl<'a> LineReader<'a> {
         &self,
         alloc: Global,
         begun: usize,
-        kind: Kind,
+        kind: ScheduleKind,
         line: &PieceLine<'_>,
-    ) -> Result<Statement, SchedFault>
+    ) -> Result<ScheduleStatement, SchedFault>
         ensures { Reads result (fault_of_words self.now.net.now self.now.ticks kind line.now.number begun (arguments line.now.words)) (statement_of self.now.net.now kind line.now.number (arguments line.now.words)) }
     {
         match kind {
-            Kind::FormatOne | Kind::FormatTwo => Ok(Statement::Format),
-            Kind::Window => read_window(line),
-            Kind::Past => Ok(Statement::Past(read_width(alloc, self.net.count(), line)?)),
-            Kind::Latches => read_latches(alloc, self.net, line),
-            Kind::State => Ok(Statement::State(read_width(alloc, self.net.latches(), line)?)),
-            Kind::Gates => Ok(Statement::Gates(read_width(alloc, self.net.gates(), line)?)),
-            Kind::Tick => self.read_tick(begun, line),
-            Kind::Round => read_round(line),
-            Kind::Event => read_event(alloc, self.net, line),
-            Kind::Unknown => Err(line.bad_line()),
+            ScheduleKind::FormatOne | ScheduleKind::FormatTwo => Ok(ScheduleStatement::Format),
+            ScheduleKind::Window => read_window(line),
+            ScheduleKind::Past => Ok(ScheduleStatement::Past(read_width(
+                alloc,
+                self.net.count(),
+                line,
+            )?)),
+            ScheduleKind::Latches => read_latches(alloc, self.net, line),
+            ScheduleKind::State => Ok(ScheduleStatement::State(read_width(
+                alloc,
+                self.net.latches(),
+                line,
+            )?)),
+            ScheduleKind::Gates => Ok(ScheduleStatement::Gates(read_width(
+                alloc,
+                self.net.gates(),
+                line,
+            )?)),
+            ScheduleKind::Tick => self.read_tick(begun, line),
+            ScheduleKind::Round => read_round(line),
+            ScheduleKind::Event => read_event(alloc, self.net, line),
+            ScheduleKind::Unknown => Err(line.bad_line()),
         }
     }
 
     // Whether the text ends in a line of this kind, and a line is missing behind it.
-    fn is_cut_off(&self, kind: Kind, line: &PieceLine<'_>) -> bool
+    fn is_cut_off(&self, kind: ScheduleKind, line: &PieceLine<'_>) -> bool
         ensures { result ≡ ((line.now.number == self.now.end) && lacks_lines_behind (Some kind)) }
     {
         line.number() == self.end && lacks_lines(Some(kind))
@@ -100,10 +112,10 @@ impl<'a> LineReader<'a> {
     pub fn read_line(
         &self,
         alloc: Global,
-        place: Place,
-        kind: Kind,
+        place: SchedulePlace,
+        kind: ScheduleKind,
         line: &PieceLine<'_>,
-    ) -> Result<Statement, SchedFault>
+    ) -> Result<ScheduleStatement, SchedFault>
         requires { kind ≡ kind_of_line line.now }
         ensures { Reads result (fault_at self.now.net.now self.now.ticks place.before place.begun ((line.now.number == self.now.end) && lacks_lines_behind (Some (kind_of_line line.now))) line.now) (statement self.now.net.now line.now) }
     {

@@ -5,38 +5,38 @@ ghost use Rattle.sched_text.specs.Kinds.{is_tick};
 ghost use Rattle.sched_text.specs.LineFaults.{fault_at_end, place_behind};
 
 use crate::fault::SchedFault;
-use crate::kind::{Kind, lacks_lines};
+use crate::kind::{ScheduleKind, lacks_lines};
 
 /// Where a line lies: what the line directly before is, and how many ticks began before.
 #[derive(Clone, Copy)]
-pub struct Place {
-    pub before: Option<Kind>,
+pub struct SchedulePlace {
+    pub before: Option<ScheduleKind>,
     pub begun: usize,
 }
 
-impl Place {
+impl SchedulePlace {
     // That of the first line.
-    pub fn first() -> Place
+    pub fn first() -> SchedulePlace
         ensures { result ≡ place_behind [] }
     {
-        Place {
+        SchedulePlace {
             before: None,
             begun: 0,
         }
     }
 
     // That of the line behind one of this kind.
-    pub fn after(self, kind: Kind) -> Place
+    pub fn after(self, kind: ScheduleKind) -> SchedulePlace
         requires { self.begun < 18446744073709551615 }
         ensures before { result.before ≡ Some kind }
         ensures begun { result.begun ≡ cond (is_tick kind) 1 0 + self.begun }
         ensures few { result.begun ≤ self.begun + 1 }
     {
         let begun = match kind {
-            Kind::Tick => self.begun + 1,
+            ScheduleKind::Tick => self.begun + 1,
             _ => self.begun,
         };
-        Place {
+        SchedulePlace {
             before: Some(kind),
             begun,
         }

@@ -3,7 +3,7 @@ use delay_core::PlannedEvent;
 
 /// What a line of a schedule says.
 #[derive(Drop)]
-pub enum Statement {
+pub enum ScheduleStatement {
     /// Which format the lines have.
     Format,
     Window(u32),

@@ -13,7 +13,7 @@ use crate::fault::SchedFault;
 use crate::kind::kind_at;
 use crate::line::LineReader;
 use crate::pieces::{Piece, Pieces};
-use crate::place::Place;
+use crate::place::SchedulePlace;
 use blif_text::end_line;
 use delay_core::Schedule;
 use netlist::Netlist;
@@ -25,9 +25,9 @@ impl<'a> LineReader<'a> {
         &self,
         alloc: Global,
         lines: &Piece,
-        place: Place,
+        place: SchedulePlace,
         draft: &mut Draft,
-    ) -> Result<Place, SchedFault>
+    ) -> Result<SchedulePlace, SchedFault>
         requires few { place.begun + length lines.now ≤ self.now.end }
         ensures read { IfOk result (λ next. ReadsPiece self.now.net.now self.now.ticks self.now.end lines.now place (seen draft.old) next (seen draft.new) (length lines.now)) }
         ensures fault { IfErr result (λ fault. fault ≢ Memory → FailsPiece self.now.net.now self.now.ticks self.now.end lines.now place (seen draft.old) fault) }
@@ -69,7 +69,7 @@ fn read_lines(
     let end = end_line(bytes);
     let reader = LineReader { net, ticks, end };
     let mut pieces = Pieces::of(bytes);
-    let mut place = Place::first();
+    let mut place = SchedulePlace::first();
     while let Some(lines) = pieces.next_piece(alloc)? {
         match reader.take_piece(alloc, &lines, place, draft) {
             Ok(next) => place = next,
