@@ -8,8 +8,8 @@ ghost use Rattle.miters.specs.Cases.{told_by, ArePaired, TellsIn};
 
 use crate::hints::find_hints;
 use care_sets::Care;
-use clause_pairs::{Budget, Fixed, Hint, Pair, PairSearch, are_never_apart_in};
 use clause_decision::Scope;
+use clause_pairs::{Budget, Fixed, Hint, Pair, PairSearch, are_never_apart_in};
 use loops::LoopedNetlist;
 use netlist::Netlist;
 use std::alloc::{AllocError, Global};

@@ -11,10 +11,13 @@ ghost use Rattle.refusals.specs.Acceptance.{Accepts};
 use crate::asked::{ANY, Asked, is_right_of};
 use bdd_ops::Diagrams;
 use care_sets::Care;
+use clause_decision::{
+    First, Found, Scope, each_unknown, first_unknown, is_possible, least_leaving, least_outside,
+    least_unknown, sweeps_fed_known, sweeps_needed,
+};
 use clause_pairs::{Budget, Pair, PairSearch};
-use clause_decision::{First, Found, Scope, each_unknown, first_unknown, is_possible, least_leaving, least_outside, least_unknown, sweeps_fed_known, sweeps_needed};
-use loop_simulation::sweeps_at;
 use cyc_base::{Items, Sig};
+use loop_simulation::sweeps_at;
 use loops::{Blocks, Cut, LoopedNetlist};
 use netlist::Netlist;
 use std::alloc::{AllocError, Global};
