@@ -3,7 +3,7 @@
 //! equal netlists show in their runs: over equal inputs, from equal latches, they have equal outputs and latches at each
 //! tick, by name, whatever their fair schedules.
 //!
-//! All that needs no verdict is here, so that it is proved beside `verdict`. It stands on `clause_decision` for pairs of wires
+//! All that needs no verdict is here, so that it is proved beside `verdict`. It stands on `clause_pairs` for pairs of wires
 //! that are never apart where some columns are fixed, on `unroll` for the names of copied gates, on `schedules`, for what
 //! accepted netlists do in their runs, and on `report`, for the texts of refusals and of vectors. `equal`, the layer above,
 //! decides what is defined here.

@@ -2,9 +2,9 @@
 //! loop needs, or refused, with the least state or vector that shows it (Malik 1994; Shiple, Berry and Touati 1996).
 //! All gates are observed, or what is seen from outside.
 //!
-//! It stands on `clause_decision`, on `fixpoint`, `isolation` and the diagrams below them, and on the definitions of
-//! `refusals`. The layer above uses that `judge` answers as the definition of acceptance and refusals says (`judgement`),
-//! that `decide` answers so with the sweeps (`verdict`), and which wires are told never apart on care.
+//! It stands on `clause_decision`, which is asked first, on `diagram_decision`, which is asked where clauses give up, and
+//! on the definitions of `refusals`. The layer above uses that `judge` answers as the definition of acceptance and refusals
+//! says (`judgement`), and that `decide` answers so with the sweeps (`verdict`).
 #![tactic(auto)]
 
 mod clauses;
