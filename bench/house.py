@@ -78,7 +78,7 @@ def main():
     print(f"{TOP.name}: {len({path.parts[0] for path in SOURCES})} crates of the program")
     print("Facts that clauses repeat")
     show("clauses that there is a number for each block", lines_with(SOURCES, r"length sweeps\.now\.per_block"))
-    show("clauses that there are at most 1,000,000,000 columns", lines_with(SOURCES, r"1000000000"))
+    show("clauses that there are at most 1,000,000,000 columns", lines_with(SOURCES, r"columns.*≤ (MAX_COLUMNS|most_columns|max_columns|1000000000)"))
     show("places that find the blocks of a netlist", [at for at in lines_with(SOURCES, r"\bfind_blocks\(") if not at.startswith("loops/")])
     print("Limits by number, files")
     for number, what in LIMITS.items():
