@@ -1,5 +1,6 @@
 -- No line of written netlists has a fault.
 use Rattle.std.proofs.Common.{◌≡◌, ◌&&◌, ◌||◌, ℕ, ◌+◌, ◌≤◌, Bool, true, false, List, [], ◌∷◌, ◌++◌, length, map, refl, sym, ap, ◌∙◌, subst, append_assoc, arith, eq-eqb, if◌then◌else◌, None, Some, option_map}
+use Rattle.cyc_base.specs.declared.limits.TheConstants.{MAX_PINS}
 use Rattle.blif_write.proofs.Common.{All, flat_map, Option, length-map, All-head, All-tail, IsCover, Lit, Init, Gate, Parts, numbered, name_of, clock_lines, control_words, init_word, latch_line, latch_lines, lit_byte, plane_word, lits_words, row_line, gate_lines, all_gate_lines, lines_of}
 use Rattle.std.specs.Prelude.{codes, bytes_eq}
 use Rattle.std.specs.List.{list_all, AllByRecursion, IsDistinct}
@@ -187,10 +188,10 @@ rows_pass taken pins plane (row ∷ rows) ws width rest n earlier opened =
 
 -- Gates.
 
-few : (n : ℕ) (word : List ℕ) (words : List (List ℕ)) → length words ≤ 1024 → names_fault n (word ∷ words) ≡ None
+few : (n : ℕ) (word : List ℕ) (words : List (List ℕ)) → length words ≤ MAX_PINS → names_fault n (word ∷ words) ≡ None
 few n word words l = grind arith
 
-names_fine : (n : ℕ) (words : List (List ℕ)) (last : List ℕ) → length words ≤ 1024 → names_fault n (words ++ last ∷ []) ≡ None
+names_fine : (n : ℕ) (words : List (List ℕ)) (last : List ℕ) → length words ≤ MAX_PINS → names_fault n (words ++ last ∷ []) ≡ None
 names_fine n [] last l = refl
 names_fine n (word ∷ words) last l = few n word (words ++ last ∷ []) (omega (arith, length-append words (last ∷ [])))
 

@@ -1,5 +1,6 @@
 -- Written netlists read back.
 use Rattle.std.proofs.Common.{◌≡◌, ◌≢◌, ◌+◌, ◌<◌, ◌≤◌, ℕ, true, List, [], ◌∷◌, ◌++◌, length, map, get_or, refl, sym, ap, ◌∙◌, append-nil, Ok, arith}
+use Rattle.cyc_base.specs.declared.limits.TheConstants.{MAX_DEPTH, MAX_FLAT_ITEMS}
 use Rattle.blif_write.proofs.Common.{All, IfSome, bytes_eq, flat_map, All-head, All-tail, Option, Clock, BlifModel, Parts, IsNetlist, IsClockName, numbered, lines_of}
 use Rattle.std.specs.List.{IsDistinct}
 use Rattle.std.proofs.lemmas.List.Elements.{All-nil, All-cons, All-append}
@@ -64,7 +65,7 @@ each_reads_back nets valid covers fit =
       models = map model_of_text nets;
       named = model_names nets;
       read = read_again nets valid covers fit.some apart;
-      flat = λ k d l. flat_again 200 4000000 nets k d apart l (valid k d l) (fit.small k d l);
+      flat = λ k d l. flat_again MAX_DEPTH MAX_FLAT_ITEMS nets k d apart l (valid k d l) (fit.small k d l);
     }
 
 one : (P : Parts → Type 0) (net : Parts) → P net → All P (net ∷ [])
@@ -82,5 +83,5 @@ reads_back net valid covers small =
       model = model_of_text net;
       named = refl;
       read = ap reads (sym (append-nil (written net))) ∙ read_again nets (one IsNetlist net valid) (one HasCovers net covers) (filled net []) apart;
-      flat = flat_again 200 4000000 nets 0 net apart (omega arith) valid small;
+      flat = flat_again MAX_DEPTH MAX_FLAT_ITEMS nets 0 net apart (omega arith) valid small;
     }

@@ -1,5 +1,6 @@
 -- The laws of reading back.
 use Rattle.std.specs.Prelude.{◌≡◌, ◌≢◌, ◌≤◌, ◌+◌, List, [], ◌∷◌, length, map, All, AllPairs, Ok}
+use Rattle.cyc_base.specs.declared.limits.TheConstants.{MAX_FLAT_ITEMS}
 use Rattle.cover_logic.specs.Covers.{IsCover}
 use Rattle.netlist.specs.declared.parts.Parts.{Parts}
 use Rattle.netlist.specs.Netlists.{IsNetlist}
@@ -19,7 +20,7 @@ abbrev pub HasCovers : Parts → Type 0
 HasCovers net = All (λ gate. IsCover gate.cover) net.gates
 
 abbrev pub IsSmall : Parts → Type 0
-IsSmall net = length net.latches + length net.gates ≤ 4000000
+IsSmall net = length net.latches + length net.gates ≤ MAX_FLAT_ITEMS
 
 abbrev pub WrittenReadsBack : Type 0
 WrittenReadsBack = (net : Parts) → IsNetlist net → HasCovers net → IsSmall net → ReadsBack net
