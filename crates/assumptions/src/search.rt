@@ -44,9 +44,7 @@ struct Weakening<'a> {
     settled: &'a [bool],
     limit: u32,
     observe: Observe,
-    ghost bound: { IsCareOf looped.now.net care.now },
     ghost steady_marks: { AreSteadyMarks looped.now.net steady.now },
-    ghost settled_marks: { AreSettled looped.now settled.now },
     ghost most: { limit ≤ most_nodes },
 }
 
@@ -162,6 +160,7 @@ fn judgement_on(
     care: &Care,
     rows: usize,
 ) -> Result<Judgement, DecideFault>
+    requires settled { AreSettled task.now.looped.now task.now.settled.now }
     requires care { IsCareOf task.now.looped.now.net care.now }
     ensures judgement { IfOk result (IsSomeJudgement task.now.looped.now.net care.now task.now.observe) }
     ensures fault { IfErr result (λ fault. (fault ≡ DecideFault.Memory) ⊎ (fault ≡ DecideFault.NodeLimit task.now.limit)) }
@@ -194,6 +193,8 @@ fn round_without_rows(
     task: &Weakening<'_>,
     rows: &mut Vec<Row>,
 ) -> Result<Option<Assumption>, DecideFault>
+    requires settled { AreSettled task.now.looped.now task.now.settled.now }
+    requires care { IsCareOf task.now.looped.now.net task.now.care.now }
     requires none { rows.old.items ≡ [] }
     requires some { (is_some task.now.care.now.assume ≡ true) ⊎ (is_some task.now.care.now.invariant ≡ true) }
     ensures round { IfOk result (IsRound task.now.looped.now.net task.now.care.now task.now.observe rows.old.items rows.new.items) }
@@ -215,6 +216,7 @@ fn round_on(
     rows: &mut Vec<Row>,
     stronger: Care,
 ) -> Result<Option<Assumption>, DecideFault>
+    requires settled { AreSettled task.now.looped.now task.now.settled.now }
     requires rows { AreFound task.now.looped.now.net task.now.care.now task.now.observe rows.old.items }
     requires few { length rows.old.items ≤ MAX_ROWS }
     requires excludes { Excludes task.now.looped.now.net task.now.care.now rows.old.items stronger }
@@ -236,6 +238,8 @@ fn round_with_rows(
     task: &Weakening<'_>,
     rows: &mut Vec<Row>,
 ) -> Result<Option<Assumption>, DecideFault>
+    requires settled { AreSettled task.now.looped.now task.now.settled.now }
+    requires care { IsCareOf task.now.looped.now.net task.now.care.now }
     requires rows { AreFound task.now.looped.now.net task.now.care.now task.now.observe rows.old.items }
     requires few { length rows.old.items ≤ MAX_ROWS }
     ensures round { IfOk result (IsRound task.now.looped.now.net task.now.care.now task.now.observe rows.old.items rows.new.items) }
@@ -256,6 +260,8 @@ fn round(
     task: &Weakening<'_>,
     rows: &mut Vec<Row>,
 ) -> Result<Option<Assumption>, DecideFault>
+    requires settled { AreSettled task.now.looped.now task.now.settled.now }
+    requires care { IsCareOf task.now.looped.now.net task.now.care.now }
     requires rows { AreFound task.now.looped.now.net task.now.care.now task.now.observe rows.old.items }
     requires few { length rows.old.items ≤ MAX_ROWS }
     ensures round { IfOk result (IsRound task.now.looped.now.net task.now.care.now task.now.observe rows.old.items rows.new.items) }
@@ -271,6 +277,8 @@ fn round(
 
 /// What is found by a task.
 fn search(alloc: Global, d: &mut Diagrams, task: &Weakening<'_>) -> Result<Assumption, DecideFault>
+    requires settled { AreSettled task.now.looped.now task.now.settled.now }
+    requires care { IsCareOf task.now.looped.now.net task.now.care.now }
     ensures found { IfOk result (IsAssumption task.now.looped.now.net task.now.care.now task.now.observe) }
     ensures fault { IfErr result (λ fault. (fault ≡ DecideFault.Memory) ⊎ (fault ≡ DecideFault.NodeLimit task.now.limit)) }
     ensures cause { result ≡ Err (DecideFault.NodeLimit task.now.limit) → RunsOutOfNodes d.new task.now.looped.now.net task.now.care.now task.now.observe task.now.limit }
