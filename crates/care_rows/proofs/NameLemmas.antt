@@ -7,10 +7,10 @@ use Rattle.std.proofs.lemmas.Fmt.{decimal_injective}
 use Rattle.std.proofs.lemmas.List.{append_cancel_left}
 use Rattle.std.proofs.lemmas.List.Elements.{All-append, All-from_recursion, All-nil}
 use Rattle.cyc_base.specs.Names.{IsBlifByte, IsBlifName}
-use Rattle.tildes.specs.Runs.{longest_run, tildes}
-use Rattle.tildes.proofs.BlifLemmas.{decimal_fits, tildes_fit}
-use Rattle.tildes.proofs.DigitLemmas.{NoTilde, decimal_no_tilde, split_at_tilde}
-use Rattle.tildes.proofs.MarkLemmas.{run_longest, without_tildes}
+use Rattle.cyc_base.specs.Tildes.{longest_run, tildes}
+use Rattle.cyc_base.proofs.BlifLemmas.{decimal_fits, tildes_fit}
+use Rattle.cyc_base.proofs.DigitLemmas.{NoTilde, decimal_no_tilde, split_at_tilde}
+use Rattle.cyc_base.proofs.MarkLemmas.{run_longest, without_tildes}
 use Rattle.care_rows.specs.Models.{marked_name, telling_name}
 
 -- what stands before a mark is read back

@@ -11,9 +11,9 @@ use Rattle.care_sets.proofs.NameLemmas.{gate_names, length-column_names, names_s
 use Rattle.care_sets.specs.Care.{column_names}
 use Rattle.cyc_base.proofs.NameLemmas.{bytes_eq-other}
 use Rattle.netlist.proofs.NameLemmas.{length-signal_names}
-use Rattle.tildes.proofs.DigitLemmas.{NoTilde}
-use Rattle.tildes.proofs.RunLemmas.{longest-append}
-use Rattle.tildes.specs.Runs.{longest_run}
+use Rattle.cyc_base.proofs.DigitLemmas.{NoTilde}
+use Rattle.cyc_base.proofs.TildeLemmas.{longest-append}
+use Rattle.cyc_base.specs.Tildes.{longest_run}
 use Rattle.unroll.proofs.NameLemmas.{Apart, all_short, distinct_append, short_from_long}
 use Rattle.unroll.specs.Marks.{clock_names, longest_run_in, mark}
 use Rattle.care_rows.proofs.RankLemmas.{marked_at, rank_of}

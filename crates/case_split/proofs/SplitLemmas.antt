@@ -13,8 +13,8 @@ use Rattle.std.proofs.lemmas.List.Elements.{All-append, All-contains, All-from_g
 use Rattle.std.proofs.lemmas.List.Folds.{list_any-append}
 use Rattle.std.proofs.lemmas.Map.Made.{IsDistinct-from_AllPairs}
 use Rattle.std.proofs.lemmas.Slice.Eq.{bytes_eq-Decides}
-use Rattle.tildes.specs.Runs.{longest_run, longest_run_of}
-use Rattle.tildes.proofs.RunLemmas.{longest-append}
+use Rattle.cyc_base.specs.Tildes.{longest_run, longest_run_of}
+use Rattle.cyc_base.proofs.TildeLemmas.{longest-append}
 use Rattle.cyc_base.specs.declared.limits.TheConstants.{MAX_REWRITTEN_ITEMS}
 use Rattle.cyc_base.specs.Names.{IsBlifName}
 use Rattle.cyc_base.proofs.ListLemmas.{list_any-map, range-suc}

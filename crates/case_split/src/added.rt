@@ -9,10 +9,10 @@ ghost use Rattle.case_split.specs.Added.{AreNew, IsAt, IsShared, IsAdded};
 
 use crate::cofactors::{Cofactor, cofactor_of};
 use crate::operands::Operand;
-use cover_logic::{Cover, Lit, Row};
+use cover_logic::Cover;
 use cyc_base::{Items, Name, Sig};
 use indexmap::IndexMap;
-use netlist::{Gate, Netlist};
+use netlist::{Gate, Netlist, gate_key};
 use std::alloc::{AllocError, Global};
 use unroll::copy_name;
 
@@ -50,40 +50,6 @@ impl Drop for Added {
             by_key: _,
         } = self;
     }
-}
-
-/// A number with one more in it: times an odd number, and then its upper half in its lower one too.
-fn mixed(key: u64, number: u64) -> u64 {
-    let mixed = (key ^ number).wrapping_mul(0x9e37_79b9_7f4a_7c15);
-    mixed ^ (mixed >> 32)
-}
-
-fn with_literal(key: u64, lit: Lit) -> u64 {
-    match lit {
-        Lit::Zero => mixed(key, 1),
-        Lit::One => mixed(key, 2),
-        Lit::Any => mixed(key, 3),
-    }
-}
-
-fn with_row(key: u64, row: &Row) -> u64 {
-    let mut key = mixed(key, 4);
-    for lit in row.lits.items() {
-        key = with_literal(key, *lit);
-    }
-    key
-}
-
-/// A number for gates of this cover that read these wires.
-fn key_of(cover: &Cover, pins: &[Sig]) -> u64 {
-    let mut key = u64::from(cover.plane());
-    for row in cover.rows() {
-        key = with_row(key, row);
-    }
-    for pin in pins {
-        key = mixed(key, u64::from(pin.0) + 5);
-    }
-    key
 }
 
 fn is_gate(gate: &Gate, cover: &Cover, pins: &[Sig]) -> bool
@@ -154,7 +120,7 @@ impl Added {
         requires new { AreNew base.now.net.now self.old.gates.items }
         ensures { IfOk result (IsShared base.now.net.now cover pins.items self.old.gates.items self.new.gates.items) }
     {
-        let key = key_of(&cover, &pins);
+        let key = gate_key(&cover, &pins);
         if let Some(place) = self.find(key, &cover, &pins) {
             return Ok(Sig(base.net.count() + place));
         }

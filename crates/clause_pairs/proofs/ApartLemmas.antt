@@ -17,9 +17,10 @@ use Rattle.clause_pairs.specs.declared.apart.Asked.{Asked}
 use Rattle.clause_decision.specs.declared.cones.Cone.{Cone}
 use Rattle.clause_pairs.specs.declared.pairs.Fixed.{Fixed}
 use Rattle.clause_pairs.specs.declared.pairs.Hint.{Hint}
-use Rattle.clause_pairs.specs.declared.pairs.Pair.{Pair}
+use Rattle.netlist.specs.declared.pair.Pair.{Pair}
 use Rattle.clause_decision.specs.declared.scope.Scope.{Scope}
-use Rattle.clause_pairs.specs.Apart.{are_apart, is_apart_at, AreNeverApart, AreNeverApartIn, HasFixed, IsCubeOf, IsInCube, IsPairOf, IsWireIn, IsPairIn, ArePairsIn}
+use Rattle.netlist.specs.Pairs.{are_apart, is_apart_at, IsPairOf}
+use Rattle.clause_pairs.specs.Apart.{AreNeverApart, AreNeverApartIn, HasFixed, IsCubeOf, IsInCube, IsWireIn, IsPairIn, ArePairsIn}
 use Rattle.clause_pairs.specs.Pairs.{assumed_literals, fixed_literal, HoldIn, HasRails, SaysPair, AddsLiteral, TellPairs, AreRefuted}
 use Rattle.clause_decision.proofs.ConeLemmas.{care-holds, cone-kept}
 use Rattle.clause_decision.proofs.FormulaLemmas.{two-within}

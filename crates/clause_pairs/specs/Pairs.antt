@@ -14,7 +14,7 @@ use Rattle.clause_queries.specs.Queries.{Problem, problem, HasNoModelUnder}
 use Rattle.clause_pairs.specs.declared.apart.Asked.{Asked}
 use Rattle.clause_decision.specs.declared.cones.Cone.{Cone}
 use Rattle.clause_pairs.specs.declared.pairs.Fixed.{Fixed}
-use Rattle.clause_pairs.specs.declared.pairs.Pair.{Pair}
+use Rattle.netlist.specs.declared.pair.Pair.{Pair}
 use Rattle.clause_pairs.specs.Apart.{IsInCube}
 use Rattle.clause_decision.specs.Cones.{IsCone, ReadsFix}
 

@@ -5,15 +5,16 @@ ghost use Rattle.care_sets.specs.Binding.{IsCareOf};
 ghost use Rattle.ternary_clauses.specs.Apart.{SaysApart};
 ghost use Rattle.ternary_clauses.specs.Formulas.{IsFormula};
 ghost use Rattle.ternary_clauses.specs.Rails.{rails_at};
-ghost use Rattle.clause_pairs.specs.Apart.{IsPairOf, IsPairIn, ArePairsIn, IsCubeOf, AreNeverApart, AreNeverApartIn};
+ghost use Rattle.netlist.specs.Pairs.{IsPairOf};
+ghost use Rattle.clause_pairs.specs.Apart.{IsPairIn, ArePairsIn, IsCubeOf, AreNeverApart, AreNeverApartIn};
 ghost use Rattle.clause_pairs.specs.Pairs.{fixed_literal, assumed_literals, HasRails, AddsLiteral, AddLiterals, SayPairs, AreAskable, AreLiteralsOf, HaveNoModel, TellPairs, AreRefuted};
 ghost use Rattle.clause_decision.specs.Scopes.{IsScopeOf};
 
-use crate::pairs::{Budget, Fixed, Hint, Pair, PairSearch};
+use crate::pairs::{Budget, Fixed, Hint, PairSearch};
 use care_sets::Care;
 use clause_decision::{Cone, Scope, cone_of, query_of};
 use clause_queries::Query;
-use netlist::Netlist;
+use netlist::{Netlist, Pair};
 use std::alloc::{AllocError, Global};
 use ternary_clauses::{ClausesFault, Formula, Rails, add_apart, exchanged};
 

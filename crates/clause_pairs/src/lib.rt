@@ -11,4 +11,4 @@ mod pairs;
 
 pub use apart::{are_never_apart, are_never_apart_in};
 pub use cubes::{CareQuestions, Cube, leave_none_out};
-pub use pairs::{Budget, Fixed, Hint, Pair, PairSearch};
+pub use pairs::{Budget, Fixed, Hint, PairSearch};

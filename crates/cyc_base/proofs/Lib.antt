@@ -3,3 +3,7 @@ pub mod ListLemmas
 pub mod NameLemmas
 pub mod VectorLemmas
 pub mod OrderLemmas
+pub mod TildeLemmas
+pub mod MarkLemmas
+pub mod DigitLemmas
+pub mod BlifLemmas

@@ -1,5 +1,6 @@
 -- The chapter: what the contracts of public functions say.
 pub mod Names
+pub mod Tildes
 pub mod Values
 pub mod Order
 pub mod Vectors

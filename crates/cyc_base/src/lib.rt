@@ -1,8 +1,8 @@
 //! The words that every crate of `cyc` speaks of: the three values and their order, signals, names,
-//! lists that contracts see as lists, and the limits of the tool.
+//! runs of `~` that are longer than each in some names, lists that contracts see as lists, and the limits of the tool.
 //!
 //! It stands on std alone. The crates above use that the order of values is a partial order with X at
-//! the bottom (`laws`), and that a name is its bytes.
+//! the bottom (`laws`), that a name is its bytes, and how long a name's longest run of `~` is.
 #![tactic(auto)]
 
 mod items;
@@ -10,6 +10,7 @@ pub mod laws;
 mod limits;
 mod name;
 mod sig;
+mod tildes;
 mod trit;
 
 pub use items::{Bits, Items, Trits};
@@ -19,4 +20,5 @@ pub use limits::{
 };
 pub use name::Name;
 pub use sig::Sig;
+pub use tildes::{longest_run, mark_longer_than};
 pub use trit::Trit;

@@ -14,7 +14,7 @@ use Rattle.fixpoint.specs.Kept.{rails_under}
 use Rattle.fixpoint.specs.Solved.{Vectors, IsSolution}
 use Rattle.refusals.proofs.LawLemmas.{care_test}
 use Rattle.diagram_decision.proofs.CareLemmas.{value_at-place}
-use Rattle.clause_pairs.specs.Apart.{are_apart, is_apart_at, some_is_apart, IsPairOf}
+use Rattle.netlist.specs.Pairs.{are_apart, is_apart_at, some_is_apart, IsPairOf}
 use Rattle.miters.specs.Pairs.{least_apart}
 use Rattle.equal.specs.Sets.{pair_differs}
 use Rattle.equal.proofs.LaidLemmas.{above-bounded}

@@ -8,8 +8,8 @@ pub use Rattle.bdd_store.specs.Subfunctions.{nodes}
 pub use Rattle.bdd_store.specs.declared.node.Node.{Node}
 pub use Rattle.care_sets.specs.Binding.{IsCareOf}
 pub use Rattle.care_sets.specs.Care.{CareSet, columns, is_care_vector, state_of}
-pub use Rattle.clause_pairs.specs.Apart.{IsPairOf}
-pub use Rattle.clause_pairs.specs.declared.pairs.Pair.{Pair}
+pub use Rattle.netlist.specs.Pairs.{IsPairOf}
+pub use Rattle.netlist.specs.declared.pair.Pair.{Pair}
 pub use Rattle.cyc_base.proofs.VectorLemmas.{find-alike}
 pub use Rattle.cyc_base.specs.Values.{bit, bits}
 pub use Rattle.cyc_base.specs.Vectors.{vectors}

@@ -9,7 +9,7 @@ use Rattle.care_sets.specs.Binding.{IsCareOf}
 use Rattle.care_sets.specs.Care.{CareSet}
 use Rattle.diagram_decision.specs.Causes.{IsOutOfNodes}
 use Rattle.equal.specs.Comparisons.{IsBelowEnoughFor}
-use Rattle.clause_pairs.specs.declared.pairs.Pair.{Pair}
+use Rattle.netlist.specs.declared.pair.Pair.{Pair}
 use Rattle.miters.specs.declared.answer.Answer.{Answer}
 use Rattle.equal.specs.declared.fault.EqualFault.{EqualFault}
 use Rattle.equal.specs.declared.fault.EqualFault.TheVariants.{Memory, NodeLimit}

@@ -14,7 +14,7 @@ use Rattle.care_sets.specs.Care.{CareSet, columns, state_of, is_care_vector}
 use Rattle.diagram_decision.specs.Causes.{HasCoverOver, IsStoreFor}
 use Rattle.diagram_decision.specs.Costs.{assume_effort, invariant_effort}
 use Rattle.diagram_decision.specs.Enough.{IsOfModel, enough}
-use Rattle.clause_pairs.specs.declared.pairs.Pair.{Pair}
+use Rattle.netlist.specs.declared.pair.Pair.{Pair}
 
 -- A function of a vector that a comparison works with: a column, the care vectors, or one of the working list of the
 -- netlist, of the assumption, or of the invariant.

@@ -13,7 +13,7 @@ use Rattle.netlist.specs.Netlists.{count}
 use Rattle.netlist.specs.Fixpoint.{fix}
 use Rattle.fixpoint.specs.Sweeping.{rails_at}
 use Rattle.diagram_decision.specs.Sets.{BoundsBoth}
-use Rattle.clause_pairs.specs.declared.pairs.Pair.{Pair}
+use Rattle.netlist.specs.declared.pair.Pair.{Pair}
 use Rattle.equal.specs.declared.parting.ComparedRails.{ComparedRails}
 
 -- the node is true at the vectors that pass the test

@@ -9,8 +9,7 @@ ghost use Rattle.miters.specs.Joined.{joined_pairs};
 ghost use Rattle.miters.specs.Matching.{unmatched};
 
 use care_sets::Care;
-use clause_pairs::Pair;
-use netlist::Netlist;
+use netlist::{Netlist, Pair};
 use std::marker::Model;
 
 /// Two netlists that are accepted and whose names match, the second on the vectors of the first by name.

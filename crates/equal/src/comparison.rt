@@ -3,11 +3,11 @@
 ghost use Rattle.std.specs.Prelude.{All};
 ghost use Rattle.bdd_ops.specs.Least.{IsLayout};
 ghost use Rattle.care_sets.specs.Care.{columns};
-ghost use Rattle.clause_pairs.specs.Apart.{IsPairOf};
+ghost use Rattle.netlist.specs.Pairs.{IsPairOf};
 
 use care_sets::Care;
-use clause_pairs::Pair;
 use loops::LoopedNetlist;
+use netlist::Pair;
 
 /// Pairs of wires of a netlist that are compared on a care set, by diagrams.
 ///

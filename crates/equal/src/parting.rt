@@ -11,9 +11,9 @@ ghost use Rattle.equal.specs.Sets.{is_above, differ, some_differ, AreComparedIn,
 use crate::lesser::lesser;
 use bdd_ops::Diagrams;
 use bdd_store::{Node, StoreFault};
-use clause_pairs::Pair;
 use diagram_decision::least_of;
 use dual_rail::Rails;
+use netlist::Pair;
 use std::alloc::Global;
 
 /// Two rails, and the set of vectors at which they are compared.

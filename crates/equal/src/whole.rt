@@ -2,7 +2,8 @@
 
 ghost use Rattle.std.specs.Prelude.{◌≡◌, ◌<◌, true, ℕ, length, All, IfOk};
 ghost use Rattle.care_sets.specs.Binding.{IsCareOf};
-ghost use Rattle.clause_pairs.specs.Apart.{AreNeverApart, IsPairOf};
+ghost use Rattle.netlist.specs.Pairs.{IsPairOf};
+ghost use Rattle.clause_pairs.specs.Apart.{AreNeverApart};
 ghost use Rattle.clause_decision.specs.Scopes.{is_marked, IsScopeOf};
 
 use care_sets::Care;

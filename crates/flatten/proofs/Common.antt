@@ -33,7 +33,7 @@ pub use Rattle.std.specs.Option.{option_or}
 pub use Rattle.std.specs.Str.{bytes_eq}
 pub use Rattle.std.specs.declared.option.Option.{Option}
 pub use Rattle.std.specs.declared.result.Result.{Result}
-pub use Rattle.tildes.specs.Runs.{longest_run_of, tildes}
+pub use Rattle.cyc_base.specs.Tildes.{longest_run_of, tildes}
 pub use Rattle.cyc_base.proofs.ListLemmas.{drop-item}
 pub use Rattle.cyc_base.proofs.NameLemmas.{bytes_eq-true}
 pub use Rattle.cyc_base.proofs.TruthLemmas.{or-false}

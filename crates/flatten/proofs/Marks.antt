@@ -2,8 +2,8 @@
 use Rattle.std.proofs.Common.{◌≡◌, ℕ, ◌+◌, ◌<◌, max, List, [], ◌∷◌, ◌++◌, length, get_or, take, ap, ◌∙◌, arith}
 use Rattle.std.proofs.lemmas.Grind.{flat_map-append}
 use Rattle.flatten.proofs.Common.{append-nil, flat_map, BlifModel, Item, longest_run_of, item_names, pair_names}
-use Rattle.tildes.specs.Runs.{longest_run}
-use Rattle.tildes.proofs.RunLemmas.{longest-append}
+use Rattle.cyc_base.specs.Tildes.{longest_run}
+use Rattle.cyc_base.proofs.TildeLemmas.{longest-append}
 use Rattle.flatten.specs.Wires.{model_names}
 use Rattle.flatten.proofs.Names.{taken}
 

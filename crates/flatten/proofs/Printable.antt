@@ -2,7 +2,7 @@
 use Rattle.std.proofs.Common.{ℕ, suc, ◌+◌, ◌<◌, List, [], ◌∷◌, ◌++◌, length, ◌∙◌, All, arith}
 use Rattle.flatten.proofs.Common.{length-map, All-nil, All-cons, All-head, All-append, All-push, decimal, bytes_eq, longest_run_of, tildes, mark_of, wire_names, BlifModel, PartLine, Item, Part, Level, model_at, resolved, bound, gate_by, latch_by, passed_line, passed_part, PassesPart, IsPrintedGate, IsPrintedLatch, no_model, All-map, All-weaker, own_gates, own_latches}
 use Rattle.cyc_base.specs.Names.{IsBlifByte, IsBlifName}
-use Rattle.tildes.proofs.BlifLemmas.{tildes_fit, decimal_fits}
+use Rattle.cyc_base.proofs.BlifLemmas.{tildes_fit, decimal_fits}
 use Rattle.blif_read.specs.Flattening.{IsSoundItem, IsSoundModel, CanBeFlattened}
 use Rattle.flatten.specs.declared.walk.Walk.{Walk}
 use Rattle.flatten.specs.Levels.{IsBegun, PassesLine}

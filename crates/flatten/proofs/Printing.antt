@@ -2,9 +2,9 @@
 use Rattle.std.proofs.Common.{◌≡◌, ℕ, zero, suc, ◌^◌, ◌<◌, ◌≤◌, List, [], ◌∷◌, ◌++◌, Contains, refl, ap, arith}
 use Rattle.std.proofs.lemmas.Fmt.{decimal_injective}
 use Rattle.flatten.proofs.Common.{decimal, longest_run_of, tildes, Wire}
-use Rattle.tildes.specs.Runs.{longest_run}
-use Rattle.tildes.proofs.MarkLemmas.{run_longest, without_tildes}
-use Rattle.tildes.proofs.DigitLemmas.{split_at_tilde, decimal_no_tilde}
+use Rattle.cyc_base.specs.Tildes.{longest_run}
+use Rattle.cyc_base.proofs.MarkLemmas.{run_longest, without_tildes}
+use Rattle.cyc_base.proofs.DigitLemmas.{split_at_tilde, decimal_no_tilde}
 use Rattle.flatten.specs.Wires.{mark, printed_at, printed}
 
 one_longest : (names : List (List ℕ)) (v : List ℕ) → Contains names v → longest_run v ≤ longest_run_of names

@@ -3,7 +3,7 @@ use Rattle.std.specs.Prelude.{ℕ, suc, List, [], ◌∷◌, ◌++◌, Some, Non
 use Rattle.std.specs.declared.option.Option.{Option}
 use Rattle.std.specs.List.{flat_map}
 use Rattle.std.specs.Fmt.{decimal}
-use Rattle.tildes.specs.Runs.{longest_run_of, tildes}
+use Rattle.cyc_base.specs.Tildes.{longest_run_of, tildes}
 use Rattle.netlist.specs.declared.parts.Clock.{Clock}
 use Rattle.blif_read.specs.declared.models.BlifModel.{BlifModel}
 use Rattle.blif_read.specs.declared.models.Item.{Item}

@@ -1,13 +1,12 @@
 ghost use Rattle.std.specs.Prelude.{◌≡◌, IfOk};
-ghost use Rattle.tildes.specs.Runs.{longest_run_of};
+ghost use Rattle.cyc_base.specs.Tildes.{longest_run_of};
 ghost use Rattle.flatten.specs.Wires.{pair_names, item_names, model_names, mark_of};
 
 use blif_read::{BlifModel, Item, LatchLine};
-use cyc_base::Name;
+use cyc_base::{Name, longest_run, mark_longer_than};
 use std::alloc::{AllocError, Global};
-use tildes::{longest_run, mark_longer_than};
 
-#[tactic(auto, using(tildes::proofs::RunLemmas::max_is, tildes::proofs::RunLemmas::longest_more))]
+#[tactic(auto, using(cyc_base::proofs::TildeLemmas::max_is, cyc_base::proofs::TildeLemmas::longest_more))]
 fn longest_in(names: &[Name]) -> usize
     ensures { result ≡ longest_run_of names.now }
 {
@@ -18,7 +17,7 @@ fn longest_in(names: &[Name]) -> usize
     longest
 }
 
-#[tactic(auto, using(tildes::proofs::RunLemmas::max_is, crate::proofs::Marks::longest_pairs))]
+#[tactic(auto, using(cyc_base::proofs::TildeLemmas::max_is, crate::proofs::Marks::longest_pairs))]
 fn longest_in_pairs(pairs: &[(Name, Name)]) -> usize
     ensures { result ≡ longest_run_of (pair_names pairs.now) }
 {
@@ -29,7 +28,7 @@ fn longest_in_pairs(pairs: &[(Name, Name)]) -> usize
     longest
 }
 
-#[tactic(auto, using(tildes::proofs::RunLemmas::max_is))]
+#[tactic(auto, using(cyc_base::proofs::TildeLemmas::max_is))]
 fn longest_in_latch(latch: &LatchLine) -> usize
     ensures { result ≡ longest_run_of (item_names (Item.Latch latch.now)) }
 {
@@ -40,7 +39,7 @@ fn longest_in_latch(latch: &LatchLine) -> usize
     }
 }
 
-#[tactic(auto, using(tildes::proofs::RunLemmas::max_is))]
+#[tactic(auto, using(cyc_base::proofs::TildeLemmas::max_is))]
 fn longest_in_item(item: &Item) -> usize
     ensures { result ≡ longest_run_of (item_names item.now) }
 {
@@ -51,7 +50,7 @@ fn longest_in_item(item: &Item) -> usize
     }
 }
 
-#[tactic(auto, using(tildes::proofs::RunLemmas::max_is, crate::proofs::Marks::longest_items, crate::proofs::Marks::longest_model))]
+#[tactic(auto, using(cyc_base::proofs::TildeLemmas::max_is, crate::proofs::Marks::longest_items, crate::proofs::Marks::longest_model))]
 fn longest_in_model(model: &BlifModel) -> usize
     ensures { result ≡ longest_run_of (model_names model.now) }
 {
@@ -65,7 +64,7 @@ fn longest_in_model(model: &BlifModel) -> usize
 }
 
 /// The mark of a file: a run of `~` longer by one than the longest in any name of a wire.
-#[tactic(auto, using(tildes::proofs::RunLemmas::max_is, crate::proofs::Marks::longest_models))]
+#[tactic(auto, using(cyc_base::proofs::TildeLemmas::max_is, crate::proofs::Marks::longest_models))]
 pub(crate) fn mark(alloc: Global, models: &[BlifModel]) -> Result<Name, AllocError>
     ensures { IfOk result (λ mark. mark ≡ mark_of models.now) }
 {

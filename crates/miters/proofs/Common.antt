@@ -4,8 +4,8 @@ pub use Rattle.care_sets.proofs.NameLemmas.{length-column_names}
 pub use Rattle.care_sets.specs.Binding.{IsBoundTo, IsCareOf, column_of}
 pub use Rattle.care_sets.specs.Care.{CareSet, IsCareVector, column_names, columns, is_care_vector, is_one}
 pub use Rattle.care_sets.specs.declared.model.CareModel.{CareModel}
-pub use Rattle.clause_pairs.specs.Apart.{IsPairOf, are_apart, is_apart_at, some_is_apart}
-pub use Rattle.clause_pairs.specs.declared.pairs.Pair.{Pair}
+pub use Rattle.netlist.specs.Pairs.{IsPairOf, are_apart, is_apart_at, some_is_apart}
+pub use Rattle.netlist.specs.declared.pair.Pair.{Pair}
 pub use Rattle.cover_logic.specs.Extensions.{ext}
 pub use Rattle.cyc_base.proofs.ListLemmas.{list_any-map, option_map-nothing, option_or-neither}
 pub use Rattle.cyc_base.specs.Names.{IsBlifName}

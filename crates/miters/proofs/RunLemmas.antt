@@ -24,7 +24,7 @@ use Rattle.schedules.proofs.RunLemmas.{Fits, last_above, fits_next, run_fits}
 use Rattle.schedules.specs.Accepted.{FollowsFix}
 use Rattle.schedules.proofs.CareLemmas.{care_is_kept, runs_follow_fix, follows_fix}
 use Rattle.schedules.proofs.SameLemmas.{same_head, same_tail}
-use Rattle.clause_pairs.specs.declared.pairs.Pair.{Pair}
+use Rattle.netlist.specs.declared.pair.Pair.{Pair}
 use Rattle.miters.specs.declared.answer.Answer.TheVariants.{Latch as LatchAt}
 use Rattle.miters.specs.Matching.{latch_named, output_names}
 use Rattle.miters.specs.Differences.{column_named, by_name, signal_named, source_named, pair_of, are_different, HaveOneSource}

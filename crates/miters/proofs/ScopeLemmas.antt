@@ -2,9 +2,10 @@
 use Rattle.std.proofs.Common.{◌≡◌, ℕ, ◌<◌, true, false, Bool, List, length, get_or, All, sym, arith, ◌∙◌, true≢false}
 use Rattle.miters.proofs.Common.{Parts}
 use Rattle.clause_pairs.specs.declared.pairs.Hint.{Hint}
-use Rattle.clause_pairs.specs.declared.pairs.Pair.{Pair}
+use Rattle.netlist.specs.declared.pair.Pair.{Pair}
 use Rattle.clause_decision.specs.declared.scope.Scope.{Scope}
-use Rattle.clause_pairs.specs.Apart.{ArePairsIn, IsPairIn, IsPairOf}
+use Rattle.netlist.specs.Pairs.{IsPairOf}
+use Rattle.clause_pairs.specs.Apart.{ArePairsIn, IsPairIn}
 use Rattle.clause_decision.specs.Scopes.{is_marked, AreClosed, AreNeverUnknown}
 
 pub all_close : (net : Parts) (marks : List Bool) → ((n : ℕ) → n < length net.gates → is_marked marks n ≡ true) → AreClosed net marks

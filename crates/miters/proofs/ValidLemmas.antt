@@ -10,8 +10,8 @@ use Rattle.miters.specs.Joined.{more_name, never_gate}
 use Rattle.std.proofs.lemmas.Map.Made.{IsDistinct-from_AllPairs}
 use Rattle.std.proofs.lemmas.Slice.Eq.{bytes_eq-Decides}
 use Rattle.care_sets.proofs.NameLemmas.{length-names, names_split}
-use Rattle.tildes.specs.Runs.{longest_run, longest_run_of}
-use Rattle.tildes.proofs.RunLemmas.{longest-append}
+use Rattle.cyc_base.specs.Tildes.{longest_run, longest_run_of}
+use Rattle.cyc_base.proofs.TildeLemmas.{longest-append}
 use Rattle.netlist.specs.declared.parts.Clock.{Clock}
 use Rattle.unroll.proofs.NameLemmas.{copy_is_long, copy_names_tell, copy_name_fits, all_short, distinct_append, short_from_long, short_is_none}
 use Rattle.miters.proofs.MatchLemmas.{matched}

@@ -5,8 +5,8 @@ use Rattle.cyc_base.specs.Vectors.{AtMost}
 use Rattle.netlist.specs.declared.parts.Parts.{Parts}
 use Rattle.care_sets.specs.Care.{CareSet, IsCareVector, is_care_vector}
 use Rattle.clause_pairs.specs.declared.pairs.Fixed.{Fixed}
-use Rattle.clause_pairs.specs.declared.pairs.Pair.{Pair}
-use Rattle.clause_pairs.specs.Apart.{some_is_apart}
+use Rattle.netlist.specs.declared.pair.Pair.{Pair}
+use Rattle.netlist.specs.Pairs.{some_is_apart}
 
 -- the first columns fixed at these values
 abbrev pub cube_of : List Bool → List Fixed

@@ -5,8 +5,9 @@ use Rattle.netlist.specs.Netlists.{count}
 use Rattle.care_sets.specs.Binding.{IsCareOf}
 use Rattle.care_sets.specs.Care.{CareSet}
 use Rattle.clause_pairs.specs.declared.pairs.Fixed.{Fixed}
-use Rattle.clause_pairs.specs.declared.pairs.Pair.{Pair}
-use Rattle.clause_pairs.specs.Apart.{AreNeverApartIn, IsPairOf}
+use Rattle.netlist.specs.declared.pair.Pair.{Pair}
+use Rattle.netlist.specs.Pairs.{IsPairOf}
+use Rattle.clause_pairs.specs.Apart.{AreNeverApartIn}
 use Rattle.clause_decision.specs.Scopes.{is_marked, IsScopeOf}
 use Rattle.miters.specs.declared.cases.JoinedPairs.{JoinedPairs}
 use Rattle.miters.specs.declared.cases.PairsTold.{PairsTold}

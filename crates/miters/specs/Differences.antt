@@ -20,7 +20,7 @@ use Rattle.refusals.specs.Acceptance.{gate_sigs, AreDetermined}
 use Rattle.refusals.specs.Refusals.{care_vectors, refusal}
 use Rattle.miters.specs.declared.answer.Answer.{Answer}
 use Rattle.miters.specs.declared.answer.Answer.TheVariants.{Equal, Unmatched, First, Second, Output, Latch as LatchAt}
-use Rattle.clause_pairs.specs.declared.pairs.Pair.{Pair}
+use Rattle.netlist.specs.declared.pair.Pair.{Pair}
 use Rattle.miters.specs.Matching.{name_of, latch_named, unmatched}
 
 -- the number of a place, or 0 where there is none

@@ -11,7 +11,7 @@ use Rattle.netlist.specs.declared.parts.Gate.{Gate}
 use Rattle.netlist.specs.declared.parts.Parts.{Parts}
 use Rattle.netlist.specs.Netlists.{signal, count, gate_at, with_gates}
 use Rattle.unroll.specs.Marks.{mark, copy_name}
-use Rattle.clause_pairs.specs.declared.pairs.Pair.{Pair}
+use Rattle.netlist.specs.declared.pair.Pair.{Pair}
 use Rattle.miters.specs.Differences.{columns_by_name, pair_of, output_pairs, latch_pairs}
 
 -- A signal of the second netlist as one of the joined netlist, by the first one's columns of the second one's names, and

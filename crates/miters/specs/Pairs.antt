@@ -4,8 +4,8 @@ use Rattle.std.specs.declared.option.Option.{Option}
 use Rattle.netlist.specs.declared.parts.Parts.{Parts}
 use Rattle.care_sets.specs.Care.{CareSet}
 use Rattle.refusals.specs.Refusals.{care_vectors}
-use Rattle.clause_pairs.specs.declared.pairs.Pair.{Pair}
-use Rattle.clause_pairs.specs.Apart.{some_is_apart}
+use Rattle.netlist.specs.declared.pair.Pair.{Pair}
+use Rattle.netlist.specs.Pairs.{some_is_apart}
 
 -- the least care vector on which those of some pair are apart
 abbrev pub least_apart : Parts → CareSet → List Pair → Option (List Bool)

@@ -6,7 +6,7 @@ use Rattle.netlist.specs.Netlists.{signal}
 use Rattle.care_sets.specs.Care.{CareSet, IsCareVector}
 use Rattle.refusals.specs.Refusals.{Proves}
 use Rattle.refusals.specs.declared.refusal.Refusal.TheVariants.{EmptyCare}
-use Rattle.clause_pairs.specs.declared.pairs.Pair.{Pair}
+use Rattle.netlist.specs.declared.pair.Pair.{Pair}
 use Rattle.miters.specs.declared.answer.Answer.{Answer}
 use Rattle.miters.specs.declared.answer.Answer.TheVariants.{Equal, Unmatched, First, Second, Output, Latch}
 use Rattle.miters.specs.Matching.{unmatched}

@@ -3,15 +3,16 @@
 
 ghost use Rattle.std.specs.Prelude.{◌≡◌, ◌<◌, ◌++◌, ◌∷◌, [], All, IfOk, IfSome};
 ghost use Rattle.care_sets.specs.Care.{columns as columns_of};
-ghost use Rattle.clause_pairs.specs.Apart.{IsCubeOf, IsPairOf};
+ghost use Rattle.netlist.specs.Pairs.{IsPairOf};
+ghost use Rattle.clause_pairs.specs.Apart.{IsCubeOf};
 ghost use Rattle.miters.specs.Cases.{told_by, ArePaired, TellsIn};
 
 use crate::hints::find_hints;
 use care_sets::Care;
 use clause_decision::Scope;
-use clause_pairs::{Budget, Fixed, Hint, Pair, PairSearch, are_never_apart_in};
+use clause_pairs::{Budget, Fixed, Hint, PairSearch, are_never_apart_in};
 use loops::LoopedNetlist;
-use netlist::Netlist;
+use netlist::{Netlist, Pair};
 use std::alloc::{AllocError, Global};
 
 /// How many conflicts each inner pair may meet, and how many each pair of outputs, or of what latches load.

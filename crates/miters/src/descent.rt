@@ -6,15 +6,16 @@ ghost use Rattle.std.specs.Prelude.{◌≡◌, ◌<◌, ◌≤◌, ◌++◌, ◌
 ghost use Rattle.std.specs.List.{list_any};
 ghost use Rattle.netlist.specs.Fixpoint.{wire};
 ghost use Rattle.care_sets.specs.Care.{columns as columns_of};
-ghost use Rattle.clause_pairs.specs.Apart.{are_apart as are_apart_of};
+ghost use Rattle.netlist.specs.Pairs.{are_apart as are_apart_of};
 ghost use Rattle.miters.specs.Beginnings.{cube_of as cube_of_values, IsNextValue, IsLeastBeginning, IsApartAt};
 ghost use Rattle.miters.specs.Cases.{ArePaired, TellsIn};
 ghost use Rattle.miters.specs.Pairs.{least_apart as least_apart_of};
 
 use crate::cases::{JoinedPairs, PairsTold};
 use crate::placing::value_of;
-use clause_pairs::{Fixed, Pair};
+use clause_pairs::Fixed;
 use cyc_base::Trit;
+use netlist::Pair;
 use refusals::is_care_vector;
 use std::alloc::{AllocError, Global};
 use ternary_run::settle_at;

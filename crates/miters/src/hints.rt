@@ -3,16 +3,16 @@
 ghost use Rattle.std.specs.Prelude.{◌≡◌, ◌+◌, ◌<◌, ◌≤◌, [], length, All, IfOk, IfSome, OnOk, ℕ};
 ghost use Rattle.indexmap.specs.IndexMap.{values};
 ghost use Rattle.netlist.specs.Netlists.{count};
-ghost use Rattle.clause_pairs.specs.Apart.{IsPairOf};
+ghost use Rattle.netlist.specs.Pairs.{IsPairOf};
 ghost use Rattle.miters.specs.Joined.{joined};
 
 use crate::prints::{Print, fingerprints};
 use care_sets::Care;
-use clause_pairs::{Fixed, Hint, Pair};
+use clause_pairs::{Fixed, Hint};
 use cyc_base::Sig;
 use indexmap::IndexMap;
 use loops::{LoopedNetlist, find_blocks};
-use netlist::Netlist;
+use netlist::{Netlist, Pair};
 use std::alloc::{AllocError, Global};
 
 /// For each fingerprint the first of these many wires that has it.

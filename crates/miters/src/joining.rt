@@ -10,9 +10,8 @@ ghost use Rattle.miters.specs.Joined.{moved_by, moved_gate_by, moved_gates, move
 ghost use Rattle.miters.specs.Matching.{unmatched};
 
 use crate::pairs::own_pairs;
-use clause_pairs::Pair;
 use cyc_base::{Items, Name, Sig};
-use netlist::{Gate, Netlist, copy_gates, netlist_of, parts_with};
+use netlist::{Gate, Netlist, Pair, copy_gates, netlist_of, parts_with};
 use std::alloc::{AllocError, Global};
 use unroll::{copy_name, mark};
 

@@ -10,10 +10,9 @@ ghost use Rattle.miters.specs.Differences.{columns_by_name};
 ghost use Rattle.miters.specs.Matching.{unmatched};
 
 use crate::joining::{joined_gates, netlist_with};
-use clause_pairs::Pair;
 use cover_logic::{Cover, Lit, Row};
 use cyc_base::{Items, Name, Sig};
-use netlist::{Gate, Netlist};
+use netlist::{Gate, Netlist, Pair};
 use std::alloc::{AllocError, Global};
 use unroll::{copy_name, mark};
 

@@ -6,9 +6,8 @@ ghost use Rattle.miters.specs.Differences.{column_named, columns_by_name, pair_o
 ghost use Rattle.miters.specs.Matching.{name_of};
 
 use crate::matching::latch_of;
-use clause_pairs::Pair;
 use cyc_base::{Name, Sig};
-use netlist::Netlist;
+use netlist::{Netlist, Pair};
 use std::alloc::{AllocError, Global};
 
 /// The column of this name.

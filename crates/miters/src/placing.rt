@@ -9,9 +9,8 @@ ghost use Rattle.miters.specs.Places.{answer_at};
 
 use crate::answer::Answer;
 use crate::pairs::{find_columns, latch_pairs, output_pairs};
-use clause_pairs::Pair;
 use cyc_base::{Bits, Sig, Trit};
-use netlist::Netlist;
+use netlist::{Netlist, Pair};
 use std::alloc::{AllocError, Global};
 use ternary_run::settle_at;
 

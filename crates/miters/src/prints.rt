@@ -6,9 +6,9 @@ ghost use Rattle.netlist.specs.Netlists.{count};
 
 use crate::words::{Word, gate_word, word_at};
 use care_sets::Care;
-use clause_pairs::{Fixed, Pair};
+use clause_pairs::Fixed;
 use loops::{Blocks, Cut, LoopedNetlist, find_blocks, find_cut, gates_at};
-use netlist::Netlist;
+use netlist::{Netlist, Pair, mixed};
 use std::alloc::{AllocError, Global};
 use std::marker::Model;
 
@@ -214,12 +214,6 @@ impl<'a> SimulatedCare<'a> {
 pub(crate) struct Print {
     pub own: u64,
     pub opposite: u64,
-}
-
-/// A number with one more in it: times an odd number, and then its upper half in its lower one too.
-pub(crate) fn mixed(print: u64, number: u64) -> u64 {
-    let mixed = (print ^ number).wrapping_mul(0x9e37_79b9_7f4a_7c15);
-    mixed ^ (mixed >> 32)
 }
 
 impl Print {

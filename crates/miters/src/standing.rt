@@ -8,13 +8,11 @@ ghost use Rattle.miters.specs.Matching.{unmatched};
 ghost use Rattle.miters.specs.Placed.{placed_by, IsGate, StandsAt, StandIn};
 
 use crate::pairs::own_pairs;
-use crate::prints::mixed;
-use clause_pairs::Pair;
-use cover_logic::{Cover, Lit, Row};
+use cover_logic::Cover;
 use cyc_base::Sig;
 use indexmap::IndexMap;
 use loops::find_blocks;
-use netlist::{Gate, Netlist};
+use netlist::{Gate, Netlist, Pair, gate_key};
 use std::alloc::{AllocError, Global};
 
 /// The number at a place, 0 where there is none.
@@ -110,42 +108,15 @@ fn pairs_stand(columns: &[u32], places: &[u32], pairs: &[Pair]) -> bool
     pairs.iter().all(|pair| placed(columns, places, pair.there).0 == pair.here.0)
 }
 
-/// A number with a literal more in it.
-fn with_literal(key: u64, lit: Lit) -> u64 {
-    match lit {
-        Lit::Zero => mixed(key, 1),
-        Lit::One => mixed(key, 2),
-        Lit::Any => mixed(key, 3),
-    }
-}
-
-/// A number with a row more in it.
-fn with_row(key: u64, row: &Row) -> u64 {
-    let mut key = mixed(key, 4);
-    for lit in row.lits.items() {
-        key = with_literal(key, *lit);
-    }
-    key
-}
-
-/// A number for gates of this cover that read these wires.
-fn key_of(cover: &Cover, pins: &[Sig]) -> u64 {
-    let mut key = u64::from(cover.plane());
-    for row in cover.rows() {
-        key = with_row(key, row);
-    }
-    for pin in pins {
-        key = mixed(key, u64::from(pin.0) + 5);
-    }
-    key
-}
-
-/// For each such number the first netlist's last gate that has it, by its signal.
+/// For each number of gates (`gate_key`) the first netlist's last gate that has it, by its signal.
 fn gates_by_key(alloc: Global, a: &Netlist) -> Result<IndexMap<u64, u32>, AllocError> {
     let mut found = IndexMap::new(alloc);
     for number in 0..a.gates() {
         let gate = a.gate(number);
-        found.insert(key_of(&gate.cover, gate.pins.items()), a.gate_sig(number).0)?;
+        found.insert(
+            gate_key(&gate.cover, gate.pins.items()),
+            a.gate_sig(number).0,
+        )?;
     }
     Ok(found)
 }
@@ -159,7 +130,7 @@ fn place_by_pins(
 ) -> Option<u32> {
     match a.find(&own.name) {
         Some(signal) if is_gate(a, signal.0, &own.cover, pins) => Some(signal.0),
-        _ => by_key.get(&key_of(&own.cover, pins)).copied(),
+        _ => by_key.get(&gate_key(&own.cover, pins)).copied(),
     }
 }
 

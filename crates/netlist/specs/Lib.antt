@@ -2,6 +2,7 @@
 pub mod Netlists
 pub mod Faults
 pub mod Fixpoint
+pub mod Pairs
 pub mod Walks
 pub mod Orders
 pub mod Laws

@@ -7,15 +7,19 @@
 
 mod checks;
 mod copying;
+mod keys;
 pub mod laws;
 mod named;
 mod names;
 mod netlist;
 mod order;
+mod pair;
 mod parts;
 
 pub use copying::{
     copy_clock, copy_gate, copy_gates, copy_inputs, copy_netlist, netlist_of, parts_with,
 };
+pub use keys::{gate_key, mixed};
 pub use netlist::Netlist;
+pub use pair::Pair;
 pub use parts::{Clock, Edge, Gate, Init, Latch, Parts, PartsFault};

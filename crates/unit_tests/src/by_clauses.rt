@@ -15,11 +15,11 @@ use clause_decision::{
     First, Found, Scope, each_unknown, first_unknown, is_possible, least_leaving, least_outside,
     least_unknown, sweeps_fed_known, sweeps_needed,
 };
-use clause_pairs::{Budget, Pair, PairSearch};
+use clause_pairs::{Budget, PairSearch};
 use cyc_base::{Items, Sig};
 use loop_simulation::sweeps_at;
 use loops::{Blocks, Cut, LoopedNetlist};
-use netlist::Netlist;
+use netlist::{Netlist, Pair};
 use std::alloc::{AllocError, Global};
 use std::test::Fail;
 use verdict::{Judgement, Observe, judge};

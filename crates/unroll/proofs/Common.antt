@@ -30,8 +30,8 @@ unfoldable pub use Rattle.std.specs.List.{IsDistinct}
 pub use Rattle.std.specs.Option.{option_map_or}
 pub use Rattle.std.specs.Str.{bytes_eq}
 pub use Rattle.std.specs.declared.option.Option.{Option}
-pub use Rattle.tildes.proofs.RunLemmas.{longest-append}
-pub use Rattle.tildes.specs.Runs.{longest_run, longest_run_of}
+pub use Rattle.cyc_base.proofs.TildeLemmas.{longest-append}
+pub use Rattle.cyc_base.specs.Tildes.{longest_run, longest_run_of}
 pub use Rattle.unroll.specs.Counted.{Counted, counted_loops, counted_sweeps, looped_in, IsCounted}
 pub use Rattle.unroll.specs.Marks.{clock_names, copy_name, longest_run_in, mark, zero_name}
 pub use Rattle.unroll.specs.Plans.{loops_in, net_of, sweeps_in}

@@ -5,12 +5,12 @@ use Rattle.unroll.proofs.Common.{append-nil, All-append, All-from_recursion, All
 use Rattle.std.proofs.lemmas.List.Elements.{All-cons}
 use Rattle.std.proofs.lemmas.List.Folds.{list_any_none}
 use Rattle.std.specs.Fmt.{decimal}
-use Rattle.tildes.specs.Runs.{tildes}
+use Rattle.cyc_base.specs.Tildes.{tildes}
 use Rattle.cyc_base.specs.Names.{IsBlifByte}
 use Rattle.cyc_base.proofs.NameLemmas.{bytes_eq-other}
-use Rattle.tildes.proofs.MarkLemmas.{run_longest, without_tildes}
-use Rattle.tildes.proofs.DigitLemmas.{split_at_tilde, decimal_no_tilde}
-use Rattle.tildes.proofs.BlifLemmas.{tildes_fit, decimal_fits}
+use Rattle.cyc_base.proofs.MarkLemmas.{run_longest, without_tildes}
+use Rattle.cyc_base.proofs.DigitLemmas.{split_at_tilde, decimal_no_tilde}
+use Rattle.cyc_base.proofs.BlifLemmas.{tildes_fit, decimal_fits}
 
 -- runs of `~`
 pub copy_is_long : (n k : ℕ) (name : List ℕ) → n ≤ longest_run (copy_name (tildes n) k name)

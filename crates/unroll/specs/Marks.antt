@@ -3,7 +3,7 @@
 use Rattle.std.specs.Prelude.{◌++◌, ℕ, suc, List, [], ◌∷◌, codes}
 use Rattle.std.specs.Option.{option_map_or}
 use Rattle.std.specs.Fmt.{decimal}
-use Rattle.tildes.specs.Runs.{longest_run_of, tildes}
+use Rattle.cyc_base.specs.Tildes.{longest_run_of, tildes}
 use Rattle.netlist.specs.declared.parts.Parts.{Parts}
 use Rattle.netlist.specs.Netlists.{signal_names}
 

@@ -2,16 +2,15 @@
 
 ghost use Rattle.std.specs.Prelude.{◌≡◌, IfOk};
 ghost use Rattle.netlist.specs.Netlists.{signal_names};
-ghost use Rattle.tildes.specs.Runs.{longest_run_of};
+ghost use Rattle.cyc_base.specs.Tildes.{longest_run_of};
 ghost use Rattle.unroll.specs.Marks.{longest_run_in as longest_run_by_net, mark as mark_of, zero_name as zero_name_by, copy_name as copy_name_by};
 
-use cyc_base::{Name, Sig};
+use cyc_base::{Name, Sig, longest_run, mark_longer_than};
 use netlist::Netlist;
 use std::alloc::{AllocError, Global};
-use tildes::{longest_run, mark_longer_than};
 
 /// The longest run of `~` in the name of a signal.
-#[tactic(auto, using(tildes::proofs::RunLemmas::max_is))]
+#[tactic(auto, using(cyc_base::proofs::TildeLemmas::max_is))]
 fn longest_run_in_signals(net: &Netlist) -> usize
     ensures { result ≡ longest_run_of (signal_names net.now) }
 {
@@ -23,7 +22,7 @@ fn longest_run_in_signals(net: &Netlist) -> usize
 }
 
 /// The longest run of `~` in the name of a signal or of the clock.
-#[tactic(auto, using(tildes::proofs::RunLemmas::max_is))]
+#[tactic(auto, using(cyc_base::proofs::TildeLemmas::max_is))]
 fn longest_run_in(net: &Netlist) -> usize
     ensures { result ≡ longest_run_by_net net.now }
 {

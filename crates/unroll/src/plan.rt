@@ -44,7 +44,7 @@ impl<'a> Plan<'a> {
     }
 
     /// The most copies that a gate has.
-    #[tactic(auto, using(tildes::proofs::RunLemmas::max_is, crate::proofs::SizeLemmas::most_next))]
+    #[tactic(auto, using(cyc_base::proofs::TildeLemmas::max_is, crate::proofs::SizeLemmas::most_next))]
     pub(crate) fn most_copies(&self) -> u32
         ensures most { result ≡ most (loops_in self.now).same (sweeps_in self.now) (length (net_of self.now).gates) }
         ensures is { IsCounted self.now.counted.now }

@@ -1,6 +1,6 @@
 use Rattle.std.proofs.Common.{◌≡◌, ◌≤◌, ◌∙◌, length, max, ap, sym, subst, arith, ℕ}
 use Rattle.std.proofs.Math.Nat.{le-max_left, le-max_right}
-use Rattle.tildes.proofs.RunLemmas.{max_is}
+use Rattle.cyc_base.proofs.TildeLemmas.{max_is}
 use Rattle.case_split.specs.declared.cases.Case.{Case}
 use Rattle.case_split.proofs.ChoiceLemmas.{widest_next, all_taken}
 use Rattle.case_split.proofs.choosing.widest.Goals as goal

@@ -1,6 +1,6 @@
 use Rattle.std.proofs.Common.{◌+◌, take, arith}
 use Rattle.flatten.proofs.Common.{flat_map, item_names}
-use Rattle.tildes.proofs.RunLemmas.{max_is}
+use Rattle.cyc_base.proofs.TildeLemmas.{max_is}
 use Rattle.flatten.proofs.Marks.{longest_items, longest_model}
 use Rattle.flatten.proofs.mark.longest_in_model.Goals as goal
 

@@ -1,5 +1,5 @@
 use Rattle.std.proofs.Common.{arith}
-use Rattle.tildes.proofs.RunLemmas.{max_is}
+use Rattle.cyc_base.proofs.TildeLemmas.{max_is}
 use Rattle.flatten.proofs.Marks.{longest_pairs}
 use Rattle.flatten.proofs.mark.longest_in_pairs.Goals as goal
 

@@ -1,6 +1,6 @@
 use Rattle.std.proofs.Common.{arith}
 use Rattle.unroll.proofs.Common.{get_or_from_slice_get, slice_get_within, signal_names}
-use Rattle.tildes.proofs.RunLemmas.{max_is, longest_more}
+use Rattle.cyc_base.proofs.TildeLemmas.{max_is, longest_more}
 use Rattle.unroll.proofs.names.longest_run_in_signals.Goals as goal
 
 pub loop-number-preserved : goal.loop-number-preserved

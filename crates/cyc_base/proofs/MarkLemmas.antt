@@ -1,7 +1,7 @@
 -- A run of so many `~`, alone and in a text.
 use Rattle.std.proofs.Common.{◌≡◌, ℕ, zero, suc, ◌≤◌, List, [], ◌∷◌, ◌++◌, replicate, refl, ap, arith}
-use Rattle.tildes.specs.Runs.{leading_run, longest_run, tildes}
-use Rattle.tildes.proofs.RunLemmas.{leading_longest, longest_behind}
+use Rattle.cyc_base.specs.Tildes.{leading_run, longest_run, tildes}
+use Rattle.cyc_base.proofs.TildeLemmas.{leading_longest, longest_behind}
 
 pub tildes_push : (n : ℕ) → tildes n ++ 126 ∷ [] ≡ 126 ∷ tildes n
 tildes_push zero = refl

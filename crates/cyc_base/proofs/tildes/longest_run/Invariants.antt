@@ -1,6 +1,6 @@
 use Rattle.std.proofs.Common.{◌≡◌, ◌+◌, ◌≤◌, max, drop}
-use Rattle.tildes.specs.Runs.{leading_run, longest_run}
-use Rattle.tildes.proofs.runs.longest_run.Given as goal
+use Rattle.cyc_base.specs.Tildes.{leading_run, longest_run}
+use Rattle.cyc_base.proofs.tildes.longest_run.Given as goal
 
 abbrev pub invariant-loop-byte : goal.invariant-loop-byte
 invariant-loop-byte l = record {

@@ -1,11 +1,13 @@
-ghost use Rattle.std.specs.Prelude.{◌≡◌, suc, IfOk};
-ghost use Rattle.tildes.specs.Runs.{longest_run as longest_run_by, tildes};
+//! Runs of `~` in names, and marks: runs that are longer than each in some names, so that no name has one.
 
-use cyc_base::Name;
+ghost use Rattle.std.specs.Prelude.{◌≡◌, suc, IfOk};
+ghost use Rattle.cyc_base.specs.Tildes.{longest_run as longest_run_by, tildes};
+
+use crate::name::Name;
 use std::alloc::{AllocError, Global};
 
 /// The longest run of `~` in a name.
-#[tactic(auto, using(crate::proofs::RunLemmas::max_is))]
+#[tactic(auto, using(crate::proofs::TildeLemmas::max_is))]
 pub fn longest_run(name: &Name) -> usize
     ensures { result ≡ longest_run_by name.now }
 {

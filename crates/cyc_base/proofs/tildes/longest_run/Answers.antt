@@ -1,8 +1,8 @@
 use Rattle.std.proofs.Common.{◌≡◌, ◌+◌, ◌<◌, max, length, drop, ap, ◌∙◌, arith}
-use Rattle.tildes.specs.Runs.{leading_run, longest_run}
-use Rattle.tildes.proofs.RunLemmas.{leading_longest, run_goes_on, run_ends, max_is}
-use Rattle.tildes.proofs.runs.longest_run.Goals as goal
-use Rattle.tildes.proofs.runs.longest_run.Goals.{then-byte-eq126, else-byte-eq126}
+use Rattle.cyc_base.specs.Tildes.{leading_run, longest_run}
+use Rattle.cyc_base.proofs.TildeLemmas.{leading_longest, run_goes_on, run_ends, max_is}
+use Rattle.cyc_base.proofs.tildes.longest_run.Goals as goal
+use Rattle.cyc_base.proofs.tildes.longest_run.Goals.{then-byte-eq126, else-byte-eq126}
 
 pub loop-byte-preserved : goal.loop-byte-preserved
 loop-byte-preserved c =

@@ -4,7 +4,7 @@ use Rattle.std.proofs.Math.Seq.{drop-cons}
 use Rattle.std.proofs.lemmas.Grind.{common_steps}
 use Rattle.std.proofs.lemmas.List.{take_more}
 use Rattle.std.specs.Ordering.{ord_max, nat_cmp}
-use Rattle.tildes.specs.Runs.{leading_run, longest_run, longest_run_of}
+use Rattle.cyc_base.specs.Tildes.{leading_run, longest_run, longest_run_of}
 
 -- `max` of the code
 pub max_is : (a b : ℕ) → ord_max nat_cmp a b ≡ max a b

@@ -5,7 +5,7 @@ use Rattle.std.proofs.lemmas.List.Elements.{All-nil, All-cons}
 use Rattle.std.proofs.lemmas.Str.Parse.{digit_at}
 use Rattle.std.specs.Fmt.{decimal}
 use Rattle.cyc_base.specs.Names.{IsBlifByte}
-use Rattle.tildes.specs.Runs.{tildes}
+use Rattle.cyc_base.specs.Tildes.{tildes}
 
 pub tildes_fit : (n : ℕ) → All IsBlifByte (tildes n)
 tildes_fit zero = All-nil IsBlifByte

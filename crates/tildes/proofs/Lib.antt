@@ -1,4 +1,0 @@
-pub mod RunLemmas
-pub mod MarkLemmas
-pub mod DigitLemmas
-pub mod BlifLemmas
