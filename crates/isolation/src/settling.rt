@@ -24,9 +24,10 @@ use bdd_ops::Diagrams;
 use bdd_store::{Node, StoreFault};
 use cyc_base::MAX_NODES;
 use dual_rail::Rails;
+use feedback_cuts::find_cut;
 use fixpoint::laws::solutions;
 use fixpoint::{KeptRails, Solved, keep_rails, order, rails_of, solve, sweeps};
-use loops::{Blocks, LoopedNetlist, find_blocks, find_cut};
+use loops::{Blocks, LoopedNetlist, find_blocks};
 use netlist::Netlist;
 use std::alloc::{AllocError, Global};
 

@@ -2,8 +2,8 @@
 use Rattle.std.proofs.Common.{◌≡◌, inl, inr, ℕ, ◌+◌, ◌-◌, ◌<◌, ◌==◌, Bool, true, leb, if◌then◌else◌, List, [], ◌∷◌, ◌++◌, length, get_or, set, take, Some, None, sym, ap, subst, ◌∙◌, arith, Contains}
 use Rattle.loop_simulation.proofs.Common.{eq-eqb, length-set, take_more, Contains-append_left, Contains-push, Contains-push_cases, Sig, gate_at, gate_sig, home_of, first_gate, gate_home, LoopAt, IsLoopAt, gates_in, HasGainedReader, AreReaders}
 use Rattle.std.proofs.lemmas.Bool.{and_from, le-leb}
-use Rattle.loops.specs.Searching.{InRow}
-use Rattle.loops.proofs.KeptLemmas.{pushed_keeps, pushed_new, pushed_only}
+use Rattle.loops.specs.Rows.{InRow}
+use Rattle.loops.proofs.RowLemmas.{pushed_keeps, pushed_new, pushed_only}
 use Rattle.loop_simulation.specs.Readers.{source_of}
 
 -- the first elements of a list, and one more as it is read of an equal list

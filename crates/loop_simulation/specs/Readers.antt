@@ -4,7 +4,7 @@ use Rattle.std.specs.declared.option.Option.{Option}
 use Rattle.cyc_base.specs.declared.sig.Sig.{Sig}
 use Rattle.netlist.specs.Netlists.{gate_at, gate_sig}
 use Rattle.loops.specs.Blocks.{home_of}
-use Rattle.loops.specs.Searching.{InRow}
+use Rattle.loops.specs.Rows.{InRow}
 use Rattle.loops.specs.Sweeps.{first_gate, gate_of}
 use Rattle.loop_simulation.specs.LoopsAt.{LoopAt, gates_in}
 

@@ -9,18 +9,13 @@ pub use Rattle.cyc_base.specs.declared.trit.Trit.TheVariants.{X}
 pub use Rattle.loops.specs.Blocks.{AreBlocksOf, block_at, home_of}
 pub use Rattle.loops.specs.Cuts.{AreLoopsOf, Loops, MayPass, in_one_loop, is_cut}
 pub use Rattle.loops.specs.Found.{loops_of}
-pub use Rattle.loops.specs.Keeping.{AreSourcesBelow, HasParted, HaveGained, HaveGainedPins, IsCutSearch, IsKept, Meeting}
-pub use Rattle.loops.specs.Landmarks.{AreLandmarks, ReadsBack}
 pub use Rattle.loops.specs.Links.{IsLoopPin}
 pub use Rattle.loops.specs.Listed.{begins_with, loop_of}
 pub use Rattle.loops.specs.Looped.{Looped}
 pub use Rattle.loops.specs.Members.{block_of}
 pub use Rattle.loops.specs.Placing.{ArePlacesRead, AreUncutReads}
-pub use Rattle.loops.specs.Searching.{Connects, InRow, IsFree, IsMarked, IsReady, Meets, Path, level_at, row_at, work_left}
 pub use Rattle.loops.specs.Sweeps.{first_gate, gate_of, in_loop_of, pin_in, sweep}
 pub use Rattle.loops.specs.Walks.{AnyGate, Leads, SameLoop}
-pub use Rattle.loops.specs.declared.landmarks.Landmark.{Landmark}
-pub use Rattle.loops.specs.declared.search.Search.{Search}
 pub use Rattle.loops.specs.declared.structure.Block.{Block}
 pub use Rattle.loops.specs.declared.structure.Blocks.{Blocks}
 pub use Rattle.loops.specs.declared.structure.Cut.{Cut}
@@ -29,7 +24,7 @@ pub use Rattle.netlist.specs.Netlists.{gate_at, gate_sig}
 pub use Rattle.netlist.specs.Walks.{Feeds, Walk}
 pub use Rattle.netlist.specs.declared.parts.Parts.{Parts}
 pub use Rattle.std.proofs.lemmas.Bool.{and_from, and_parts, cases_Bool, cases_eq, cases_lt, eqb-true, lt-ltb}
-pub use Rattle.std.proofs.lemmas.List.{get_or-set_other, get_or-set_same, get_or_append_left, get_or_default, get_or_past, get_or_read, length-map, length-replicate, length-set, with_items_is}
+pub use Rattle.std.proofs.lemmas.List.{get_or-set_other, get_or-set_same, get_or_append_left, get_or_default, get_or_past, length-map, length-replicate, length-set}
 pub use Rattle.std.proofs.lemmas.List.Elements.{Contains-append_left, Contains-get_or, Contains-push, Contains-push_cases}
 pub use Rattle.std.proofs.lemmas.List.FromFn.{get_or-range_with_len, length-range_with_len}
 pub use Rattle.std.specs.List.{AllByRecursion, range_with_len}

@@ -12,10 +12,7 @@ pub mod Counts
 pub mod Searches
 pub mod Determined
 pub mod Told
-pub mod SearchLemmas
-pub mod KeptLemmas
-pub mod LandmarkLemmas
-pub mod CutLemmas
+pub mod RowLemmas
 pub mod ListedLemmas
 pub mod OrderLemmas
 pub mod BlockLemmas

@@ -9,7 +9,7 @@ use Rattle.components.specs.Graphs.{AreStronglyConnected, Edge, Walk as GraphWal
 use Rattle.loops.specs.Cuts.{IsCutOf, loops_by}
 use Rattle.loops.specs.Orders.{IsInOrder, IsOrderOf, ReadsUncut}
 use Rattle.loops.specs.Placing.{ArePlaced, IsPlaceRead, IsUncutPin, Rise}
-use Rattle.loops.proofs.KeptLemmas.{pin_of_source, same_source}
+use Rattle.loops.proofs.RowLemmas.{pin_of_source, same_source}
 use Rattle.loops.proofs.Reading.{each_more}
 use Rattle.loops.proofs.Told.{blocks_tell_loops, gate_home, told_from}
 use Rattle.loops.proofs.Walks.{cuts_leave_no_loop, walk-append}

@@ -9,12 +9,10 @@ pub mod Laws
 pub mod Looped
 pub mod Links
 pub mod Placing
-pub mod Searching
+pub mod Rows
 pub mod Listed
 pub mod Numbered
 pub mod Left
 pub mod Cones
 -- The code's own: what its parts say to each other.
 pub mod Members
-pub mod Landmarks
-pub mod Keeping

@@ -13,7 +13,7 @@ use std::marker::Model;
 
 /// A netlist with its own blocks.
 #[derive(Drop)]
-pub(crate) struct GroupedNetlist<'a> {
+pub struct GroupedNetlist<'a> {
     net: &'a Netlist,
     blocks: &'a Blocks,
 }

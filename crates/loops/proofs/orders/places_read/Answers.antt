@@ -1,6 +1,6 @@
 use Rattle.std.proofs.Common.{◌<◌, length, ap, arith}
 use Rattle.loops.proofs.Common.{gate_at}
-use Rattle.loops.proofs.KeptLemmas.{same_element}
+use Rattle.loops.proofs.RowLemmas.{same_element}
 use Rattle.loops.proofs.OrderLemmas.{places_push, places_skip}
 use Rattle.loops.proofs.orders.places_read.Goals as goal
 use Rattle.loops.proofs.orders.places_read.Goals.{in-Some+in_ok-push, in_default}

@@ -1,0 +1,5 @@
+pub mod Common
+pub mod SearchLemmas
+pub mod KeptLemmas
+pub mod LandmarkLemmas
+pub mod CutLemmas

@@ -1,9 +1,0 @@
-use Rattle.loops.proofs.Common.{IsCutSearch, IsLoopPin}
-use Rattle.loops.proofs.CutLemmas.{AreCutsBelow}
-use Rattle.loops.proofs.cuts.find_cut.Given as goal
-
-abbrev pub invariant-loop-gate : goal.invariant-loop-gate
-invariant-loop-gate l = record {
-  cut : AreCutsBelow l.net l.gate l.cut.items;
-  search : IsCutSearch (IsLoopPin l.net l.blocks) l.cut.items l.gate l.search;
-}

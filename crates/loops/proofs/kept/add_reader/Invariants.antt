@@ -1,5 +1,0 @@
-use Rattle.loops.proofs.Common.{HaveGainedPins}
-use Rattle.loops.proofs.kept.add_reader.Given as goal
-
-abbrev pub invariant-loop-pin : goal.invariant-loop-pin
-invariant-loop-pin l = HaveGainedPins l.grouped.net l.grouped.blocks l.gate l.pin-index l.initial.readers l.readers

@@ -1,5 +1,0 @@
-use Rattle.loops.proofs.Common.{HaveGained}
-use Rattle.loops.proofs.kept.add_source.Given as goal
-
-abbrev pub invariant-loop-reader : goal.invariant-loop-reader
-invariant-loop-reader l = HaveGained l.readers l.gate l.reader-index l.initial.sources l.sources

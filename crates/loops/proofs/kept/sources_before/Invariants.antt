@@ -1,5 +1,0 @@
-use Rattle.loops.proofs.Common.{AreSourcesBelow}
-use Rattle.loops.proofs.kept.sources_before.Given as goal
-
-abbrev pub invariant-loop-pin : goal.invariant-loop-pin
-invariant-loop-pin l = AreSourcesBelow l.grouped.net l.grouped.blocks l.cut l.gate l.pin-index l.row

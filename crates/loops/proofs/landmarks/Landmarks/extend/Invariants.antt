@@ -1,6 +1,0 @@
-use Rattle.std.proofs.Common.{length}
-use Rattle.loops.proofs.Common.{AreLandmarks}
-use Rattle.loops.proofs.landmarks.Landmarks.extend.Given as goal
-
-abbrev pub invariant-loop-landmark : goal.invariant-loop-landmark
-invariant-loop-landmark l = AreLandmarks l.links.readers.now (length l.links.levels.now) l.landmark-items

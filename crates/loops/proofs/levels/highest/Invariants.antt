@@ -1,9 +1,0 @@
-use Rattle.std.proofs.Common.{◌<◌, ◌≤◌, ℕ, get_or, Contains}
-use Rattle.loops.proofs.Common.{level_at}
-use Rattle.loops.proofs.levels.highest.Given as goal
-
-abbrev pub invariant-loop-gate : goal.invariant-loop-gate
-invariant-loop-gate l = record {
-  above : (j d : ℕ) → j < l.gate-index → level_at l.levels (get_or l.gates j d) ≤ l.level;
-  least : (bound : ℕ) → ((n : ℕ) → Contains l.gates n → level_at l.levels n ≤ bound) → l.level ≤ bound;
-}

@@ -1,5 +1,0 @@
-use Rattle.loops.specs.Keeping.{IsRaised}
-use Rattle.loops.proofs.levels.raise.Given as goal
-
-abbrev pub invariant-loop-gate : goal.invariant-loop-gate
-invariant-loop-gate l = IsRaised l.gates l.gate-index l.least l.initial.levels l.levels

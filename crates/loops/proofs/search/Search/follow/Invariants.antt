@@ -1,5 +1,0 @@
-use Rattle.loops.specs.Searching.{Follows}
-use Rattle.loops.proofs.search.Search.follow.Given as goal
-
-abbrev pub invariant-loop-gate : goal.invariant-loop-gate
-invariant-loop-gate l = Follows l.levels l.high l.goal l.row l.gate-index l.initial.self.marks.items l.self.marks.items l.initial.self.found.items l.self.found.items
