@@ -6,13 +6,13 @@ pub use Rattle.care_sets.specs.Care.{CareSet}
 pub use Rattle.cyc_io.proofs.TakenLemmas.{appended_cut, appended_equal, appended_then}
 pub use Rattle.cyc_io.specs.Text.{text_bytes}
 pub use Rattle.dot_text.specs.LoopGraphs.{cut_cluster, labelled_cluster}
-pub use Rattle.loops.specs.Cones.{AddMarks, is_marked}
+pub use Rattle.loops.specs.Cones.{AddMarks}
 pub use Rattle.loops.proofs.ListLemmas.{comes_at}
 pub use Rattle.loops.specs.Found.{loops_of}
 pub use Rattle.loops.specs.Left.{loops_left}
 pub use Rattle.loops.specs.Listed.{begins_with, gate_numbers, loop_of}
 pub use Rattle.loops.specs.Sweeps.{first_gate}
-pub use Rattle.netlist.specs.Netlists.{gate_at}
+pub use Rattle.netlist.specs.Netlists.{gate_at, is_marked}
 pub use Rattle.netlist.specs.declared.parts.Parts.{Parts}
 pub use Rattle.refusals.proofs.ObservedLemmas.{among, member}
 pub use Rattle.report.proofs.LoopTextLemmas.{told_first}

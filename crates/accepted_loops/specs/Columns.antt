@@ -3,11 +3,10 @@ use Rattle.std.specs.Prelude.{◌≡◌, ◌↔◌, ◌<◌, ◌==◌, ◌&&◌,
 use Rattle.std.specs.List.{list_any, range_with_len}
 use Rattle.cyc_base.specs.declared.sig.Sig.{Sig}
 use Rattle.netlist.specs.declared.parts.Parts.{Parts}
-use Rattle.netlist.specs.Netlists.{gate_at, signal}
+use Rattle.netlist.specs.Netlists.{gate_at, signal, is_marked}
 use Rattle.loops.specs.Found.{reaches}
 use Rattle.loops.specs.Listed.{gate_numbers}
 use Rattle.loops.specs.Sweeps.{first_gate}
-use Rattle.loops.specs.Cones.{is_marked}
 use Rattle.loops.specs.Walks.{IsUpstream}
 use Rattle.refusals.specs.Refusals.{is_among}
 

@@ -3,9 +3,8 @@
 use Rattle.std.specs.Prelude.{ℕ, List, ◌++◌, codes, decimal}
 use Rattle.std.specs.List.{flat_map}
 use Rattle.netlist.specs.declared.parts.Parts.{Parts}
-use Rattle.netlist.specs.Netlists.{signal}
+use Rattle.netlist.specs.Netlists.{signal, signal_name}
 use Rattle.report.specs.LoopTexts.{loop_lines, each_loop}
-use Rattle.report.specs.Verdicts.{signal_name}
 use Rattle.accepted_loops.specs.Columns.{columns_read}
 
 abbrev pub column_name : Parts → ℕ → List ℕ

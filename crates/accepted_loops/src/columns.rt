@@ -1,9 +1,9 @@
 //! The columns that are read upstream of a gate.
 
 ghost use Rattle.std.specs.Prelude.{◌≡◌, ◌<◌, ℕ, false, length, IfOk};
-ghost use Rattle.netlist.specs.Netlists.{gate_at};
+ghost use Rattle.netlist.specs.Netlists.{gate_at, is_marked};
 ghost use Rattle.loops.specs.Sweeps.{first_gate};
-ghost use Rattle.loops.specs.Cones.{is_marked, AddMarks};
+ghost use Rattle.loops.specs.Cones.{AddMarks};
 ghost use Rattle.accepted_loops.specs.Columns.{AreColumnsRead, AreUpstreamOf, IsAmong, IsColumn, IsReadBelow, IsReadBy};
 
 use cyc_base::Sig;

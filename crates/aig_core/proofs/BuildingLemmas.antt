@@ -15,12 +15,12 @@ use Rattle.cover_logic.specs.Covers.{value}
 use Rattle.cover_logic.specs.Extensions.{ext}
 use Rattle.cover_logic.proofs.ExtensionLemmas.{ext_at_bits}
 use Rattle.netlist.specs.declared.parts.Parts.{Parts}
-use Rattle.netlist.specs.Netlists.{gate_at, IsNetlist}
+use Rattle.netlist.specs.Netlists.{gate_at, IsNetlist, columns}
 use Rattle.netlist.specs.Fixpoint.{wire, fix_gates, fix}
 use Rattle.netlist.proofs.FixpointLemmas.{get_or-fix}
 use Rattle.netlist.proofs.GraphLemmas.{length-gate_graph}
 use Rattle.aig_core.specs.Graphs.{empty}
-use Rattle.aig_core.specs.Building.{columns, needed_signals, build_order, gate_made, with_gate, nothing_built, built}
+use Rattle.aig_core.specs.Building.{needed_signals, build_order, gate_made, with_gate, nothing_built, built}
 use Rattle.aig_core.specs.Answers.{HasValues, FitsNetlist}
 use Rattle.aig_core.proofs.GraphLemmas.{den-column}
 use Rattle.aig_core.proofs.ConjunctionLemmas.{IsMade}

@@ -1,7 +1,7 @@
 -- The text of a graph is read as its circuit.
 use Rattle.std.proofs.Common.{◌≡◌, ℕ, zero, suc, ◌+◌, ◌-◌, ◌*◌, ◌%◌, ◌^◌, ◌<◌, ◌≤◌, Bool, true, false, ◌==◌, ◌&&◌, nat_le, List, [], ◌∷◌, ◌++◌, length, map, All, Some, option_map, option_and_then, slice_get, get_or, map-id, eq-eqb, ne_eqb, le-leb, lt-ltb, refl, ap, ap₂, sym, ◌∙◌, subst, append_assoc, append-nil, arith}
 use Rattle.aig_core.specs.declared.aig.TheConstants.{MAX_ANDS, MAX_COLUMNS}
-use Rattle.aig_core.proofs.Common.{codes, decimal, flat_map, enumerate_from, range_with_len, And, Latch, edge, input_line, latch_line, output_line, and_line, load_line, and_groups, symbol_line, name_of, length-map}
+use Rattle.aig_core.proofs.Common.{codes, decimal, flat_map, enumerate_from, range_with_len, And, Latch, edge, input_line, latch_line, output_line, and_line, load_line, and_groups, symbol_line, signal_name, length-map}
 use Rattle.std.specs.List.{slice_split}
 use Rattle.std.proofs.lemmas.Bool.{and_from}
 use Rattle.std.proofs.lemmas.List.FromFn.{length-range_with_len, get_or-range_with_len}
@@ -112,9 +112,9 @@ output_lacks [] n plain = All-nil (λ b. (b == 10) ≡ false)
 output_lacks (name ∷ names) zero plain = All-head (Lacks 10) name names plain
 output_lacks (name ∷ names) (suc n) plain = output_lacks names n (All-tail (Lacks 10) name names plain)
 
-outputs_lack : (net : Parts) (outputs : List Sig) → All (Lacks 10) (signal_names net) → All (Lacks 10) (map (name_of net) outputs)
+outputs_lack : (net : Parts) (outputs : List Sig) → All (Lacks 10) (signal_names net) → All (Lacks 10) (map (signal_name net) outputs)
 outputs_lack net [] plain = All-nil (Lacks 10)
-outputs_lack net (s ∷ outputs) plain = All-cons (Lacks 10) (name_of net s) (map (name_of net) outputs) (output_lacks (signal_names net) s.0 plain) (outputs_lack net outputs plain)
+outputs_lack net (s ∷ outputs) plain = All-cons (Lacks 10) (signal_name net s) (map (signal_name net) outputs) (output_lacks (signal_names net) s.0 plain) (outputs_lack net outputs plain)
 
 front_lacks : (xs ys : List (List ℕ)) → All (Lacks 10) (xs ++ ys) → All (Lacks 10) xs
 front_lacks [] ys plain = All-nil (Lacks 10)
@@ -272,14 +272,14 @@ module _ (net : Parts) (built : Built) (is : IsBounded net built) where
       let plain : All (Lacks 10) (signal_names net) = names_lack (signal_names net) is.valid.names in
       let latch_names : List (List ℕ) = map (λ (latch : Latch). latch.name) net.latches in
       let gate_names : List (List ℕ) = map (λ (gate : Gate). gate.name) net.gates in
-      let output_names : List (List ℕ) = map (name_of net) net.outputs in
+      let output_names : List (List ℕ) = map (signal_name net) net.outputs in
       let latches_plain : All (Lacks 10) latch_names = front_lacks latch_names gate_names (back_lacks net.inputs (driven_names net) plain) in
       let inputs_count = is.fits.inputs in
       let latches_count = is.fits.latches in
       let outputs_count = is.fits.output_count in
       let few = is.outputs in
       let latches_length = length-map net.latches (λ (latch : Latch). latch.name) in
-      let outputs_length = length-map net.outputs (name_of net) in
+      let outputs_length = length-map net.outputs (signal_name net) in
       let last_text : List ℕ = symbols_text (codes "o") output_names in
       let last : List Symbol = symbols_of output_letter output_names in
       let last_read : symbol_lines_of h (slice_split is_lf last_text) ≡ Some last =

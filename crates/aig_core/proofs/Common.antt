@@ -2,7 +2,6 @@
 pub use Rattle.aig_core.specs.Answers.{HasEdges}
 pub use Rattle.aig_core.specs.Building.{Building, signal_edge}
 unfoldable pub use Rattle.aig_core.specs.Building.{building}
-pub use Rattle.aig_core.specs.Circuits.{name_of}
 pub use Rattle.aig_core.specs.Conjunctions.{Made, constant, entered, found, hashed, pair_of, same_pair, simple_and}
 unfoldable pub use Rattle.aig_core.specs.Conjunctions.{conjunction}
 pub use Rattle.aig_core.specs.Covers.{with_row}
@@ -22,7 +21,7 @@ pub use Rattle.cyc_base.specs.declared.sig.Sig.{Sig}
 pub use Rattle.cyc_io.proofs.ItemLemmas.{appended_copied, appended_in_copied, appended_in_item, appended_item, appended_items}
 pub use Rattle.cyc_io.proofs.TakenLemmas.{appended_cut, appended_equal, appended_none, appended_then}
 pub use Rattle.cyc_io.specs.Taken.{IsAppendedWhole, sink_call}
-pub use Rattle.netlist.specs.Netlists.{IsSignal, no_gate}
+pub use Rattle.netlist.specs.Netlists.{IsSignal, no_gate, signal_name}
 pub use Rattle.netlist.specs.Orders.{IsGateOrder, gate_graph, numbers_from}
 pub use Rattle.netlist.specs.declared.parts.Latch.{Latch}
 pub use Rattle.std.proofs.lemmas.Bool.{cases_Bool, eq-eqb}

@@ -7,12 +7,11 @@ use Rattle.std.proofs.lemmas.List.{get_or-map}
 use Rattle.std.proofs.lemmas.List.Sums.{passes_at_first}
 use Rattle.std.proofs.lemmas.List.Folds.{list_any_at}
 use Rattle.netlist.specs.declared.parts.Parts.{Parts}
-use Rattle.netlist.specs.Netlists.{gate_at, IsNetlist}
+use Rattle.netlist.specs.Netlists.{gate_at, IsNetlist, columns}
 use Rattle.netlist.specs.Orders.{gates_read}
 use Rattle.netlist.specs.Walks.{Feeds}
 use Rattle.netlist.proofs.GraphLemmas.{length-gate_graph, edge_feeds}
 use Rattle.aig_core.specs.Depth.{placed}
-use Rattle.aig_core.specs.Building.{columns}
 use Rattle.aig_core.proofs.ConjunctionLemmas.{any_place}
 use Rattle.aig_core.proofs.DepthLemmas.{Lower, successors_lower, among_last}
 

@@ -1,6 +1,6 @@
 -- The items of the text, by their places.
 use Rattle.std.proofs.Common.{◌*◌, ◌-◌, true, false, eqb, All, ◌≡◌, ℕ, ◌+◌, ◌<◌, ◌≤◌, List, [], ◌∷◌, ◌++◌, length, get_or, map, sym, subst, ◌∙◌, arith, Some}
-use Rattle.aig_core.proofs.Common.{enumerate_from, length-map, item_at, And, edge, latch_line, and_line, name_of, Latch}
+use Rattle.aig_core.proofs.Common.{enumerate_from, length-map, item_at, And, edge, latch_line, and_line, signal_name, Latch}
 use Rattle.std.specs.List.{list_any, IsDistinct, AllByRecursion, slice_get}
 use Rattle.std.proofs.lemmas.Bool.{false≢true, eqb-true}
 use Rattle.std.proofs.lemmas.List.Elements.{All-head, All-tail}
@@ -70,8 +70,8 @@ latch_is built k i n latch i_is n_is = sym (λ j. numbers_line ((2 * (1 + i_is j
 
 -- the name of an output
 pub output_name : (net : Parts) (k : ℕ) (outputs : List Sig) (name : List ℕ) → outputs ≡ net.outputs → k < length net.outputs
-    → slice_get (signal_names net) (get_or outputs k (signal 0)).0 ≡ Some name → name ≡ get_or (map (name_of net) net.outputs) k name
-output_name net k outputs name is l at = grind (arith, get_or_from_slice_get (signal_names net) (get_or outputs k (signal 0)).0 name [], get_or-map (name_of net) net.outputs k (signal 0) name l)
+    → slice_get (signal_names net) (get_or outputs k (signal 0)).0 ≡ Some name → name ≡ get_or (map (signal_name net) net.outputs) k name
+output_name net k outputs name is l at = grind (arith, get_or_from_slice_get (signal_names net) (get_or outputs k (signal 0)).0 name [], get_or-map (signal_name net) net.outputs k (signal 0) name l)
 
 -- ---- the binary form
 

@@ -1,5 +1,6 @@
 -- What calls answer, and what the answer means.
 use Rattle.std.specs.Prelude.{◌≡◌, ◌<◌, Bool, List, length, map, All, Result, Ok, Err}
+use Rattle.netlist.specs.Netlists.{columns}
 use Rattle.aig_core.specs.declared.aig.TheConstants.{MAX_ANDS}
 use Rattle.cyc_base.specs.Values.{bits}
 use Rattle.netlist.specs.declared.parts.Parts.{Parts}
@@ -11,7 +12,7 @@ use Rattle.aig_core.specs.declared.fault.AigFault.{AigFault}
 use Rattle.aig_core.specs.declared.fault.AigFault.TheVariants.{TooLarge, Memory}
 use Rattle.aig_core.specs.Graphs.{Graph, IsEdge, den}
 use Rattle.aig_core.specs.Conjunctions.{Made}
-use Rattle.aig_core.specs.Building.{columns, Building, built}
+use Rattle.aig_core.specs.Building.{Building, built}
 
 -- `TooLarge` comes only where there are over 4,000,000 ANDs
 abbrev pub IsFault : Graph → AigFault → Type 0

@@ -2,7 +2,7 @@
 use Rattle.std.specs.Prelude.{ℕ, ◌+◌, ◌-◌, nat_lt, List, ◌++◌, length, map, fold, replicate, slice_index_or, slice_set, if◌then◌else◌}
 use Rattle.cyc_base.specs.declared.sig.Sig.{Sig}
 use Rattle.netlist.specs.declared.parts.Parts.{Parts}
-use Rattle.netlist.specs.Netlists.{gate_at}
+use Rattle.netlist.specs.Netlists.{gate_at, columns}
 use Rattle.netlist.specs.Orders.{numbers_from, gate_graph}
 use Rattle.aig_core.specs.declared.edge.Edge.{Edge}
 use Rattle.aig_core.specs.declared.building.Built.{Built}
@@ -10,10 +10,6 @@ use Rattle.aig_core.specs.Graphs.{Graph, empty, edge, edge_to}
 use Rattle.aig_core.specs.Conjunctions.{Made}
 use Rattle.aig_core.specs.Covers.{cover_made}
 use Rattle.aig_core.specs.Depth.{postorder}
-
--- how many signals are no gates
-abbrev pub columns : Parts → ℕ
-columns net = length net.inputs + length net.latches
 
 -- the outputs, and then the latches' sources
 abbrev pub needed_signals : Parts → List Sig

@@ -6,7 +6,7 @@ use Rattle.cyc_base.specs.declared.sig.Sig.{Sig}
 use Rattle.netlist.specs.declared.parts.Init.{Init}
 use Rattle.netlist.specs.declared.parts.Latch.{Latch}
 use Rattle.netlist.specs.declared.parts.Parts.{Parts}
-use Rattle.netlist.specs.Netlists.{signal_names}
+use Rattle.netlist.specs.Netlists.{signal_names, signal_name}
 use Rattle.aig_core.specs.declared.edge.Edge.{Edge}
 use Rattle.aig_core.specs.declared.edge.And.{And}
 use Rattle.aig_core.specs.declared.building.Built.{Built}
@@ -68,9 +68,6 @@ circuit_latch built j latch = record { own = latch_edge built.aig j; next = next
 abbrev pub circuit_and : Graph → ℕ → And → CircuitAnd
 circuit_and g i and = record { own = and_edge g i; and = and }
 
-abbrev pub name_of : Parts → Sig → List ℕ
-name_of net s = slice_index_or (signal_names net) s.0 []
-
 abbrev pub symbol : ℕ → ℕ → List ℕ → Symbol
 symbol letter place name = record { letter = letter; place = place; name = name }
 
@@ -88,5 +85,5 @@ circuit net built = record {
   symbols =
       symbols_of input_letter net.inputs
       ++ (symbols_of latch_letter (map (λ latch. latch.name) net.latches)
-      ++ symbols_of output_letter (map (name_of net) net.outputs));
+      ++ symbols_of output_letter (map (signal_name net) net.outputs));
 }

@@ -1,6 +1,7 @@
 -- The two forms of AIGER (version 1.9; Biere, Heljanko and Wieringa 2011) of a netlist's and-inverter graph.
 use Rattle.std.specs.Prelude.{ℕ, zero, suc, ◌+◌, ◌-◌, ◌/◌, ◌%◌, nat_lt, if◌then◌else◌, List, [], ◌∷◌, ◌++◌, length, map, codes, decimal}
 use Rattle.std.specs.List.{flat_map, enumerate_from, range_with_len}
+use Rattle.netlist.specs.Netlists.{signal_name}
 use Rattle.netlist.specs.declared.parts.Init.{Init}
 use Rattle.netlist.specs.declared.parts.Init.TheVariants.{Zero, One, Either}
 use Rattle.netlist.specs.declared.parts.Latch.{Latch}
@@ -9,7 +10,7 @@ use Rattle.aig_core.specs.declared.edge.Edge.{Edge}
 use Rattle.aig_core.specs.declared.edge.And.{And}
 use Rattle.aig_core.specs.declared.building.Built.{Built}
 use Rattle.aig_core.specs.Graphs.{Graph}
-use Rattle.aig_core.specs.Circuits.{input_edge, latch_edge, and_edge, next_edge, name_of}
+use Rattle.aig_core.specs.Circuits.{input_edge, latch_edge, and_edge, next_edge}
 
 -- a line of numbers, with one blank between
 abbrev pub numbers_line : List ℕ → List ℕ
@@ -56,7 +57,7 @@ abbrev pub names_text : Parts → List ℕ
 names_text net =
     symbols_text (codes "i") net.inputs
     ++ (symbols_text (codes "l") (map (λ latch. latch.name) net.latches)
-    ++ symbols_text (codes "o") (map (name_of net) net.outputs))
+    ++ symbols_text (codes "o") (map (signal_name net) net.outputs))
 
 abbrev pub latches_text : Parts → Built → List ℕ
 latches_text net built = flat_map (λ item. latch_line built item.0 item.1) (enumerate_from 0 net.latches)

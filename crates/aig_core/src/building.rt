@@ -1,9 +1,9 @@
 ghost use Rattle.std.specs.Prelude.{◌≡◌, ◌+◌, ◌<◌, ◌≤◌, ◌++◌, length, map, replicate, All, IfOk, IfErr, OnOk, IfSome, IfNone, OnSome};
-ghost use Rattle.netlist.specs.Netlists.{IsSignal};
+ghost use Rattle.netlist.specs.Netlists.{IsSignal, columns};
 ghost use Rattle.netlist.specs.Orders.{numbers_from, HasLoop, IsGateOrder};
 ghost use Rattle.netlist.specs.Walks.{IsLoopFree};
 ghost use Rattle.aig_core.specs.Graphs.{edge, empty, IsEdge};
-ghost use Rattle.aig_core.specs.Building.{columns, needed_signals, build_order as build_order_of, signal_edge as signal_edge_of, with_gate, building, built_from, built};
+ghost use Rattle.aig_core.specs.Building.{needed_signals, build_order as build_order_of, signal_edge as signal_edge_of, with_gate, building, built_from, built};
 ghost use Rattle.aig_core.specs.Answers.{IsFault, IsRefusal, HasEdges, Builds, HasValues, FitsNetlist};
 
 use crate::aig::{Aig, MAX_ANDS, MAX_COLUMNS};

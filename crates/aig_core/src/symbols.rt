@@ -1,8 +1,8 @@
 //! The names of inputs, latches and outputs.
 
 ghost use Rattle.std.specs.Prelude.{map, codes};
+ghost use Rattle.netlist.specs.Netlists.{signal_name};
 ghost use Rattle.cyc_io.specs.Taken.{IsAppended, sink_call};
-ghost use Rattle.aig_core.specs.Circuits.{name_of};
 ghost use Rattle.aig_core.specs.Text.{symbol_line, symbols_text, names_text};
 
 use cyc_base::Sig;
@@ -35,7 +35,7 @@ fn put_latch_names<K: Sink>(sink: &mut K, net: &Netlist) -> Result<(), Failed>
 }
 
 fn put_output_names<K: Sink>(sink: &mut K, net: &Netlist) -> Result<(), Failed>
-    ensures { IsAppended (symbols_text (codes "o") (map (name_of net.now) net.now.outputs)) (sink_call K.put K.faults sink.old sink.new) result }
+    ensures { IsAppended (symbols_text (codes "o") (map (signal_name net.now) net.now.outputs)) (sink_call K.put K.faults sink.old sink.new) result }
 {
     let outputs = net.outputs();
     let count = outputs.len() as u32;

@@ -8,9 +8,10 @@ use Rattle.cyc_base.specs.declared.trit.Trit.{Trit}
 use Rattle.cyc_base.specs.declared.trit.Trit.TheVariants.{Zero, One, X}
 use Rattle.cyc_base.specs.Values.{bit, bits}
 use Rattle.cyc_base.specs.Vectors.{vectors}
+use Rattle.netlist.specs.Netlists.{columns}
 use Rattle.netlist.specs.declared.parts.Parts.{Parts}
 use Rattle.netlist.specs.Fixpoint.{fix, wire}
-use Rattle.care_sets.specs.Care.{CareSet, columns, is_allowed, is_care_vector}
+use Rattle.care_sets.specs.Care.{CareSet, is_allowed, is_care_vector}
 use Rattle.clause_queries.specs.Vectors.{TellsWhetherAny}
 use Rattle.refusals.proofs.FirstLemmas.{none_passes}
 use Rattle.refusals.specs.declared.observe.Observe.{Observe}

@@ -1,7 +1,8 @@
 -- The laws of weakest assumptions.
 use Rattle.std.proofs.Common.{◌≡◌, Bool, List, length, ◌∙◌}
+use Rattle.netlist.specs.Netlists.{columns}
 use Rattle.netlist.specs.declared.parts.Parts.{Parts}
-use Rattle.care_sets.specs.Care.{CareSet, columns, state_of}
+use Rattle.care_sets.specs.Care.{CareSet, state_of}
 use Rattle.refusals.specs.Acceptance.{AreDetermined, observed}
 use Rattle.refusals.specs.declared.observe.Observe.{Observe}
 use Rattle.care_rows.specs.Rows.{IsInNone}

@@ -11,8 +11,7 @@ use Rattle.cyc_base.specs.Values.{bit, bits, EachBelow}
 use Rattle.cyc_base.proofs.OrderLemmas.{EachBelow-length}
 use Rattle.netlist.specs.declared.parts.Parts.{Parts}
 use Rattle.netlist.specs.Fixpoint.{fix, wire}
-use Rattle.netlist.specs.Netlists.{count, gate_sig, signal, IsNetlist}
-use Rattle.loops.specs.Cones.{is_marked}
+use Rattle.netlist.specs.Netlists.{count, gate_sig, signal, IsNetlist, is_marked, columns}
 use Rattle.explanations.specs.declared.pins.Pin.{Pin}
 use Rattle.explanations.specs.declared.pins.Pin.TheVariants.{Known, Free}
 use Rattle.explanations.specs.Cycles.{last}
@@ -20,7 +19,6 @@ use Rattle.explanations.specs.Explained.{Explains, both}
 use Rattle.explanations.specs.declared.explanation.Explanation.{Explanation}
 use Rattle.explanations.proofs.LawLemmas.{held_stay_unknown}
 use Rattle.explanations.proofs.CycleSideLemmas.{sides_hold_cycle}
-use Rattle.care_sets.specs.Care.{columns}
 use Rattle.refusals.specs.Acceptance.{AreDetermined, observed, gate_sigs}
 use Rattle.refusals.specs.Refusals.{IsGate}
 use Rattle.refusals.proofs.ObservedLemmas.{gate_among, member}

@@ -1,10 +1,11 @@
 -- The weakest assumption under which a netlist is harmless: rows of vectors are excluded, one after another.
 use Rattle.std.specs.Prelude.{◌≡◌, ◌<◌, ◌≤◌, ◌↔◌, ◌⊎◌, ℕ, Bool, true, List, length, take, All, Some, IfSome, is_some, slice_index_or, codes}
+use Rattle.netlist.specs.Netlists.{columns}
 use Rattle.assumptions.specs.declared.search.TheConstants.{MAX_ROWS}
 use Rattle.cyc_base.specs.declared.limits.TheConstants.{MAX_FLAT_ITEMS}
 use Rattle.netlist.specs.declared.parts.Parts.{Parts}
 use Rattle.care_sets.specs.Binding.{IsCareOf}
-use Rattle.care_sets.specs.Care.{CareSet, columns, is_allowed, IsCareVector}
+use Rattle.care_sets.specs.Care.{CareSet, is_allowed, IsCareVector}
 use Rattle.care_sets.specs.declared.model.CareModel.{CareModel}
 use Rattle.refusals.specs.Acceptance.{Accepts, AreDetermined, observed}
 use Rattle.refusals.specs.Refusals.{refusal}

@@ -1,9 +1,9 @@
 -- Rows without values that their others imply.
 use Rattle.std.specs.Prelude.{◌≡◌, ◌+◌, ◌++◌, Bool, true, false, not, List, [], ◌∷◌, length, map, All}
 use Rattle.cyc_base.specs.Values.{bit, bits}
+use Rattle.netlist.specs.Netlists.{columns}
 use Rattle.netlist.specs.Fixpoint.{fix, wire}
 use Rattle.netlist.specs.declared.parts.Parts.{Parts}
-use Rattle.care_sets.specs.Care.{columns}
 use Rattle.care_rows.specs.Rows.{IsSteadySignal}
 use Rattle.care_rows.specs.declared.rows.Row.{Row}
 use Rattle.care_rows.specs.declared.rows.WireValue.{WireValue}

@@ -1,7 +1,8 @@
 -- The laws of weakest assumptions.
 use Rattle.std.specs.Prelude.{◌≡◌, ◌↔◌, Bool, true, List, length}
+use Rattle.netlist.specs.Netlists.{columns}
 use Rattle.netlist.specs.declared.parts.Parts.{Parts}
-use Rattle.care_sets.specs.Care.{CareSet, columns, state_of, is_allowed, is_in_invariant}
+use Rattle.care_sets.specs.Care.{CareSet, state_of, is_allowed, is_in_invariant}
 use Rattle.refusals.specs.Acceptance.{AreDetermined, observed}
 use Rattle.refusals.specs.declared.observe.Observe.{Observe}
 use Rattle.care_rows.specs.declared.rows.Row.{Row}

@@ -6,15 +6,14 @@ use Rattle.cyc_base.specs.declared.sig.Sig.{Sig}
 use Rattle.cyc_base.specs.declared.trit.Trit.{Trit}
 use Rattle.cyc_base.specs.declared.trit.Trit.TheVariants.{Zero, One, X}
 use Rattle.netlist.specs.declared.parts.Parts.{Parts}
-use Rattle.netlist.specs.Netlists.{signal}
+use Rattle.netlist.specs.Netlists.{signal, columns, is_marked}
 use Rattle.care_sets.specs.Binding.{IsCareOf, Binds}
-use Rattle.care_sets.specs.Care.{CareSet, columns, is_allowed}
+use Rattle.care_sets.specs.Care.{CareSet, is_allowed}
 use Rattle.care_sets.specs.declared.model.CareModel.{CareModel}
 use Rattle.explanations.specs.Explained.{both}
 use Rattle.explanations.specs.declared.explanation.Explanation.{Explanation}
 use Rattle.explanations.specs.declared.pins.Pin.{Pin}
 use Rattle.explanations.specs.declared.pins.Pin.TheVariants.{Known, Open, Free}
-use Rattle.loops.specs.Cones.{is_marked}
 use Rattle.refusals.specs.declared.observe.Observe.{Observe}
 use Rattle.refusals.specs.declared.observe.Observe.TheVariants as observe
 use Rattle.care_rows.specs.Rows.{IsInNone}

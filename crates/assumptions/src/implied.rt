@@ -1,9 +1,10 @@
 //! Rows without values that their others imply.
 
 ghost use Rattle.std.specs.Prelude.{◌≡◌, ◌<◌, ◌+◌, ◌++◌, true, false, Some, length, take, drop, All, IfOk, OnOk};
+ghost use Rattle.netlist.specs.Netlists.{columns as column_count};
 ghost use Rattle.care_rows.specs.Rows.{IsSteadySignal};
 ghost use Rattle.care_sets.specs.Binding.{IsCareOf};
-ghost use Rattle.care_sets.specs.Care.{columns as column_count, is_care_vector};
+ghost use Rattle.care_sets.specs.Care.{is_care_vector};
 ghost use Rattle.clause_queries.specs.Vectors.{TellsWhetherAny};
 ghost use Rattle.assumptions.specs.Implied.{HasTriedWithout, Implies, IsThinned, excluded_row, other_value, refuted_rows};
 

@@ -1,7 +1,7 @@
 -- No line of written netlists has a fault.
 use Rattle.std.proofs.Common.{◌≡◌, ◌&&◌, ◌||◌, ℕ, ◌+◌, ◌≤◌, Bool, true, false, List, [], ◌∷◌, ◌++◌, length, map, refl, sym, ap, ◌∙◌, subst, append_assoc, arith, eq-eqb, if◌then◌else◌, None, Some, option_map}
 use Rattle.cyc_base.specs.declared.limits.TheConstants.{MAX_PINS}
-use Rattle.blif_write.proofs.Common.{All, flat_map, Option, length-map, All-head, All-tail, IsCover, Lit, Init, Gate, Parts, numbered, name_of, clock_lines, control_words, init_word, latch_line, latch_lines, lit_byte, plane_word, lits_words, row_line, gate_lines, all_gate_lines, lines_of}
+use Rattle.blif_write.proofs.Common.{All, flat_map, Option, length-map, All-head, All-tail, IsCover, Lit, Init, Gate, Parts, numbered, signal_name, clock_lines, control_words, init_word, latch_line, latch_lines, lit_byte, plane_word, lits_words, row_line, gate_lines, all_gate_lines, lines_of}
 use Rattle.std.specs.Prelude.{codes, bytes_eq}
 use Rattle.std.specs.List.{list_all, AllByRecursion, IsDistinct}
 use Rattle.std.proofs.lemmas.Bool.{or_parts}
@@ -104,7 +104,7 @@ latches_pass : (taken : List (List ℕ)) (net : Parts) (latches : List LatchOf) 
 latches_pass taken net [] ws rest = rest
 latches_pass taken net (latch ∷ latches) ws rest =
     step taken (latch_line net latch) (map (latch_line net) latches ++ ws)
-    (λ n earlier m. inside _ _ _ m (latch_fine n (name_of net latch.from) latch.name net.clock latch.clocked latch.init))
+    (λ n earlier m. inside _ _ _ m (latch_fine n (signal_name net latch.from) latch.name net.clock latch.clocked latch.init))
     (λ n. refl)
     (latches_pass taken net latches ws rest)
 
@@ -206,8 +206,8 @@ pub record IsWhole (gate : Gate) : Type 0 where
 gate_passes : (taken : List (List ℕ)) (net : Parts) (gate : Gate) (ws : List (List (List ℕ))) → IsWhole gate → Passes taken ws → Passes taken (gate_lines net gate ++ ws)
 gate_passes taken net gate ws whole rest = record {
   none = λ n earlier within.
-      let names = map (name_of net) gate.pins in
-      let count : length names ≡ gate.cover.pins = length-map gate.pins (name_of net) ∙ whole.width in
+      let names = map (signal_name net) gate.pins in
+      let count : length names ≡ gate.cover.pins = length-map gate.pins (signal_name net) ∙ whole.width in
       let head = line n (codes ".names" ∷ (names ++ gate.name ∷ [])) in
       or_none _ _
       (inside _ _ _ within.progress (names_fine n names gate.name (omega (arith, count, whole.cover.pins))))
@@ -232,7 +232,7 @@ net_follows taken net ws whole new rest =
     let P : List (List (List ℕ)) → Type 0 = λ lines. Follows taken lines in
     let names = net.name ∷ taken in
     subst P (sym (lines_before net ws))
-    (model_follows taken net.name _ new (inputs_pass names net.inputs _ (outputs_pass names (map (name_of net) net.outputs) _
+    (model_follows taken net.name _ new (inputs_pass names net.inputs _ (outputs_pass names (map (signal_name net) net.outputs) _
     (clock_passes names net net.clock _ (latches_pass names net net.latches _ (gates_pass names net net.gates _ whole (end_passes names ws rest)))))))
 
 abbrev pub HasWholeGates : Parts → Type 0

@@ -1,7 +1,7 @@
 -- Lines and the whole text, as they are appended.
 use Rattle.std.proofs.Common.{◌≡◌, ℕ, List, [], ◌∷◌, ◌++◌, map, refl, sym, ap, ◌∙◌, append_assoc, append-nil, arith}
 use Rattle.std.specs.Prelude.{codes}
-use Rattle.blif_write.proofs.Common.{flat_map, Sig, Gate, Latch, Parts, line_text, lines_of, name_of, clock_lines, control_words, init_word, latch_line, row_line, gate_lines, latch_lines, all_gate_lines, behind, gate_text}
+use Rattle.blif_write.proofs.Common.{flat_map, Sig, Gate, Latch, Parts, line_text, lines_of, signal_name, clock_lines, control_words, init_word, latch_line, row_line, gate_lines, latch_lines, all_gate_lines, behind, gate_text}
 use Rattle.std.proofs.lemmas.List.Concat.{flat_map-append}
 use Rattle.std.proofs.lemmas.List.Folds.{flat_map-map}
 use Rattle.blif_write.specs.Written.{line_end, text_of, head_lines, written, models_written}
@@ -16,13 +16,13 @@ line_is word (next ∷ words) = grind (arith, line_is next words, append_assoc n
 -- The line of the outputs.
 
 abbrev pub signals_line : List ℕ → Parts → List Sig → List ℕ
-signals_line first net sigs = line_text (first ∷ map (name_of net) sigs)
+signals_line first net sigs = line_text (first ∷ map (signal_name net) sigs)
 
 abbrev pub signals_rest : List ℕ → Parts → List Sig → List ℕ
-signals_rest first net sigs = names_behind net sigs ++ line_end (last_word first (map (name_of net) sigs))
+signals_rest first net sigs = names_behind net sigs ++ line_end (last_word first (map (signal_name net) sigs))
 
 pub signals_is : (first : List ℕ) (net : Parts) (sigs : List Sig) → signals_line first net sigs ≡ first ++ signals_rest first net sigs
-signals_is first net sigs = grind (arith, line_is first (map (name_of net) sigs), flat_map-map behind (name_of net) sigs)
+signals_is first net sigs = grind (arith, line_is first (map (signal_name net) sigs), flat_map-map behind (signal_name net) sigs)
 
 -- The line of a gate's names.
 
@@ -37,7 +37,7 @@ line_ends word f (sig ∷ sigs) last =
 
 abbrev pub latch_rest : Parts → Latch → List ℕ
 latch_rest net latch =
-    behind (name_of net latch.from)
+    behind (signal_name net latch.from)
     ++ (behind latch.name ++ (flat_map behind (control_words net.clock latch.clocked) ++ last_behind (init_word latch.init)))
 
 two_words : (v w rest : List ℕ) → (v ++ (behind w ++ [])) ++ rest ≡ v ++ (behind w ++ rest)
@@ -77,7 +77,7 @@ abbrev pub rest_before : Parts → List (List (List ℕ)) → List (List (List �
 rest_before net ws = clock_lines net net.clock ++ (latch_lines net ++ (all_gate_lines net ++ (codes ".end" ∷ []) ∷ ws))
 
 abbrev pub head_before : Parts → List (List (List ℕ)) → List (List (List ℕ))
-head_before net ws = (codes ".model" ∷ net.name ∷ []) ∷ (codes ".inputs" ∷ net.inputs) ∷ (codes ".outputs" ∷ map (name_of net) net.outputs) ∷ ws
+head_before net ws = (codes ".model" ∷ net.name ∷ []) ∷ (codes ".inputs" ∷ net.inputs) ∷ (codes ".outputs" ∷ map (signal_name net) net.outputs) ∷ ws
 
 pub lines_before : (net : Parts) (ws : List (List (List ℕ))) → lines_of net ++ ws ≡ head_before net (rest_before net ws)
 lines_before net ws =

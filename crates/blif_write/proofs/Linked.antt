@@ -1,6 +1,6 @@
 -- The lines of a written netlist link to the netlist.
 use Rattle.std.proofs.Common.{◌≡◌, ◌&&◌, ◌||◌, ℕ, ◌<◌, not, Bool, true, false, List, [], ◌∷◌, ◌++◌, length, map, get_or, refl, sym, ap, ◌∙◌, arith, eq-eqb, if◌then◌else◌, None, Some, option_map, is_some, Ok, cond, ap₂}
-use Rattle.blif_write.proofs.Common.{All, IfSome, flat_map, list_any, bytes_eq, Option, All-head, All-tail, Sig, Clock, Edge, Gate, Latch, Parts, signal, signal_names, driven_names, IsNetlist, IsClockName, GateLine, LatchLine, name_of}
+use Rattle.blif_write.proofs.Common.{All, IfSome, flat_map, list_any, bytes_eq, Option, All-head, All-tail, Sig, Clock, Edge, Gate, Latch, Parts, signal, signal_names, driven_names, IsNetlist, IsClockName, GateLine, LatchLine, signal_name}
 use Rattle.std.specs.Prelude.{codes}
 use Rattle.std.specs.List.{find, position_or_len, IsDistinct, AllByRecursion}
 use Rattle.std.specs.Option.{option_or, option_and_then}
@@ -74,11 +74,11 @@ driven_are net = grind (arith, map-map)
 signals_are : (net : Parts) → signal_list (model_of_text net) (lines_of_text net) ≡ signal_names net
 signals_are net = ap (λ names. net.inputs ++ names) (driven_are net)
 
-sig_same : (net : Parts) → IsNetlist net → (s : Sig) → IsSignal net s → sig_of (signal_names net) (name_of net s) ≡ s
+sig_same : (net : Parts) → IsNetlist net → (s : Sig) → IsSignal net s → sig_of (signal_names net) (signal_name net s) ≡ s
 sig_same net valid s is = ap signal (place_of (signal_names net) s.0 valid.names_differ (omega (arith, is, length-signal_names net)))
 
-sigs_same : (net : Parts) → IsNetlist net → (sigs : List Sig) → All (IsSignal net) sigs → map (sig_of (signal_names net)) (map (name_of net) sigs) ≡ sigs
-sigs_same net valid sigs each = grind (arith, map-map (sig_of (signal_names net)) (name_of net) sigs, map_all (IsSignal net), sig_same net valid)
+sigs_same : (net : Parts) → IsNetlist net → (sigs : List Sig) → All (IsSignal net) sigs → map (sig_of (signal_names net)) (map (signal_name net) sigs) ≡ sigs
+sigs_same net valid sigs each = grind (arith, map-map (sig_of (signal_names net)) (signal_name net) sigs, map_all (IsSignal net), sig_same net valid)
 
 -- The clock.
 
@@ -120,7 +120,7 @@ no_signal net (Some clock) name fits among = by (is_among net.inputs clock.name)
 abbrev IsRead : Parts → List ℕ → Type 0
 IsRead net name = is_among (signal_names net) name ≡ true
 
-read_signal : (net : Parts) (s : Sig) → IsSignal net s → IsRead net (name_of net s)
+read_signal : (net : Parts) (s : Sig) → IsSignal net s → IsRead net (signal_name net s)
 read_signal net s is = among_at (signal_names net) s.0 (omega (arith, is, length-signal_names net))
 
 All-mapped : {X Y : Type 0} (P : X → Type 0) (Q : Y → Type 0) (f : X → Y) → ((x : X) → P x → Q (f x)) → (xs : List X) → All P xs → All Q (map f xs)
@@ -137,14 +137,14 @@ pins_read : (net : Parts) (gs : List Gate) → All (λ gate. All (IsSignal net) 
 pins_read net [] each = All-nil (IsRead net)
 pins_read net (gate ∷ gs) each =
     let G = λ (gate : Gate). All (IsSignal net) gate.pins in
-    All-append (IsRead net) (map (name_of net) gate.pins) _
-    (All-mapped (IsSignal net) (IsRead net) (name_of net) (read_signal net) gate.pins (All-head G gate gs each))
+    All-append (IsRead net) (map (signal_name net) gate.pins) _
+    (All-mapped (IsSignal net) (IsRead net) (signal_name net) (read_signal net) gate.pins (All-head G gate gs each))
     (pins_read net gs (All-tail G gate gs each))
 
 all_read : (net : Parts) → IsNetlist net → All (IsRead net) (reads (model_of_text net) (lines_of_text net))
 all_read net valid =
-    All-append (IsRead net) (map (name_of net) net.outputs) _
-    (All-mapped (IsSignal net) (IsRead net) (name_of net) (read_signal net) net.outputs valid.outputs)
+    All-append (IsRead net) (map (signal_name net) net.outputs) _
+    (All-mapped (IsSignal net) (IsRead net) (signal_name net) (read_signal net) net.outputs valid.outputs)
     (All-append (IsRead net) _ _ (sources_read net net.latches valid.sources) (pins_read net net.gates valid.pins))
 
 none_passes : {X : Type 0} (P : X → Type 0) (p : X → Bool) → ((x : X) → P x → p x ≡ false) → (xs : List X) → All P xs → find p xs ≡ None
@@ -163,21 +163,21 @@ among_more xs ys zs name e =
 -- Outputs differ by name.
 
 sigs_apart : (net : Parts) → IsNetlist net → (a b : Sig) → IsSignal net a → IsSignal net b → sig_eq a b ≡ false
-    → bytes_eq (name_of net a) (name_of net b) ≡ false
+    → bytes_eq (signal_name net a) (signal_name net b) ≡ false
 sigs_apart net valid a b is_a is_b differ =
     false_from_ne_true _ (λ e.
-    let same : name_of net a ≡ name_of net b = bytes_eq-true _ _ e in
+    let same : signal_name net a ≡ signal_name net b = bytes_eq-true _ _ e in
     let is : a ≡ b = sym (sig_same net valid a is_a) ∙ ap (sig_of (signal_names net)) same ∙ sig_same net valid b is_b in
     both_ways (sig_eq a b) differ (ap (λ s. sig_eq s b) is ∙ eq-eqb b.0 b.0 refl))
 
 outputs_apart : (net : Parts) → IsNetlist net → (a : Sig) (sigs : List Sig) → IsSignal net a → All (IsSignal net) sigs
-    → AllByRecursion (λ b. sig_eq a b ≡ false) sigs → AllByRecursion (λ name. bytes_eq (name_of net a) name ≡ false) (map (name_of net) sigs)
+    → AllByRecursion (λ b. sig_eq a b ≡ false) sigs → AllByRecursion (λ name. bytes_eq (signal_name net a) name ≡ false) (map (signal_name net) sigs)
 outputs_apart net valid a [] is each apart = tt
 outputs_apart net valid a (b ∷ sigs) is each apart =
     grind (arith, sigs_apart net valid a b is (All-head (IsSignal net) b sigs each) apart.0, All-head (IsSignal net) b sigs each, outputs_apart net valid a sigs is (All-tail (IsSignal net) b sigs each) apart.1, All-tail (IsSignal net) b sigs each)
 
 outputs_distinct : (net : Parts) → IsNetlist net → (sigs : List Sig) → All (IsSignal net) sigs → IsDistinct sig_eq sigs
-    → IsDistinct bytes_eq (map (name_of net) sigs)
+    → IsDistinct bytes_eq (map (signal_name net) sigs)
 unfolding IsDistinct
 outputs_distinct net valid [] each d = tt
 outputs_distinct net valid (a ∷ sigs) each d =
@@ -251,7 +251,7 @@ no_link_fault net valid =
     all_none _ _ _ _ _
     (ap (option_map DeclaredTwice)
     (both _ _ (once net.inputs (distinct_front net.inputs (driven_names net) valid.names_differ))
-    (once (map (name_of net) net.outputs) (outputs_distinct net valid net.outputs valid.outputs valid.outputs_differ))))
+    (once (map (signal_name net) net.outputs) (outputs_distinct net valid net.outputs valid.outputs valid.outputs_differ))))
     (ap (option_map DrivenTwice) (ap first_twice (drivers_are net) ∙ once _ (with_clock net net.clock valid valid.clock)))
     (ap (option_map Undriven) (none_passes (IsRead net) (λ name. not (is_among D name)) fails (reads top lines) (all_read net valid)))
     (ap (option_map (λ (l : LatchLine). BadClock l.output))

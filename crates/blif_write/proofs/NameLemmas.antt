@@ -1,6 +1,6 @@
 -- Names of signals, and the last words of lines.
 use Rattle.std.proofs.Common.{◌≡◌, ◌||◌, ◌==◌, ℕ, zero, suc, ◌-◌, ◌<◌, true, false, List, [], ◌∷◌, length, map, get_or, refl, sym, ap, ◌∙◌, arith, Some}
-use Rattle.blif_write.proofs.Common.{list_any, bytes_eq, Sig, Clock, Parts, Latch, Gate, signal, signal_names, driven_names, IsNetlist, name_of}
+use Rattle.blif_write.proofs.Common.{list_any, bytes_eq, Sig, Clock, Parts, Latch, Gate, signal, signal_names, driven_names, IsNetlist, signal_name}
 use Rattle.std.specs.List.{slice_get}
 use Rattle.std.proofs.lemmas.Option.{get_or_from_slice_get}
 use Rattle.std.proofs.lemmas.List.{get_or_append_left, get_or_default, map-id}
@@ -13,14 +13,14 @@ use Rattle.netlist.specs.Netlists.{is_driven}
 use Rattle.blif_text.specs.Texts.{ends_in_backslash}
 use Rattle.blif_write.specs.Putting.{last_word}
 
-pub named : (net : Parts) (s : Sig) (name : List ℕ) → slice_get (signal_names net) s.0 ≡ Some name → name ≡ name_of net s
+pub named : (net : Parts) (s : Sig) (name : List ℕ) → slice_get (signal_names net) s.0 ≡ Some name → name ≡ signal_name net s
 named net s name e = sym (get_or_from_slice_get (signal_names net) s.0 name [] e)
 
-pub input_named : (net : Parts) (i : ℕ) → i < length net.inputs → name_of net (signal i) ≡ get_or net.inputs i []
+pub input_named : (net : Parts) (i : ℕ) → i < length net.inputs → signal_name net (signal i) ≡ get_or net.inputs i []
 input_named net i l = get_or_append_left net.inputs (driven_names net) [] i l
 
-pub input_item : (net : Parts) (i : ℕ) → i < length net.inputs → name_of net (signal i) ≡ get_or net.inputs i (name_of net (signal i))
-input_item net i l = input_named net i l ∙ get_or_default net.inputs i [] (name_of net (signal i)) l
+pub input_item : (net : Parts) (i : ℕ) → i < length net.inputs → signal_name net (signal i) ≡ get_or net.inputs i (signal_name net (signal i))
+input_item net i l = input_named net i l ∙ get_or_default net.inputs i [] (signal_name net (signal i)) l
 
 -- Last words.
 
@@ -43,7 +43,7 @@ last_mapped f first [] d l = absurd (omega arith)
 last_mapped f first (x ∷ xs) d l = grind (arith, last_of f first x xs d)
 
 pub last_input_is : (net : Parts) (first : List ℕ) → 0 < length net.inputs
-    → name_of net (signal (length net.inputs - 1)) ≡ last_word first net.inputs
+    → signal_name net (signal (length net.inputs - 1)) ≡ last_word first net.inputs
 last_input_is net first l = grind (arith, input_named net (length net.inputs - 1), last_mapped, map-id net.inputs)
 
 -- A clock that a signal is named like is an input.

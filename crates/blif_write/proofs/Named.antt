@@ -1,6 +1,6 @@
 -- Each line of a written netlist has words, all of which are names.
 use Rattle.std.proofs.Common.{◌≡◌, ◌≢◌, ℕ, Bool, true, List, [], ◌∷◌, ◌++◌, map, refl, arith, length, get_or}
-use Rattle.blif_write.proofs.Common.{All, IfSome, flat_map, Option, All-head, All-tail, Sig, Lit, Clock, Edge, Init, Gate, Latch, Parts, signal_names, driven_names, IsNetlist, IsClockName, name_of, clock_lines, edge_word, init_word, control_words, latch_line, latch_lines, lit_byte, plane_word, lits_words, row_line, gate_lines, all_gate_lines, lines_of}
+use Rattle.blif_write.proofs.Common.{All, IfSome, flat_map, Option, All-head, All-tail, Sig, Lit, Clock, Edge, Init, Gate, Latch, Parts, signal_names, driven_names, IsNetlist, IsClockName, signal_name, clock_lines, edge_word, init_word, control_words, latch_line, latch_lines, lit_byte, plane_word, lits_words, row_line, gate_lines, all_gate_lines, lines_of}
 use Rattle.std.specs.Prelude.{codes}
 use Rattle.std.proofs.lemmas.List.Elements.{All-nil, All-cons, All-append, All-get_or, All-map, All-weaker, All-take, All-drop}
 use Rattle.cyc_base.specs.Names.{IsBlifByte, IsBlifName}
@@ -33,11 +33,11 @@ front_named xs ys each = rw (take_at xs ys (length xs) refl) at (All-take IsBlif
 back_named : (xs ys : List (List ℕ)) → All IsBlifName (xs ++ ys) → All IsBlifName ys
 back_named xs ys each = rw (drop_at xs ys (length xs) refl) at (All-drop IsBlifName (length xs) (xs ++ ys) each)
 
-signal_named : (net : Parts) → IsNetlist net → (s : Sig) → IsSignal net s → IsBlifName (name_of net s)
+signal_named : (net : Parts) → IsNetlist net → (s : Sig) → IsSignal net s → IsBlifName (signal_name net s)
 signal_named net valid s is = All-get_or IsBlifName (signal_names net) s.0 [] (omega (arith, is, length-signal_names net)) valid.names
 
-signals_named : (net : Parts) → IsNetlist net → (sigs : List Sig) → All (IsSignal net) sigs → All IsBlifName (map (name_of net) sigs)
-signals_named net valid sigs each = grind (arith, All-map IsBlifName (name_of net) sigs, All-weaker (IsSignal net), signal_named net valid)
+signals_named : (net : Parts) → IsNetlist net → (sigs : List Sig) → All (IsSignal net) sigs → All IsBlifName (map (signal_name net) sigs)
+signals_named net valid sigs each = grind (arith, All-map IsBlifName (signal_name net) sigs, All-weaker (IsSignal net), signal_named net valid)
 
 driven_named : (net : Parts) → IsNetlist net → All IsBlifName (driven_names net)
 driven_named net valid = back_named net.inputs (driven_names net) valid.names
@@ -62,8 +62,8 @@ control_named net clock clocked init is = grind (arith, one, init_named, All-con
 latch_named : (net : Parts) (latch : Latch) → IsNetlist net → IsSignal net latch.from → IsBlifName latch.name → IsLine (latch_line net latch)
 latch_named net latch valid from name =
     let words = control_words net.clock latch.clocked ++ init_word latch.init ∷ [] in
-    line_of_names (codes ".latch") (name_of net latch.from ∷ latch.name ∷ words) (constant (codes ".latch") refl)
-    (All-cons IsBlifName (name_of net latch.from) (latch.name ∷ words) (signal_named net valid latch.from from)
+    line_of_names (codes ".latch") (signal_name net latch.from ∷ latch.name ∷ words) (constant (codes ".latch") refl)
+    (All-cons IsBlifName (signal_name net latch.from) (latch.name ∷ words) (signal_named net valid latch.from from)
     (All-cons IsBlifName latch.name words name (control_named net net.clock latch.clocked latch.init valid.clock)))
 
 latches_named : (net : Parts) (ls : List Latch) → IsNetlist net → All (λ latch. IsSignal net latch.from) ls
@@ -107,9 +107,9 @@ gates_named net (gate ∷ gs) valid pins names =
     let S = λ (gate : Gate). All (IsSignal net) gate.pins in
     let more : List (List ℕ) = map (λ (gate : Gate). gate.name) gs in
     All-append IsLine (gate_lines net gate) (flat_map (gate_lines net) gs)
-    (All-cons IsLine (codes ".names" ∷ (map (name_of net) gate.pins ++ gate.name ∷ [])) (map (row_line gate.cover.plane) gate.cover.rows)
-    (line_of_names (codes ".names") (map (name_of net) gate.pins ++ gate.name ∷ []) (constant (codes ".names") refl)
-    (All-append IsBlifName (map (name_of net) gate.pins) (gate.name ∷ []) (signals_named net valid gate.pins (All-head S gate gs pins))
+    (All-cons IsLine (codes ".names" ∷ (map (signal_name net) gate.pins ++ gate.name ∷ [])) (map (row_line gate.cover.plane) gate.cover.rows)
+    (line_of_names (codes ".names") (map (signal_name net) gate.pins ++ gate.name ∷ []) (constant (codes ".names") refl)
+    (All-append IsBlifName (map (signal_name net) gate.pins) (gate.name ∷ []) (signals_named net valid gate.pins (All-head S gate gs pins))
     (one gate.name (All-head IsBlifName gate.name more names))))
     (rows_named gate.cover.plane gate.cover.rows))
     (gates_named net gs valid (All-tail S gate gs pins) (All-tail IsBlifName gate.name more names))
@@ -121,7 +121,7 @@ lines_named net valid =
     let latch_names : List (List ℕ) = map (λ (latch : Latch). latch.name) net.latches in
     let gate_names : List (List ℕ) = map (λ (gate : Gate). gate.name) net.gates in
     let driven = driven_named net valid in
-    let outs = map (name_of net) net.outputs in
+    let outs = map (signal_name net) net.outputs in
     let clock = clock_lines net net.clock in
     let end : List (List (List ℕ)) = (codes ".end" ∷ []) ∷ [] in
     All-append IsLine (head_lines net) (latch_lines net ++ (all_gate_lines net ++ end))

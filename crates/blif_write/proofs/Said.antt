@@ -1,6 +1,6 @@
 -- What the lines of written netlists say: one model for each.
 use Rattle.std.proofs.Common.{◌≡◌, ℕ, ◌+◌, Bool, true, false, List, [], ◌∷◌, ◌++◌, length, map, take, refl, sym, ap, ◌∙◌, append_assoc, append-nil, if◌then◌else◌, None, Some, get_or, arith}
-use Rattle.blif_write.proofs.Common.{All, flat_map, list_any, Option, length-map, All-head, All-tail, Lit, Edge, Init, Parts, numbered, BlifModel, GateLine, LatchLine, name_of, clock_lines, control_words, edge_word, init_word, latch_line, latch_lines, lit_byte, plane_word, lits_words, row_line, gate_lines, all_gate_lines, lines_of}
+use Rattle.blif_write.proofs.Common.{All, flat_map, list_any, Option, length-map, All-head, All-tail, Lit, Edge, Init, Parts, numbered, BlifModel, GateLine, LatchLine, signal_name, clock_lines, control_words, edge_word, init_word, latch_line, latch_lines, lit_byte, plane_word, lits_words, row_line, gate_lines, all_gate_lines, lines_of}
 use Rattle.std.specs.Prelude.{codes, bytes_eq}
 use Rattle.std.proofs.lemmas.List.{map-append, take_at, get_or_at}
 use Rattle.cover_logic.specs.declared.row.Row as rows
@@ -31,14 +31,14 @@ control_if clock clocked = None
 
 abbrev pub latch_of_text : Parts → latches.Latch → LatchLine
 latch_of_text net latch = record {
-  from = name_of net latch.from;
+  from = signal_name net latch.from;
   output = latch.name;
   control = control_if net.clock latch.clocked;
   init = latch.init;
 }
 
 abbrev pub gate_of_text : Parts → gates.Gate → GateLine
-gate_of_text net gate = record { pins = map (name_of net) gate.pins; output = gate.name; cover = gate.cover }
+gate_of_text net gate = record { pins = map (signal_name net) gate.pins; output = gate.name; cover = gate.cover }
 
 abbrev pub clock_names : Parts → Option clocks.Clock → List (List ℕ)
 clock_names net None = []
@@ -54,7 +54,7 @@ abbrev pub model_of_text : Parts → BlifModel
 model_of_text net = record {
   name = net.name;
   inputs = net.inputs;
-  outputs = map (name_of net) net.outputs;
+  outputs = map (signal_name net) net.outputs;
   clocks = clock_names net net.clock;
   body = latch_items net net.latches ++ gate_items net net.gates;
 }
@@ -78,7 +78,7 @@ abbrev latch_said : Parts → latches.Latch → Statement
 latch_said net latch = Latch (latch_of_text net latch)
 
 abbrev gate_said : Parts → gates.Gate → List Statement
-gate_said net gate = Names (map (name_of net) gate.pins) gate.name ∷ map (row_said gate.cover.plane) gate.cover.rows
+gate_said net gate = Names (map (signal_name net) gate.pins) gate.name ∷ map (row_said gate.cover.plane) gate.cover.rows
 
 -- the line of a clock, where there is one
 abbrev clocks_said : List (List ℕ) → List Statement
@@ -113,7 +113,7 @@ last_is names last = get_or_at names last [] [] (pin_count (names ++ last ∷ []
 
 gate_says : (net : Parts) (gate : gates.Gate) → map says (gate_lines net gate) ≡ gate_said net gate
 gate_says net gate =
-    let names = map (name_of net) gate.pins in
+    let names = map (signal_name net) gate.pins in
     rw (front_of names gate.name, last_is names gate.name, rows_say gate.cover.plane gate.cover.rows) refl
 
 gates_say : (net : Parts) (gs : List gates.Gate) → map says (flat_map (gate_lines net) gs) ≡ flat_map (gate_said net) gs
@@ -144,7 +144,7 @@ latch_same from name (Some clock) false init named = init_same from name init
 latch_same from name (Some clock) true init named = control_same from name clock.edge clock.name init named
 
 latch_says : (net : Parts) (latch : latches.Latch) → IsNamed net.clock → says (latch_line net latch) ≡ latch_said net latch
-latch_says net latch named = grind (arith, latch_same (name_of net latch.from) latch.name net.clock latch.clocked latch.init named)
+latch_says net latch named = grind (arith, latch_same (signal_name net latch.from) latch.name net.clock latch.clocked latch.init named)
 
 latches_say : (net : Parts) (ls : List latches.Latch) → IsNamed net.clock → map says (map (latch_line net) ls) ≡ map (latch_said net) ls
 latches_say net [] named = refl
@@ -158,7 +158,7 @@ abbrev body_said : Parts → List Statement → List Statement
 body_said net more = map (latch_said net) net.latches ++ (flat_map (gate_said net) net.gates ++ End ∷ more)
 
 all_said : (net : Parts) (ws : List (List (List ℕ))) → IsNamed net.clock → map says (lines_of net ++ ws)
-    ≡ Model net.name ∷ Inputs net.inputs ∷ Outputs (map (name_of net) net.outputs) ∷ (clock_said net ++ body_said net (map says ws))
+    ≡ Model net.name ∷ Inputs net.inputs ∷ Outputs (map (signal_name net) net.outputs) ∷ (clock_said net ++ body_said net (map says ws))
 all_said net ws named =
     let end : List (List (List ℕ)) = (codes ".end" ∷ []) ∷ ws in
     let gs = all_gate_lines net ++ end in
@@ -220,7 +220,7 @@ module _ (f : Statement → List (List ℕ)) (no_latch : (l : LatchLine) → f (
   gates_nothing : (net : Parts) (gs : List gates.Gate) → flat_map f (flat_map (gate_said net) gs) ≡ []
   gates_nothing net [] = refl
   gates_nothing net (gate ∷ gs) =
-      grind (arith, nothing_front (Names (map (name_of net) gate.pins) gate.name) _ (no_names _ _) (rows_nothing gate.cover.plane gate.cover.rows _ (gates_nothing net gs)), rows_nothing gate.cover.plane gate.cover.rows _ (gates_nothing net gs), gates_nothing net gs)
+      grind (arith, nothing_front (Names (map (signal_name net) gate.pins) gate.name) _ (no_names _ _) (rows_nothing gate.cover.plane gate.cover.rows _ (gates_nothing net gs)), rows_nothing gate.cover.plane gate.cover.rows _ (gates_nothing net gs), gates_nothing net gs)
 
   pub body_nothing : (net : Parts) → flat_map f (map (latch_said net) net.latches ++ flat_map (gate_said net) net.gates) ≡ []
   body_nothing net = latches_nothing net net.latches _ (gates_nothing net net.gates)
@@ -269,8 +269,8 @@ plane_is plane [] rest none on = none.plane ∙ sym (on refl)
 plane_is plane (row ∷ rs) rest none on = refl
 
 gate_same : (net : Parts) (gate : gates.Gate) (rest : List Statement) → IsWhole gate → StartsNoRow rest
-    → gate_of (map (name_of net) gate.pins) gate.name (map (row_said gate.cover.plane) gate.cover.rows ++ rest) ≡ gate_of_text net gate
-gate_same net gate rest whole none = grind (arith, length-map gate.pins (name_of net), plane_is gate.cover.plane gate.cover.rows rest none whole.cover.plane, rows_are gate.cover.plane gate.cover.rows rest none)
+    → gate_of (map (signal_name net) gate.pins) gate.name (map (row_said gate.cover.plane) gate.cover.rows ++ rest) ≡ gate_of_text net gate
+gate_same net gate rest whole none = grind (arith, length-map gate.pins (signal_name net), plane_is gate.cover.plane gate.cover.rows rest none whole.cover.plane, rows_are gate.cover.plane gate.cover.rows rest none)
 
 gates_body : (net : Parts) (gs : List gates.Gate) → All IsWhole gs → body_of (flat_map (gate_said net) gs) ≡ gate_items net gs
 gates_body net [] whole = refl
@@ -294,10 +294,10 @@ models_behind net more =
     grind (arith, clock_models (clock_names net net.clock) (body_said net more), latch_models net net.latches (flat_map (gate_said net) net.gates ++ end), gate_models net net.gates end)
 
 model_is : (net : Parts) → All IsWhole net.gates
-    → model_of net.name (Inputs net.inputs ∷ Outputs (map (name_of net) net.outputs) ∷ (clock_said net ++ inner net)) ≡ model_of_text net
+    → model_of net.name (Inputs net.inputs ∷ Outputs (map (signal_name net) net.outputs) ∷ (clock_said net ++ inner net)) ≡ model_of_text net
 model_is net whole =
     let rest = clock_said net ++ inner net in
-    let outs = map (name_of net) net.outputs in
+    let outs = map (signal_name net) net.outputs in
     let no_inputs : flat_map inputs_in rest ≡ [] =
     inputs_nothing (clock_names net net.clock) (inner net) ∙ body_nothing inputs_in (λ l. refl) (λ p o. refl) (λ r b. refl) net in
     let no_outputs : flat_map outputs_in rest ≡ [] =

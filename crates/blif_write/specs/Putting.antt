@@ -2,11 +2,12 @@
 use Rattle.std.specs.Prelude.{ℕ, Bool, List, [], ◌∷◌, ◌++◌, map, codes}
 use Rattle.std.specs.List.{flat_map}
 use Rattle.cyc_base.specs.declared.sig.Sig.{Sig}
+use Rattle.netlist.specs.Netlists.{signal_name}
 use Rattle.cover_logic.specs.declared.row.Lit.{Lit}
 use Rattle.cover_logic.specs.declared.row.Row.{Row}
 use Rattle.netlist.specs.declared.parts.Gate.{Gate}
 use Rattle.netlist.specs.declared.parts.Parts.{Parts}
-use Rattle.blif_write.specs.Written.{line_end, line_text, name_of, lit_byte, row_line, latch_line}
+use Rattle.blif_write.specs.Written.{line_end, line_text, lit_byte, row_line, latch_line}
 
 -- a word behind a blank
 abbrev pub behind : List ℕ → List ℕ
@@ -14,7 +15,7 @@ behind word = 32 ∷ word
 
 -- the names of signals, each behind a blank
 abbrev pub names_behind : Parts → List Sig → List ℕ
-names_behind net sigs = flat_map (λ sig. behind (name_of net sig)) sigs
+names_behind net sigs = flat_map (λ sig. behind (signal_name net sig)) sigs
 
 -- the last word of a line, and the line's end
 abbrev pub last_behind : List ℕ → List ℕ
@@ -39,7 +40,7 @@ rows_text plane rows = flat_map (λ row. line_text (row_line plane row)) rows
 
 abbrev pub gate_text : Parts → Gate → List ℕ
 gate_text net gate =
-    line_text (codes ".names" ∷ (map (name_of net) gate.pins ++ gate.name ∷ [])) ++ rows_text gate.cover.plane gate.cover.rows
+    line_text (codes ".names" ∷ (map (signal_name net) gate.pins ++ gate.name ∷ [])) ++ rows_text gate.cover.plane gate.cover.rows
 
 abbrev pub gates_text : Parts → List ℕ
 gates_text net = flat_map (gate_text net) net.gates

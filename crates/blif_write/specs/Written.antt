@@ -15,7 +15,7 @@ use Rattle.netlist.specs.declared.parts.Init.TheVariants.{Zero as StartsAtZero, 
 use Rattle.netlist.specs.declared.parts.Latch.{Latch}
 use Rattle.netlist.specs.declared.parts.Gate.{Gate}
 use Rattle.netlist.specs.declared.parts.Parts.{Parts}
-use Rattle.netlist.specs.Netlists.{signal_names}
+use Rattle.netlist.specs.Netlists.{signal_names, signal_name}
 use Rattle.blif_text.specs.Texts.{ends_in_backslash}
 
 -- Lines of words.
@@ -35,9 +35,6 @@ text_of lines = flat_map line_text lines
 
 -- The lines of a netlist, as words.
 
-abbrev pub name_of : Parts → Sig → List ℕ
-name_of net s = slice_index_or (signal_names net) s.0 []
-
 -- a clock that isn't an input has a line of its own
 abbrev pub clock_lines : Parts → Option Clock → List (List (List ℕ))
 clock_lines net None = []
@@ -49,7 +46,7 @@ abbrev pub head_lines : Parts → List (List (List ℕ))
 head_lines net =
     (codes ".model" ∷ net.name ∷ [])
     ∷ (codes ".inputs" ∷ net.inputs)
-    ∷ (codes ".outputs" ∷ map (name_of net) net.outputs)
+    ∷ (codes ".outputs" ∷ map (signal_name net) net.outputs)
     ∷ clock_lines net net.clock
 
 abbrev pub edge_word : Edge → List ℕ
@@ -68,7 +65,7 @@ control_words clock clocked = []
 
 abbrev pub latch_line : Parts → Latch → List (List ℕ)
 latch_line net latch =
-    codes ".latch" ∷ name_of net latch.from ∷ latch.name
+    codes ".latch" ∷ signal_name net latch.from ∷ latch.name
     ∷ (control_words net.clock latch.clocked ++ init_word latch.init ∷ [])
 
 abbrev pub lit_byte : Lit → ℕ
@@ -91,7 +88,7 @@ row_line plane row = lits_words row.lits ++ plane_word plane ∷ []
 -- the line of the gate's names, and its rows
 abbrev pub gate_lines : Parts → Gate → List (List (List ℕ))
 gate_lines net gate =
-    (codes ".names" ∷ (map (name_of net) gate.pins ++ gate.name ∷ []))
+    (codes ".names" ∷ (map (signal_name net) gate.pins ++ gate.name ∷ []))
     ∷ map (row_line gate.cover.plane) gate.cover.rows
 
 abbrev pub latch_lines : Parts → List (List (List ℕ))

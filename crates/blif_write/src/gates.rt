@@ -3,8 +3,8 @@
 ghost use Rattle.std.specs.Prelude.{◌≡◌, ◌<◌, ◌++◌, ◌∷◌, [], All, map, codes, OnOk};
 ghost use Rattle.cyc_io.specs.Taken.{IsAppended, sink_call};
 ghost use Rattle.cover_logic.specs.Covers.{IsCover};
-ghost use Rattle.netlist.specs.Netlists.{IsSignal, IsNetlist};
-ghost use Rattle.blif_write.specs.Written.{line_text, name_of, lit_byte, plane_word, row_line};
+ghost use Rattle.netlist.specs.Netlists.{IsSignal, IsNetlist, signal_name};
+ghost use Rattle.blif_write.specs.Written.{line_text, lit_byte, plane_word, row_line};
 ghost use Rattle.blif_write.specs.Laws.{HasCovers};
 ghost use Rattle.blif_write.specs.Putting.{lits_text, rows_text, gate_text, gates_text};
 
@@ -74,7 +74,7 @@ fn put_rows<K: Sink>(sink: &mut K, plane: bool, rows: &[Row]) -> Result<(), Fail
 
 fn put_gate_names<K: Sink>(sink: &mut K, net: &Netlist, gate: &Gate) -> Result<(), Failed>
     requires { All (IsSignal net.now) gate.now.pins }
-    ensures { IsAppended (line_text (codes ".names" ∷ (map (name_of net.now) gate.now.pins ++ gate.now.name ∷ []))) (sink_call K.put K.faults sink.old sink.new) result }
+    ensures { IsAppended (line_text (codes ".names" ∷ (map (signal_name net.now) gate.now.pins ++ gate.now.name ∷ []))) (sink_call K.put K.faults sink.old sink.new) result }
 {
     write_whole(sink, b".names")?;
     put_names(sink, net, gate.pins.items())?;

@@ -4,8 +4,8 @@ ghost use Rattle.std.specs.Prelude.{◌≡◌, ◌<◌, ◌∷◌, [], All, map,
 ghost use Rattle.std.specs.List.{flat_map, list_any};
 ghost use Rattle.std.specs.Str.{bytes_eq};
 ghost use Rattle.cyc_io.specs.Taken.{IsAppended, sink_call};
-ghost use Rattle.netlist.specs.Netlists.{IsSignal};
-ghost use Rattle.blif_write.specs.Written.{line_text, text_of, name_of, clock_lines, head_lines};
+ghost use Rattle.netlist.specs.Netlists.{IsSignal, signal_name};
+ghost use Rattle.blif_write.specs.Written.{line_text, text_of, clock_lines, head_lines};
 ghost use Rattle.blif_write.specs.Putting.{behind, names_behind, last_word};
 
 use crate::put::{put_end, put_last_word, put_word};
@@ -15,9 +15,9 @@ use netlist::{Clock, Netlist};
 
 /// The name of a signal, as its bytes.
 #[tactic(auto, using(crate::proofs::NameLemmas::named))]
-fn name_of(net: &Netlist, sig: Sig) -> &[u8]
+fn signal_name(net: &Netlist, sig: Sig) -> &[u8]
     requires { IsSignal net.now sig }
-    ensures { result.now ≡ name_of net.now sig }
+    ensures { result.now ≡ signal_name net.now sig }
 {
     net.name_of(sig).bytes()
 }
@@ -25,9 +25,9 @@ fn name_of(net: &Netlist, sig: Sig) -> &[u8]
 /// Appends the name of a signal behind a blank.
 pub(crate) fn put_name<K: Sink>(sink: &mut K, net: &Netlist, sig: Sig) -> Result<(), Failed>
     requires { IsSignal net.now sig }
-    ensures { IsAppended (behind (name_of net.now sig)) (sink_call K.put K.faults sink.old sink.new) result }
+    ensures { IsAppended (behind (signal_name net.now sig)) (sink_call K.put K.faults sink.old sink.new) result }
 {
-    put_word(sink, name_of(net, sig))
+    put_word(sink, signal_name(net, sig))
 }
 
 /// Appends the names of these signals, each behind a blank.
@@ -57,7 +57,7 @@ fn last_input(net: &Netlist) -> &[u8]
 {
     match net.inputs() {
         0 => b".inputs",
-        inputs => name_of(net, Sig(inputs - 1)),
+        inputs => signal_name(net, Sig(inputs - 1)),
     }
 }
 
@@ -71,16 +71,16 @@ fn put_inputs<K: Sink>(sink: &mut K, net: &Netlist) -> Result<(), Failed>
 
 /// The last word of the line of the outputs.
 fn last_output(net: &Netlist) -> &[u8]
-    ensures { result.now ≡ last_word (codes ".outputs") (map (name_of net.now) net.now.outputs) }
+    ensures { result.now ≡ last_word (codes ".outputs") (map (signal_name net.now) net.now.outputs) }
 {
     match net.outputs() {
         [] => b".outputs",
-        [.., last] => name_of(net, *last),
+        [.., last] => signal_name(net, *last),
     }
 }
 
 fn put_outputs<K: Sink>(sink: &mut K, net: &Netlist) -> Result<(), Failed>
-    ensures { IsAppended (line_text (codes ".outputs" ∷ map (name_of net.now) net.now.outputs)) (sink_call K.put K.faults sink.old sink.new) result }
+    ensures { IsAppended (line_text (codes ".outputs" ∷ map (signal_name net.now) net.now.outputs)) (sink_call K.put K.faults sink.old sink.new) result }
 {
     write_whole(sink, b".outputs")?;
     put_names(sink, net, net.outputs())?;

@@ -7,7 +7,7 @@ pub use Rattle.care_rows.specs.declared.keeping.Kept.{Kept}
 pub use Rattle.care_rows.specs.declared.rows.Row.{Row}
 pub use Rattle.care_rows.specs.declared.rows.WireValue.{WireValue}
 pub use Rattle.care_sets.specs.Binding.{AreColumnsOf, Binds, HasNoFault, IsBoundTo, IsCareModel, IsCareOf, IsCare, column_of}
-pub use Rattle.care_sets.specs.Care.{CareSet, column_names, columns, holds_at, inputs_at, is_allowed, is_one}
+pub use Rattle.care_sets.specs.Care.{CareSet, column_names, holds_at, inputs_at, is_allowed, is_one}
 pub use Rattle.care_sets.specs.declared.model.CareModel.{CareModel}
 pub use Rattle.cover_logic.specs.Covers.{Cover, allows, matches, value}
 pub use Rattle.cover_logic.specs.Extensions.{ext}
@@ -17,11 +17,11 @@ pub use Rattle.cyc_base.specs.declared.sig.Sig.{Sig}
 pub use Rattle.cyc_base.specs.declared.trit.Trit.{Trit}
 pub use Rattle.cyc_base.specs.declared.trit.Trit.TheVariants.{One, X, Zero}
 pub use Rattle.loops.specs.Blocks.{AreBlocksOf, block_at, home_of}
-pub use Rattle.loops.specs.Cones.{IsConeOf, LeadsToOne, is_marked}
+pub use Rattle.loops.specs.Cones.{IsConeOf, LeadsToOne}
 pub use Rattle.loops.specs.Walks.{AnyGate, IsUpstream, Leads, SameLoop}
 pub use Rattle.loops.specs.declared.structure.Blocks.{Blocks}
 pub use Rattle.netlist.specs.Fixpoint.{fix, fix_gates, gate_value, outs, steps, wire, wires}
-pub use Rattle.netlist.specs.Netlists.{IsNetlist, IsSignal, count, driven_names, gate_at, gate_sig, no_gate, sig_eq, signal, signal_names}
+pub use Rattle.netlist.specs.Netlists.{IsNetlist, IsSignal, count, driven_names, gate_at, gate_sig, no_gate, sig_eq, signal, signal_names, columns, is_marked}
 pub use Rattle.netlist.specs.Walks.{Feeds, IsLoopFree, Walk}
 pub use Rattle.netlist.specs.declared.parts.Gate.{Gate}
 pub use Rattle.netlist.specs.declared.parts.Latch.{Latch}

@@ -9,11 +9,11 @@ use Rattle.cyc_base.specs.declared.sig.Sig.{Sig}
 use Rattle.cover_logic.specs.Covers.{Cover}
 use Rattle.cover_logic.specs.declared.row.Lit.{Lit}
 use Rattle.cover_logic.specs.declared.row.Lit.TheVariants as lit
-use Rattle.netlist.specs.Netlists.{count, gate_at, signal, signal_names}
+use Rattle.netlist.specs.Netlists.{count, gate_at, signal, signal_names, is_marked, columns}
 use Rattle.netlist.specs.declared.parts.Gate.{Gate}
 use Rattle.netlist.specs.declared.parts.Parts.{Parts}
-use Rattle.loops.specs.Cones.{IsConeOf, is_marked}
-use Rattle.care_sets.specs.Care.{CareSet, columns}
+use Rattle.loops.specs.Cones.{IsConeOf}
+use Rattle.care_sets.specs.Care.{CareSet}
 use Rattle.care_rows.specs.Restricted.{gates_of_rows, telling_gates}
 use Rattle.care_rows.specs.declared.fault.RestrictFault.{RestrictFault}
 use Rattle.care_rows.specs.declared.fault.RestrictFault.TheVariants.{TooLarge}

@@ -2,13 +2,14 @@
 use Rattle.std.specs.Prelude.{◌≡◌, ◌↔◌, ◌⊎◌, ◌+◌, ◌-◌, ◌/◌, ◌<◌, ℕ, Bool, true, List, length, map, filter, codes}
 use Rattle.std.specs.List.{flat_map, range_with_len, sum_by}
 use Rattle.std.specs.Option.{option_map_or}
+use Rattle.netlist.specs.Netlists.{is_marked, columns}
 use Rattle.care_rows.specs.declared.telling.TheConstants.{PIECE}
 use Rattle.cyc_base.specs.declared.limits.TheConstants.{MAX_FLAT_ITEMS}
 use Rattle.netlist.specs.Orders.{numbers_from}
 use Rattle.netlist.specs.declared.parts.Parts.{Parts}
-use Rattle.loops.specs.Cones.{IsConeOf, is_marked}
+use Rattle.loops.specs.Cones.{IsConeOf}
 use Rattle.care_sets.specs.Binding.{Binds, HasNoFault}
-use Rattle.care_sets.specs.Care.{CareSet, columns, holds_at, is_allowed}
+use Rattle.care_sets.specs.Care.{CareSet, holds_at, is_allowed}
 use Rattle.care_sets.specs.declared.model.CareModel.{CareModel}
 use Rattle.care_rows.specs.Rows.{IsInNone}
 use Rattle.care_rows.specs.declared.fault.RestrictFault.{RestrictFault}

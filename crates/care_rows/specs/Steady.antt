@@ -1,11 +1,9 @@
 -- Marks of the signals that no loop takes part in, while they are found block by block.
 use Rattle.std.specs.Prelude.{◌≡◌, ◌⊎◌, ◌↔◌, ◌+◌, ◌<◌, ℕ, Bool, true, List, length, slice_index_or}
-use Rattle.netlist.specs.Netlists.{count, gate_sig}
+use Rattle.netlist.specs.Netlists.{count, gate_sig, is_marked, columns}
 use Rattle.netlist.specs.declared.parts.Parts.{Parts}
 use Rattle.loops.specs.Blocks.{block_at, home_of}
-use Rattle.loops.specs.Cones.{is_marked}
 use Rattle.loops.specs.declared.structure.Blocks.{Blocks}
-use Rattle.care_sets.specs.Care.{columns}
 use Rattle.care_rows.specs.Rows.{IsSteady}
 
 -- the gate is one of the first i of the block at place b

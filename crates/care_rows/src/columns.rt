@@ -1,9 +1,7 @@
 //! Which columns are kept, and where what is kept stands.
 
 ghost use Rattle.std.specs.Prelude.{◌≡◌, ◌<◌, ◌≤◌, ◌+◌, ◌++◌, ℕ, true, false, if◌then◌else◌, length, replicate, All, IfOk, OnOk};
-ghost use Rattle.netlist.specs.Netlists.{gate_at};
-ghost use Rattle.loops.specs.Cones.{is_marked};
-ghost use Rattle.care_sets.specs.Care.{columns as column_count};
+ghost use Rattle.netlist.specs.Netlists.{gate_at, is_marked, columns as column_count};
 ghost use Rattle.care_rows.specs.Models.{AreUsed, IsUsed, KeepsMarks, places_from, rank};
 
 use crate::rows::Row;

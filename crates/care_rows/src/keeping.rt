@@ -1,8 +1,7 @@
 //! What is kept of the netlist, and where it stands in the model.
 
 ghost use Rattle.std.specs.Prelude.{◌≡◌, ◌<◌, ◌≤◌, ◌+◌, length, All, IfOk};
-ghost use Rattle.netlist.specs.Netlists.{IsNetlist};
-ghost use Rattle.care_sets.specs.Care.{columns as column_count};
+ghost use Rattle.netlist.specs.Netlists.{IsNetlist, columns as column_count};
 ghost use Rattle.loops.specs.Cones.{IsConeOf};
 ghost use Rattle.care_rows.specs.Rows.{AreSteadyRows};
 ghost use Rattle.care_rows.specs.Restricted.{gates_of_rows as gates_of};

@@ -2,10 +2,8 @@
 
 ghost use Rattle.std.specs.Prelude.{◌≡◌, ◌<◌, ◌≤◌, ◌++◌, ℕ, true, length, map, All, IfOk, OnOk};
 ghost use Rattle.std.specs.List.{range_with_len};
-ghost use Rattle.netlist.specs.Netlists.{IsNetlist, count, gate_at};
+ghost use Rattle.netlist.specs.Netlists.{IsNetlist, count, gate_at, is_marked, columns as column_count};
 ghost use Rattle.netlist.specs.Orders.{numbers_from};
-ghost use Rattle.loops.specs.Cones.{is_marked};
-ghost use Rattle.care_sets.specs.Care.{columns as column_count};
 ghost use Rattle.care_rows.specs.Rows.{AreSteadyRows};
 ghost use Rattle.care_rows.specs.Restricted.{gates_of_rows as gates_of};
 ghost use Rattle.care_rows.specs.Models.{kept_signal as kept_signal_of, kept_gate as kept_gate_of, all_marked, column_name, if_marked};

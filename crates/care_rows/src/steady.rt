@@ -2,9 +2,7 @@
 
 ghost use Rattle.std.specs.Prelude.{◌≡◌, ◌<◌, ◌+◌, ◌&&◌, not, length, All, IfOk, slice_set};
 ghost use Rattle.std.specs.List.{list_all};
-ghost use Rattle.netlist.specs.Netlists.{count, gate_at};
-ghost use Rattle.loops.specs.Cones.{is_marked};
-ghost use Rattle.care_sets.specs.Care.{columns};
+ghost use Rattle.netlist.specs.Netlists.{count, gate_at, is_marked, columns};
 ghost use Rattle.care_rows.specs.Rows.{AreSteadyMarks};
 ghost use Rattle.care_rows.specs.Steady.{AreSteadyBefore};
 

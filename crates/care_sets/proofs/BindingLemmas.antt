@@ -13,9 +13,9 @@ use Rattle.std.proofs.lemmas.Iterator.Adapters.{position_from-zero}
 use Rattle.std.proofs.lemmas.Option.{get_or_from_slice_get, slice_get_within, slice_get-get_or, slice_get_past}
 use Rattle.cyc_base.proofs.NameLemmas.{bytes_eq-same}
 use Rattle.netlist.specs.declared.parts.Parts.{Parts}
-use Rattle.netlist.specs.Netlists.{signal_names, driven_names, IsNetlist}
+use Rattle.netlist.specs.Netlists.{signal_names, driven_names, IsNetlist, columns}
 use Rattle.netlist.proofs.Decisions.{found_none, none_found}
-use Rattle.care_sets.specs.Care.{columns, column_names}
+use Rattle.care_sets.specs.Care.{column_names}
 use Rattle.care_sets.specs.Binding.{column_of, AreColumnsOf, IsUnknownName, is_unknown_name, is_before}
 use Rattle.care_sets.proofs.NameLemmas.{gate_names, names_split, length-column_names, length-names, others_differ, absent_at, place_of}
 use Rattle.care_sets.specs.declared.fault.CareFault.{CareFault}

@@ -1,9 +1,10 @@
 -- A netlist's vectors have what the models of its care set read.
 use Rattle.std.proofs.Common.{◌≡◌, ℕ, ◌+◌, Bool, List, length, Option, arith}
 use Rattle.std.specs.Prelude.{IfSome}
+use Rattle.netlist.specs.Netlists.{columns}
 use Rattle.netlist.specs.declared.parts.Parts.{Parts}
 use Rattle.care_sets.specs.declared.model.CareModel.{CareModel}
-use Rattle.care_sets.specs.Care.{columns, HasValues}
+use Rattle.care_sets.specs.Care.{HasValues}
 use Rattle.care_sets.specs.Binding.{IsBoundTo}
 use Rattle.care_sets.specs.Laws.{VectorsServeAssume, StatesServeInvariant}
 use Rattle.care_sets.proofs.BindingLemmas.{columns_within}

@@ -9,8 +9,8 @@ use Rattle.std.proofs.lemmas.Map.Made.{AllPairs-from_IsDistinct}
 use Rattle.std.proofs.lemmas.Option.{get_or_from_slice_get, slice_get_within}
 use Rattle.std.proofs.lemmas.Slice.Eq.{bytes_eq-Decides}
 use Rattle.netlist.specs.declared.parts.Parts.{Parts}
-use Rattle.netlist.specs.Netlists.{signal_names}
-use Rattle.care_sets.specs.Care.{columns, column_names}
+use Rattle.netlist.specs.Netlists.{signal_names, columns}
+use Rattle.care_sets.specs.Care.{column_names}
 
 abbrev pub gate_names : Parts → List (List ℕ)
 gate_names net = map (λ gate. gate.name) net.gates

@@ -6,6 +6,7 @@ use Rattle.std.specs.Option.{option_map_or}
 use Rattle.cyc_base.specs.declared.trit.Trit.{Trit}
 use Rattle.cyc_base.specs.declared.trit.Trit.TheVariants.{Zero, One, X}
 use Rattle.cyc_base.specs.Values.{bits}
+use Rattle.netlist.specs.Netlists.{columns}
 use Rattle.netlist.specs.declared.parts.Parts.{Parts}
 use Rattle.netlist.specs.Fixpoint.{outs}
 use Rattle.care_sets.specs.declared.model.CareModel.{CareModel}
@@ -14,10 +15,6 @@ use Rattle.care_sets.specs.declared.model.CareModel.{CareModel}
 pub record CareSet : Type 0 where
   pub assume : Option CareModel
   pub invariant : Option CareModel
-
--- the columns of a vector: the inputs, and then the latches
-abbrev pub columns : Parts → ℕ
-columns net = length net.inputs + length net.latches
 
 -- the names of the columns
 abbrev pub column_names : Parts → List (List ℕ)

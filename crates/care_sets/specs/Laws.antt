@@ -1,10 +1,11 @@
 -- The laws of care sets.
 use Rattle.std.specs.Prelude.{◌≡◌, Bool, List, length, IfSome}
 use Rattle.std.specs.declared.option.Option.{Option}
+use Rattle.netlist.specs.Netlists.{columns}
 use Rattle.netlist.specs.declared.parts.Parts.{Parts}
 use Rattle.care_sets.specs.declared.fault.CareFault.{CareFault}
 use Rattle.care_sets.specs.Binding.{IsCareOf, IsFirstFault, BindsBoth}
-use Rattle.care_sets.specs.Care.{CareSet, columns, HasValues}
+use Rattle.care_sets.specs.Care.{CareSet, HasValues}
 
 -- a vector of the netlist has a value for each column that the assumption reads
 abbrev pub VectorsServeAssume : Type 0

@@ -6,12 +6,13 @@ use Rattle.std.specs.Str.{bytes_eq}
 use Rattle.std.specs.declared.option.Option.{Option}
 use Rattle.cyc_base.specs.Values.{bits}
 use Rattle.cyc_base.proofs.OrderLemmas.{EachBelow-trans}
+use Rattle.netlist.specs.Netlists.{columns}
 use Rattle.netlist.specs.declared.parts.Latch.{Latch}
 use Rattle.netlist.specs.declared.parts.Parts.{Parts}
 use Rattle.netlist.specs.Fixpoint.{outs, next}
 use Rattle.care_sets.specs.declared.model.CareModel.{CareModel}
 use Rattle.care_sets.specs.Binding.{IsBoundTo, IsCareOf}
-use Rattle.care_sets.specs.Care.{CareSet, columns, column_names, IsCareVector}
+use Rattle.care_sets.specs.Care.{CareSet, column_names, IsCareVector}
 use Rattle.schedules.specs.Accepted.{TellsAsMuch}
 use Rattle.unroll.specs.Laws.{KeepsInterface}
 

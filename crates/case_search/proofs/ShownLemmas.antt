@@ -8,9 +8,10 @@ use Rattle.std.proofs.lemmas.List.Elements.{All-append, All-cons, All-map, All-n
 use Rattle.cyc_base.specs.declared.trit.Trit.{Trit}
 use Rattle.cyc_base.specs.declared.trit.Trit.TheVariants.{X}
 use Rattle.cyc_base.specs.Values.{bit, bits}
+use Rattle.netlist.specs.Netlists.{columns}
 use Rattle.netlist.specs.declared.parts.Parts.{Parts}
 use Rattle.loops.specs.Sweeps.{first_gate}
-use Rattle.care_sets.specs.Care.{columns, CareSet, IsCareVector}
+use Rattle.care_sets.specs.Care.{CareSet, IsCareVector}
 use Rattle.case_split.specs.declared.cases.Case.{Case}
 use Rattle.case_split.specs.declared.cases.ColumnValue.{ColumnValue}
 use Rattle.case_split.specs.Cases.{AreOfColumns, Holds, IsContradicted, IsInCase, IsInOneCase, IsRuledOut, IsUsable}

@@ -6,8 +6,8 @@ use Rattle.std.specs.declared.result.Result.{Result}
 use Rattle.cyc_base.specs.declared.trit.Trit.{Trit}
 use Rattle.cyc_base.specs.Values.{bits}
 use Rattle.netlist.specs.declared.parts.Parts.{Parts}
-use Rattle.netlist.specs.Netlists.{IsNetlist}
-use Rattle.care_sets.specs.Care.{CareSet, columns, IsCareVector}
+use Rattle.netlist.specs.Netlists.{IsNetlist, columns}
+use Rattle.care_sets.specs.Care.{CareSet, IsCareVector}
 use Rattle.refusals.proofs.RefusalLemmas.{length-bits}
 use Rattle.unroll.specs.Laws.{KeepsInterface, TellsAsMuchAt}
 use Rattle.case_split.specs.declared.cases.Case.{Case}

@@ -16,9 +16,8 @@ use Rattle.cyc_base.proofs.OrderLemmas.{Below-refl, EachBelow-set}
 use Rattle.netlist.specs.declared.parts.Gate.{Gate}
 use Rattle.netlist.specs.declared.parts.Parts.{Parts}
 use Rattle.netlist.specs.Fixpoint.{wire, fix}
-use Rattle.netlist.specs.Netlists.{count, gate_sig, no_gate, signal}
+use Rattle.netlist.specs.Netlists.{count, gate_sig, no_gate, signal, is_marked}
 use Rattle.netlist.proofs.FixpointLemmas.{unknown_below_state}
-use Rattle.loops.specs.Cones.{is_marked}
 use Rattle.loops.specs.Sweeps.{first_gate}
 use Rattle.case_split.specs.declared.cases.Case.{Case}
 use Rattle.case_split.specs.declared.cases.ColumnValue.{ColumnValue}

@@ -29,10 +29,9 @@ use Rattle.netlist.specs.declared.parts.Gate.{Gate}
 use Rattle.netlist.specs.declared.parts.Latch.{Latch}
 use Rattle.netlist.specs.declared.parts.Parts.{Parts}
 use Rattle.netlist.specs.Fixpoint.{wire, fix}
-use Rattle.netlist.specs.Netlists.{count, driven_names, gate_at, gate_sig, is_driven, no_gate, signal, signal_names, with_gates, IsClockName, IsNetlist, IsSignal}
+use Rattle.netlist.specs.Netlists.{count, driven_names, gate_at, gate_sig, is_driven, no_gate, signal, signal_names, with_gates, IsClockName, IsNetlist, IsSignal, is_marked}
 use Rattle.netlist.proofs.FixpointLemmas.{fix_is_monotone}
 use Rattle.netlist.proofs.NameLemmas.{length-signal_names}
-use Rattle.loops.specs.Cones.{is_marked}
 use Rattle.loops.specs.Sweeps.{first_gate}
 use Rattle.unroll.specs.Laws.{KeepsInterface, TellsAsMuchAt}
 use Rattle.unroll.specs.Marks.{clock_names, longest_run_in}

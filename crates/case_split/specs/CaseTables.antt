@@ -5,8 +5,7 @@ use Rattle.cyc_base.specs.Values.{EachBelow}
 use Rattle.netlist.specs.declared.parts.Gate.{Gate}
 use Rattle.netlist.specs.declared.parts.Parts.{Parts}
 use Rattle.netlist.specs.Fixpoint.{fix}
-use Rattle.netlist.specs.Netlists.{count}
-use Rattle.loops.specs.Cones.{is_marked}
+use Rattle.netlist.specs.Netlists.{count, is_marked}
 use Rattle.loops.specs.Sweeps.{first_gate}
 use Rattle.case_split.specs.declared.cases.Case.{Case}
 use Rattle.case_split.specs.declared.operands.Operand.{Operand}

@@ -9,13 +9,12 @@ use Rattle.cover_logic.specs.declared.row.Lit.TheVariants.{One}
 use Rattle.cover_logic.specs.declared.row.Row.{Row}
 use Rattle.netlist.specs.declared.parts.Gate.{Gate}
 use Rattle.netlist.specs.declared.parts.Parts.{Parts}
-use Rattle.netlist.specs.Netlists.{count, gate_at, gate_sig, no_gate}
+use Rattle.netlist.specs.Netlists.{count, gate_at, gate_sig, no_gate, is_marked}
 use Rattle.case_split.specs.declared.cases.Case.{Case}
 use Rattle.case_split.specs.declared.operands.Operand.{Operand}
 use Rattle.case_split.specs.declared.operands.Operand.TheVariants.{Constant}
 use Rattle.case_split.specs.Operands.{value_by, Agrees, IsWithin}
 use Rattle.case_split.specs.Added.{AreNew, IsMore}
-use Rattle.loops.specs.Cones.{is_marked}
 use Rattle.case_split.specs.Cubes.{IsCube}
 use Rattle.case_split.specs.Choices.{IsOnlyBy}
 use Rattle.case_split.specs.Splits.{SameGate}

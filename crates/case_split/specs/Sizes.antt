@@ -2,8 +2,8 @@
 use Rattle.std.specs.Prelude.{◌≡◌, ◌+◌, ◌*◌, ◌<◌, ◌≤◌, ℕ, Bool, List, length, filter}
 use Rattle.std.specs.List.{range_with_len}
 use Rattle.cyc_base.specs.declared.limits.TheConstants.{MAX_REWRITTEN_ITEMS}
+use Rattle.netlist.specs.Netlists.{is_marked}
 use Rattle.netlist.specs.declared.parts.Parts.{Parts}
-use Rattle.loops.specs.Cones.{is_marked}
 use Rattle.case_split.specs.declared.fault.SplitFault.{SplitFault}
 use Rattle.case_split.specs.declared.fault.SplitFault.TheVariants.{TooLarge, Memory}
 

@@ -1,5 +1,5 @@
 -- The names that most proofs of this crate cite, passed on from one place. Declares nothing.
-pub use Rattle.care_sets.specs.Care.{CareSet, IsCareVector, columns, holds_at, is_allowed, is_care_vector, is_in_invariant, state_of}
+pub use Rattle.care_sets.specs.Care.{CareSet, IsCareVector, holds_at, is_allowed, is_care_vector, is_in_invariant, state_of}
 pub use Rattle.care_sets.specs.declared.model.CareModel.{CareModel}
 pub use Rattle.clause_decision.specs.Changes.{AreFedKnown, change_literals}
 pub use Rattle.clause_decision.specs.Cones.{IsCone, ReadsAbove, ReadsFix, column_rails, vector_in}
@@ -8,7 +8,7 @@ pub use Rattle.loop_simulation.specs.Climbing.{NeedAtLeast}
 pub use Rattle.clause_decision.specs.Formulas.{IsOver, ReadsWithin, SaysTest}
 pub use Rattle.loop_simulation.specs.LoopsAt.{AreCutPlaces, IsLoopAt, LoopAt, gates_in, loops_in}
 pub use Rattle.clause_decision.specs.Questions.{IsQuestionOf}
-pub use Rattle.clause_decision.specs.Scopes.{AreClosed, is_marked}
+pub use Rattle.clause_decision.specs.Scopes.{AreClosed}
 pub use Rattle.loop_simulation.specs.Simulations.{IsCountAt}
 pub use Rattle.clause_decision.specs.Starts.{asked_starts}
 pub use Rattle.loop_simulation.specs.Sweeping.{IsLeastCount}
@@ -31,7 +31,7 @@ pub use Rattle.loops.specs.Blocks.{block_at}
 pub use Rattle.loops.specs.Cuts.{Loops, is_cut}
 pub use Rattle.loops.specs.Sweeps.{CutsAreFixed, cuts_of, first_gate, gate_of, sweeps, value_in}
 pub use Rattle.netlist.specs.Fixpoint.{fix, fix_gates, wire}
-pub use Rattle.netlist.specs.Netlists.{IsNetlist, count, gate_at, gate_sig, no_gate, signal}
+pub use Rattle.netlist.specs.Netlists.{IsNetlist, count, gate_at, gate_sig, no_gate, signal, columns, is_marked}
 pub use Rattle.netlist.specs.declared.parts.Latch.{Latch}
 pub use Rattle.netlist.specs.declared.parts.Parts.{Parts}
 pub use Rattle.std.proofs.lemmas.Bool.{and_parts, cases_lt}

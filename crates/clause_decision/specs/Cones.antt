@@ -4,9 +4,9 @@ use Rattle.cyc_base.specs.declared.trit.Trit.{Trit}
 use Rattle.cyc_base.specs.Values.{Below, bits}
 use Rattle.netlist.specs.declared.parts.Parts.{Parts}
 use Rattle.netlist.specs.Fixpoint.{fix_gates}
-use Rattle.netlist.specs.Netlists.{count}
+use Rattle.netlist.specs.Netlists.{count, columns}
 use Rattle.loops.specs.Sweeps.{value_in}
-use Rattle.care_sets.specs.Care.{CareSet, columns, is_allowed, is_in_invariant, state_of}
+use Rattle.care_sets.specs.Care.{CareSet, is_allowed, is_in_invariant, state_of}
 use Rattle.ternary_clauses.specs.declared.formula.Formula.{Formula}
 use Rattle.ternary_clauses.specs.declared.formula.Rails.{Rails}
 use Rattle.ternary_clauses.specs.Encoding.{IsWanted, ReadsGates}

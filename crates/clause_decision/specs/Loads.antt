@@ -2,10 +2,9 @@
 use Rattle.std.specs.Prelude.{◌≡◌, ◌<◌, ◌-◌, ℕ, true, length, IfSome, Contains, slice_index_or}
 use Rattle.netlist.specs.declared.parts.Parts.{Parts}
 use Rattle.netlist.specs.declared.parts.Latch.{Latch}
-use Rattle.netlist.specs.Netlists.{gate_sig}
+use Rattle.netlist.specs.Netlists.{gate_sig, is_marked}
 use Rattle.care_sets.specs.Care.{CareSet}
 use Rattle.clause_decision.specs.declared.scope.Scope.{Scope}
-use Rattle.clause_decision.specs.Scopes.{is_marked}
 
 -- a gate that drives one of those latches is in the scope
 abbrev pub HasLoads : Parts → CareSet → Scope → Type 0

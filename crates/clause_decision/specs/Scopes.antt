@@ -2,15 +2,13 @@
 use Rattle.std.specs.Prelude.{◌≡◌, ◌≢◌, ◌<◌, ℕ, Bool, true, false, List, length, All, slice_index_or}
 use Rattle.cyc_base.specs.declared.trit.Trit.TheVariants.{X}
 use Rattle.cyc_base.specs.Values.{bits}
+use Rattle.netlist.specs.Netlists.{columns, is_marked}
 use Rattle.netlist.specs.declared.parts.Parts.{Parts}
 use Rattle.netlist.specs.Fixpoint.{fix_gates}
 use Rattle.netlist.specs.Walks.{Feeds}
 use Rattle.loops.specs.Sweeps.{value_in}
-use Rattle.care_sets.specs.Care.{CareSet, columns, IsCareVector}
+use Rattle.care_sets.specs.Care.{CareSet, IsCareVector}
 use Rattle.clause_decision.specs.declared.scope.Scope.{Scope}
-
-abbrev pub is_marked : List Bool → ℕ → Bool
-is_marked marks n = slice_index_or marks n false
 
 -- with each gate those that feed it are marked
 abbrev pub AreClosed : Parts → List Bool → Type 0

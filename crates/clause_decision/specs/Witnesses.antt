@@ -1,7 +1,8 @@
 -- A care vector at which some gate is unknown.
 use Rattle.std.specs.Prelude.{◌≡◌, ◌<◌, ℕ, Bool, true, false, List, length, slice_index}
+use Rattle.netlist.specs.Netlists.{columns}
 use Rattle.netlist.specs.declared.parts.Parts.{Parts}
-use Rattle.care_sets.specs.Care.{CareSet, columns}
+use Rattle.care_sets.specs.Care.{CareSet}
 use Rattle.ternary_clauses.specs.Formulas.{says}
 use Rattle.clause_decision.specs.Cones.{vector_in}
 use Rattle.clause_decision.specs.declared.unknown.Unknowns.{Unknowns}

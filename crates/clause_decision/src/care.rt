@@ -1,8 +1,9 @@
 //! The care set as clauses, and whether a vector is one of care.
 
 ghost use Rattle.std.specs.Prelude.{◌≡◌, map, drop, IfOk};
+ghost use Rattle.netlist.specs.Netlists.{columns as columns_of};
 ghost use Rattle.care_sets.specs.Binding.{IsCareOf};
-ghost use Rattle.care_sets.specs.Care.{columns as columns_of, is_care_vector};
+ghost use Rattle.care_sets.specs.Care.{is_care_vector};
 ghost use Rattle.clause_queries.specs.Vectors.{TellsWhetherAny};
 ghost use Rattle.clause_decision.specs.Formulas.{IsCareFormula, IsOver};
 ghost use Rattle.clause_decision.specs.Questions.{IsQuestionOf};

@@ -1,9 +1,8 @@
 //! Care vectors whose next state leaves the invariant.
 
 ghost use Rattle.std.specs.Prelude.{◌≡◌, ◌≤◌, ◌-◌, ◌<◌, length, option_map, IfOk, Some};
-ghost use Rattle.netlist.specs.Netlists.{count};
+ghost use Rattle.netlist.specs.Netlists.{count, columns as columns_of};
 ghost use Rattle.care_sets.specs.Binding.{IsCareOf};
-ghost use Rattle.care_sets.specs.Care.{columns as columns_of};
 ghost use Rattle.clause_queries.specs.Vectors.{IsFirstOf};
 ghost use Rattle.clause_decision.specs.Loads.{HasLoads};
 ghost use Rattle.refusals.specs.Tests.{LoadsAreKnown};

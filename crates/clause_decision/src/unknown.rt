@@ -2,19 +2,19 @@
 
 ghost use Rattle.std.specs.Prelude.{◌≡◌, ◌<◌, ◌∷◌, [], ℕ, Bool, List, true, length, All, IfOk, IfSome};
 ghost use Rattle.care_sets.specs.Binding.{IsCareOf};
-ghost use Rattle.care_sets.specs.Care.{CareSet, columns};
+ghost use Rattle.care_sets.specs.Care.{CareSet};
 ghost use Rattle.ternary_clauses.specs.Encoding.{gate_rails};
 ghost use Rattle.ternary_clauses.specs.Formulas.{negation as negation_of, IsFormula};
 ghost use Rattle.ternary_clauses.specs.Rails.{AreWithin};
 ghost use Rattle.netlist.specs.declared.parts.Parts.{Parts};
-ghost use Rattle.netlist.specs.Netlists.{count};
+ghost use Rattle.netlist.specs.Netlists.{count, columns, is_marked};
 ghost use Rattle.clause_queries.specs.Clauses.{IsWithin};
 ghost use Rattle.clause_queries.specs.Each.{TellEach};
 ghost use Rattle.clause_queries.specs.Queries.{problem};
 ghost use Rattle.clause_queries.specs.Vectors.{IsFirstOf};
 ghost use Rattle.clause_decision.specs.Cones.{IsCone};
 ghost use Rattle.clause_decision.specs.Questions.{IsQuestionOf};
-ghost use Rattle.clause_decision.specs.Scopes.{is_marked, AreInScope, IsScopeOf};
+ghost use Rattle.clause_decision.specs.Scopes.{AreInScope, IsScopeOf};
 ghost use Rattle.refusals.specs.Tests.{is_unknown_at};
 ghost use Rattle.clause_decision.specs.Tests.{TellsFirstUnknown, TellEachUnknown};
 ghost use Rattle.clause_decision.specs.Unknowns.{unknown_literals, AreRisingIn, TellUnknowns};

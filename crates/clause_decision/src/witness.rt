@@ -4,10 +4,10 @@ ghost use Rattle.std.specs.Prelude.{◌≡◌, ◌<◌, ◌≤◌, ◌*◌, ◌-
 ghost use Rattle.care_sets.specs.Binding.{IsCareOf};
 ghost use Rattle.care_sets.specs.Care.{CareSet};
 ghost use Rattle.ternary_clauses.specs.Formulas.{says};
-ghost use Rattle.netlist.specs.Netlists.{count};
+ghost use Rattle.netlist.specs.Netlists.{count, is_marked};
 ghost use Rattle.clause_queries.specs.Clauses.{IsWithin};
 ghost use Rattle.clause_queries.specs.Queries.{problem, IsReply};
-ghost use Rattle.clause_decision.specs.Scopes.{is_marked, AreInScope, IsScopeOf};
+ghost use Rattle.clause_decision.specs.Scopes.{AreInScope, IsScopeOf};
 ghost use Rattle.clause_decision.specs.Unknowns.{TellUnknowns};
 ghost use Rattle.clause_decision.specs.Witnesses.{IsFirstTrueIn, TellsWitness};
 

@@ -1,5 +1,5 @@
 -- The names that most proofs of this crate cite, passed on from one place. Declares nothing.
-pub use Rattle.care_sets.specs.Care.{CareSet, IsCareVector, columns}
+pub use Rattle.care_sets.specs.Care.{CareSet, IsCareVector}
 pub use Rattle.clause_decision.specs.Cones.{IsCone, ReadsAbove, ReadsFix, column_rails, vector_in}
 pub use Rattle.clause_pairs.specs.Pairs.{AddLiterals, SayPairs}
 pub use Rattle.clause_queries.proofs.ClauseLemmas.{models-same}
@@ -11,7 +11,7 @@ pub use Rattle.cyc_base.specs.declared.trit.Trit.TheVariants.{X}
 pub use Rattle.cyc_base.specs.declared.trit.Trit.{Trit}
 pub use Rattle.loops.specs.Sweeps.{first_gate, gate_of, value_in}
 pub use Rattle.netlist.specs.Fixpoint.{fix, wire}
-pub use Rattle.netlist.specs.Netlists.{count}
+pub use Rattle.netlist.specs.Netlists.{count, columns}
 pub use Rattle.netlist.specs.declared.parts.Parts.{Parts}
 pub use Rattle.std.proofs.lemmas.Bool.{cases_lt}
 pub use Rattle.std.proofs.lemmas.List.Elements.{All-cons, All-get_or, All-map, All-nil, All-push, All-weaker}

@@ -1,14 +1,14 @@
 -- Pairs of wires that are never apart on care, or in a cube of it.
 use Rattle.std.specs.Prelude.{◌≡◌, ◌≤◌, ◌<◌, Bool, true, false, List, All, slice_index_or}
 use Rattle.cyc_base.specs.declared.sig.Sig.{Sig}
+use Rattle.netlist.specs.Netlists.{columns, is_marked}
 use Rattle.netlist.specs.declared.parts.Parts.{Parts}
 use Rattle.netlist.specs.Pairs.{some_is_apart}
 use Rattle.loops.specs.Sweeps.{first_gate, gate_of}
-use Rattle.care_sets.specs.Care.{columns, CareSet, IsCareVector}
+use Rattle.care_sets.specs.Care.{CareSet, IsCareVector}
 use Rattle.clause_pairs.specs.declared.pairs.Fixed.{Fixed}
 use Rattle.netlist.specs.declared.pair.Pair.{Pair}
 use Rattle.clause_decision.specs.declared.scope.Scope.{Scope}
-use Rattle.clause_decision.specs.Scopes.{is_marked}
 
 -- the wires of no pair are apart, at any care vector
 abbrev pub AreNeverApart : Parts → CareSet → List Pair → Type 0

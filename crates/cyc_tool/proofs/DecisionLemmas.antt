@@ -1,6 +1,7 @@
 -- What decisions come to.
 use Rattle.std.proofs.Common.{◌≡◌, ◌⊎◌, ◌<◌, ◌≤◌, ℕ, Bool, true, false, length, Some, None, Ok, Err, refl, sym, ap, ap₂, subst, ◌∙◌, inl, inr, arith}
 use Rattle.std.proofs.lemmas.List.{length-map}
+use Rattle.netlist.specs.Netlists.{columns}
 use Rattle.cyc_tool.proofs.Common.{nat_le, if◌then◌else◌, IfOk, Option, Arena, Parts, IsNetlist, written, IsRefusalOf, Refusal, Undetermined, Form, told, IsDecided, Limit, Prints, Outgrows, Purpose, Judges, Rewrites, WritesGraph, Explains, Demonstrates, Storms, outcome_of, Outcome}
 use Rattle.std.specs.Prelude.{◌+◌, IfErr, OnOk}
 use Rattle.std.specs.declared.result.Result.{Result}
@@ -9,7 +10,7 @@ use Rattle.netlist.specs.declared.parts.Latch.{Latch}
 use Rattle.aig_core.specs.declared.building.Built.{Built}
 use Rattle.aig_core.specs.declared.fault.AigFault.{AigFault}
 use Rattle.aig_core.specs.declared.fault.AigFault.TheVariants.{TooLarge as ManyAnds, Memory as NoRoom}
-use Rattle.aig_core.specs.Building.{built, columns}
+use Rattle.aig_core.specs.Building.{built}
 use Rattle.commands.specs.declared.encoding.Encoding.{Encoding}
 use Rattle.care_sets.specs.Care.{CareSet}
 use Rattle.refusals.specs.Acceptance.{Accepts}

@@ -5,8 +5,7 @@ use Rattle.std.proofs.lemmas.List.Elements.{All-weaker}
 use Rattle.cyc_tool.proofs.Common.{Sig, bits, Parts, fix, Form, told, Outcome}
 use Rattle.cyc_base.specs.Values.{bit}
 use Rattle.cyc_base.proofs.OrderLemmas.{EachBelow-length}
-use Rattle.netlist.specs.Netlists.{signal, gate_sig}
-use Rattle.care_sets.specs.Care.{columns}
+use Rattle.netlist.specs.Netlists.{signal, gate_sig, columns}
 use Rattle.explanations.specs.declared.explanation.Explanation.{Explanation}
 use Rattle.explanations.specs.Explained.{Explains, IsUnknown}
 use Rattle.report.specs.Explanations.{IsExplanationOf}

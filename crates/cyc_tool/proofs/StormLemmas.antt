@@ -2,10 +2,9 @@
 use Rattle.std.proofs.Common.{◌≡◌, ◌-◌, ℕ, Bool, List, sym, ap, ◌∙◌, arith}
 use Rattle.cyc_tool.proofs.Common.{bits, Sig, Parts, IsRefusalOf, Refusal, Undetermined, fix, told, Outcome}
 use Rattle.cyc_base.specs.declared.trit.Trit.TheVariants.{X}
-use Rattle.care_sets.specs.Care.{columns}
 use Rattle.refusals.specs.Refusals.{IsAt}
 use Rattle.netlist.specs.Fixpoint.{wire}
-use Rattle.netlist.specs.Netlists.{signal, gate_sig}
+use Rattle.netlist.specs.Netlists.{signal, gate_sig, columns}
 use Rattle.cyc_tool.specs.Endings.{storm_or_refusal, storm_told}
 use Rattle.cyc_tool.specs.Seen.{IsShown}
 use Rattle.cyc_tool.specs.Storms.{LeavesUnknown}

@@ -1,10 +1,11 @@
 -- What follows of a run for each status, and where the files are told.
 use Rattle.std.specs.Prelude.{◌≡◌, ◌≢◌, ◌≤◌, ◌↔◌, ◌⊎◌, codes, ℕ, Bool, true, List, length, Some, None, IfSome, IsSomeAnd}
 use Rattle.std.specs.declared.option.Option.{Option}
+use Rattle.netlist.specs.Netlists.{columns}
 use Rattle.assumptions.specs.Assumptions.{IsRefused, IsStrengthened}
 use Rattle.bdd_store.specs.Arena.{Arena}
 use Rattle.care_rows.specs.declared.rows.Row.{Row}
-use Rattle.care_sets.specs.Care.{CareSet, columns, is_allowed, is_in_invariant, state_of}
+use Rattle.care_sets.specs.Care.{CareSet, is_allowed, is_in_invariant, state_of}
 use Rattle.schedules.specs.Harmless.{IsHarmless}
 use Rattle.cyc_io.specs.Files.{Files}
 use Rattle.refusals.specs.Acceptance.{AreDetermined, observed}

@@ -1,14 +1,13 @@
 // Decisions of netlists on their care sets.
 ghost use Rattle.std.specs.Prelude.{◌≡◌, ◌≤◌, ℕ, IfOk, length};
 ghost use Rattle.aig_core.specs.Answers.{FitsNetlist};
-ghost use Rattle.aig_core.specs.Building.{columns};
 ghost use Rattle.bdd_store.specs.Arena.{Arena};
 ghost use Rattle.care_sets.specs.Binding.{IsCareOf};
 ghost use Rattle.care_sets.specs.Care.{CareSet};
 ghost use Rattle.commands.specs.Seen.{cells_seen, making_seen, purpose_seen, telling_seen};
 ghost use Rattle.commands.specs.Words.{Rewrites, WritesGraph};
 ghost use Rattle.cyc_base.specs.declared.limits.TheConstants.{MAX_NODES as most_nodes, MAX_REWRITTEN_ITEMS};
-ghost use Rattle.netlist.specs.Netlists.{IsNetlist};
+ghost use Rattle.netlist.specs.Netlists.{IsNetlist, columns};
 ghost use Rattle.netlist.specs.Walks.{IsLoopFree};
 ghost use Rattle.netlist.specs.declared.parts.Parts.{Parts};
 ghost use Rattle.refusals.specs.Acceptance.{Accepts};

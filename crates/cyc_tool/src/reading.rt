@@ -1,7 +1,6 @@
 // Reading the files of a command: what is in a file, or where the call ends.
 ghost use Rattle.std.specs.Prelude.{◌≡◌, ◌≤◌, Some, IfOk, IfErr, length, option_copied};
-ghost use Rattle.netlist.specs.Netlists.{IsNetlist};
-ghost use Rattle.aig_core.specs.Building.{columns};
+ghost use Rattle.netlist.specs.Netlists.{IsNetlist, columns};
 ghost use Rattle.care_sets.specs.Binding.{IsCareOf};
 ghost use Rattle.parsed_files.specs.Seen.{error_seen};
 ghost use Rattle.rewriting.specs.Graphs.{most_columns};

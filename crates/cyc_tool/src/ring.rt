@@ -1,13 +1,12 @@
 // The ring arbiter of so many cells, decided as a file is.
 ghost use Rattle.std.specs.Prelude.{◌≡◌, ◌≤◌, Ok, IfOk, IfErr, length};
-ghost use Rattle.aig_core.specs.Building.{columns};
 ghost use Rattle.care_sets.specs.Binding.{IsCareOf};
 ghost use Rattle.commands.specs.Seen.{cells_seen};
 ghost use Rattle.parsed_files.specs.CareFiles.{care_of as care_meant};
 ghost use Rattle.parsed_files.specs.NetlistFiles.{netlist_of as netlist_meant};
 ghost use Rattle.maker.specs.Faults.{AreTexts};
 ghost use Rattle.maker.specs.Ring.{ring_text, care_text};
-ghost use Rattle.netlist.specs.Netlists.{IsNetlist};
+ghost use Rattle.netlist.specs.Netlists.{IsNetlist, columns};
 ghost use Rattle.rewriting.specs.Graphs.{most_columns};
 ghost use Rattle.cyc_tool.specs.Plans.{ring_care_file, ring_deciding, ring_deciding_on, ring_file};
 ghost use Rattle.cyc_tool.specs.Reading.{FollowsStill, IsStoppedBy};

@@ -1,12 +1,11 @@
 // Accepted netlists that are split by cases.
 ghost use Rattle.std.specs.Prelude.{◌≤◌, ℕ, IfOk, Some};
-ghost use Rattle.aig_core.specs.Building.{columns};
 ghost use Rattle.care_sets.specs.Binding.{IsCareOf};
 ghost use Rattle.care_sets.specs.Care.{CareSet};
 ghost use Rattle.commands.specs.Seen.{split_seen};
 ghost use Rattle.commands.specs.Words.{Rewrites, WritesGraph};
 ghost use Rattle.cyc_base.specs.declared.limits.TheConstants.{MAX_NODES as most_nodes};
-ghost use Rattle.netlist.specs.Netlists.{IsNetlist};
+ghost use Rattle.netlist.specs.Netlists.{IsNetlist, columns};
 ghost use Rattle.netlist.specs.Walks.{IsLoopFree};
 ghost use Rattle.netlist.specs.declared.parts.Parts.{Parts};
 ghost use Rattle.refusals.specs.Acceptance.{Accepts};

@@ -1,5 +1,6 @@
 -- Whether a tick ends settled.
 use Rattle.std.proofs.Common.{◌≡◌, ◌↔◌, ℕ, ◌<◌, Bool, true, false, List, [], ◌∷◌, length, map, set, get_or, All, refl, ap, sym, ◌∙◌, arith}
+use Rattle.netlist.specs.Netlists.{columns}
 use Rattle.delay_core.proofs.Common.{range_with_len, zip, get_or-map, ext_get_or, length-map, length-set, All-head, All-tail, length-range_with_len, get_or-range_with_len, bits, Parts, count, gate_sig, Event, Moment, History, bit_at, newest, Played, gates_at, loaded_at, played, play, RoundPlan, given_at, gate_agrees, tick_of, IsPlayedFairly}
 use Rattle.std.proofs.Math.Seq.{take-append_seam}
 use Rattle.std.proofs.lemmas.List.{get_or-append-add, get_or-drop, length-append, length-drop, length-take, take-set-le}
@@ -10,7 +11,6 @@ use Rattle.cyc_base.specs.declared.trit.Trit.TheVariants.{X}
 use Rattle.cyc_base.specs.Values.{bit}
 use Rattle.netlist.specs.Fixpoint.{fix_gates}
 use Rattle.netlist.proofs.FixpointLemmas.{length-steps}
-use Rattle.care_sets.specs.Care.{columns}
 use Rattle.schedules.specs.Moments.{Round, event_value, next_moment, after_events, after_rounds}
 use Rattle.schedules.specs.Runs.{Tick, vector_of}
 use Rattle.schedules.proofs.RunLemmas.{gates_reach_fix}

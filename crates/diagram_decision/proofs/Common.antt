@@ -10,7 +10,7 @@ unfoldable pub use Rattle.bdd_store.specs.Subfunctions.{nodes}
 pub use Rattle.bdd_store.specs.declared.fault.StoreFault.{StoreFault}
 pub use Rattle.bdd_store.specs.declared.node.Node.{Node}
 pub use Rattle.care_sets.specs.Binding.{IsCareOf}
-pub use Rattle.care_sets.specs.Care.{CareSet, IsCareVector, columns, holds_at, is_care_vector, is_in_invariant, is_one, state_of, HasValues}
+pub use Rattle.care_sets.specs.Care.{CareSet, IsCareVector, holds_at, is_care_vector, is_in_invariant, is_one, state_of, HasValues}
 pub use Rattle.care_sets.specs.declared.model.CareModel.{CareModel}
 pub use Rattle.refusals.specs.Tests.{IsFirstToRefuse, is_leaving, is_unknown_at}
 pub use Rattle.cyc_base.specs.Values.{bit, bits}
@@ -32,7 +32,6 @@ pub use Rattle.fixpoint.specs.Sweeping.{rails_at}
 pub use Rattle.fixpoint.specs.Working.{HasLargeCover, IsWorking, effort}
 pub use Rattle.isolation.proofs.ColumnLemmas.{AreColumns-kept}
 pub use Rattle.isolation.specs.Columns.{AreColumns}
-pub use Rattle.loops.specs.Cones.{is_marked}
 pub use Rattle.loops.proofs.Reading.{map_agree}
 pub use Rattle.loops.specs.Blocks.{AreBlocksOf, block_at, home_of}
 pub use Rattle.loops.specs.Cuts.{IsCutOf, Loops, loops_by}
@@ -40,7 +39,7 @@ pub use Rattle.loops.specs.Sweeps.{IsCountOfSweeps, value_in}
 pub use Rattle.loops.specs.declared.structure.Blocks.{Blocks}
 pub use Rattle.loops.specs.declared.structure.Cut.{Cut}
 pub use Rattle.netlist.specs.Fixpoint.{fix, fix_gates, next, wire}
-pub use Rattle.netlist.specs.Netlists.{IsNetlist, count, gate_sig}
+pub use Rattle.netlist.specs.Netlists.{IsNetlist, count, gate_sig, columns, is_marked}
 pub use Rattle.netlist.specs.declared.parts.Latch.{Latch}
 pub use Rattle.netlist.specs.declared.parts.Parts.{Parts}
 pub use Rattle.refusals.proofs.FirstLemmas.{empty-filter, found_wide, none_passes}

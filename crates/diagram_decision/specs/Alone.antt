@@ -1,9 +1,9 @@
 -- Loops that are settled by themselves.
 use Rattle.std.specs.Prelude.{◌≡◌, ◌<◌, ℕ, Bool, true, List, length}
+use Rattle.netlist.specs.Netlists.{is_marked}
 use Rattle.netlist.specs.declared.parts.Parts.{Parts}
 use Rattle.loops.specs.declared.structure.Blocks.{Blocks}
 use Rattle.loops.specs.Blocks.{block_at}
-use Rattle.loops.specs.Cones.{is_marked}
 use Rattle.isolation.specs.Settled.{SettleInSweeps}
 
 -- each loop at a marked place is settled by itself in one sweep

@@ -1,9 +1,10 @@
 -- Why a call finds the diagrams full.
 use Rattle.std.specs.Prelude.{◌≡◌, ◌⊎◌, ℕ, length, IsSomeAnd}
+use Rattle.netlist.specs.Netlists.{columns}
 use Rattle.bdd_store.specs.Arena.{Arena}
 use Rattle.netlist.specs.declared.parts.Parts.{Parts}
 use Rattle.fixpoint.specs.Working.{HasLargeCover}
-use Rattle.care_sets.specs.Care.{CareSet, columns}
+use Rattle.care_sets.specs.Care.{CareSet}
 
 -- a model of the care set has a cover of more nodes than the limit
 abbrev pub HasModelOver : CareSet → ℕ → Type 0

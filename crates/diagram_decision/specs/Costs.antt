@@ -1,9 +1,10 @@
 -- What the parts of a decision cost: how many functions each makes.
 use Rattle.std.specs.Prelude.{ℕ, ◌+◌, ◌*◌, length}
 use Rattle.std.specs.Option.{option_map_or}
+use Rattle.netlist.specs.Netlists.{columns}
 use Rattle.fixpoint.specs.Working.{effort}
 use Rattle.netlist.specs.declared.parts.Parts.{Parts}
-use Rattle.care_sets.specs.Care.{CareSet, columns}
+use Rattle.care_sets.specs.Care.{CareSet}
 
 -- the effort of a model that is there
 abbrev pub assume_effort : CareSet → ℕ

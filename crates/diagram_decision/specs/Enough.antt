@@ -1,6 +1,7 @@
 -- The functions that a decision works with, and how many nodes are enough for it.
 use Rattle.std.specs.Prelude.{◌≡◌, ◌<◌, ◌≤◌, ◌+◌, ◌-◌, ◌*◌, ◌⊎◌, ℕ, Bool, List, Option, Result, length, map, IfSome, IsSomeAnd, slice_index_or}
 use Rattle.std.specs.Option.{option_map_or}
+use Rattle.netlist.specs.Netlists.{columns}
 use Rattle.bdd_store.specs.Arena.{Arena}
 use Rattle.bdd_store.specs.declared.fault.StoreFault.{StoreFault}
 use Rattle.bdd_store.specs.Growth.{IsFullOnlyPast, AddsWithin, GrowsWithin}
@@ -15,7 +16,7 @@ use Rattle.loops.specs.Found.{loops_of}
 use Rattle.fixpoint.specs.Orders.{laid}
 use Rattle.fixpoint.specs.Working.{no_loops, IsGatePart, effort}
 use Rattle.care_sets.specs.declared.model.CareModel.{CareModel}
-use Rattle.care_sets.specs.Care.{CareSet, columns, state_of, is_allowed, is_care_vector}
+use Rattle.care_sets.specs.Care.{CareSet, state_of, is_allowed, is_care_vector}
 use Rattle.diagram_decision.specs.Causes.{HasModelOver, HasCoverOver, IsStoreFor}
 use Rattle.diagram_decision.specs.Costs.{decision_cost}
 use Rattle.diagram_decision.specs.Sets.{starts, has_state_inside}

@@ -3,6 +3,7 @@ use Rattle.std.specs.Prelude.{◌≡◌, ◌<◌, ◌==◌, ◌&&◌, ℕ, Bool,
 use Rattle.std.specs.declared.option.Option.{Option}
 use Rattle.std.specs.List.{list_all}
 use Rattle.std.specs.Option.{option_or}
+use Rattle.netlist.specs.Netlists.{columns}
 use Rattle.bdd_store.specs.declared.node.Node.{Node}
 use Rattle.bdd_store.specs.Arena.{Arena}
 use Rattle.cyc_base.specs.declared.trit.Trit.{Trit}
@@ -15,7 +16,7 @@ use Rattle.loops.specs.Cuts.{loops_by}
 use Rattle.loops.specs.Sweeps.{IsCountOfSweeps}
 use Rattle.fixpoint.specs.Counts.{count_at}
 use Rattle.fixpoint.specs.Solved.{Vectors, IsSolution}
-use Rattle.care_sets.specs.Care.{CareSet, columns, is_one, is_care_vector}
+use Rattle.care_sets.specs.Care.{CareSet, is_one, is_care_vector}
 use Rattle.refusals.specs.Acceptance.{Accepts}
 use Rattle.refusals.specs.Refusals.{is_x, initial_refusal, empty_refusal, undetermined_refusal, leaves_refusal, refusal, loose_gates}
 use Rattle.refusals.specs.declared.observe.Observe.{Observe}

@@ -7,11 +7,11 @@ use Rattle.cyc_base.specs.Values.{bits}
 use Rattle.dual_rail.specs.declared.rail.Rails.{Rails}
 use Rattle.dual_rail.specs.Rails.{AreRailsOf, value_of, values_of}
 use Rattle.netlist.specs.declared.parts.Parts.{Parts}
-use Rattle.netlist.specs.Netlists.{count}
+use Rattle.netlist.specs.Netlists.{count, columns}
 use Rattle.netlist.specs.Fixpoint.{fix}
 use Rattle.fixpoint.specs.Orders.{laid}
 use Rattle.care_sets.specs.declared.model.CareModel.{CareModel}
-use Rattle.care_sets.specs.Care.{CareSet, columns, state_of, is_in_invariant}
+use Rattle.care_sets.specs.Care.{CareSet, state_of, is_in_invariant}
 use Rattle.refusals.specs.Refusals.{is_initial, is_x}
 
 -- the node is true at the vectors that pass the test

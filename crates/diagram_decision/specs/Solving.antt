@@ -1,5 +1,6 @@
 -- A netlist that is solved beside a set of vectors.
 use Rattle.std.specs.Prelude.{◌≡◌, ℕ, zero, suc, Bool, false, List, [], ◌∷◌, length, map}
+use Rattle.netlist.specs.Netlists.{columns}
 use Rattle.bdd_store.specs.declared.node.Node.{Node}
 use Rattle.bdd_store.specs.Arena.{Arena, den, IsNodeOf}
 use Rattle.cyc_base.specs.Values.{bits}
@@ -10,7 +11,6 @@ use Rattle.loops.specs.Looped.{Looped}
 use Rattle.fixpoint.specs.Kept.{rails_under}
 use Rattle.fixpoint.specs.Orders.{laid}
 use Rattle.fixpoint.specs.Solved.{Vectors, IsSolution}
-use Rattle.care_sets.specs.Care.{columns}
 use Rattle.diagram_decision.specs.declared.solving.Fixpoint.{Fixpoint}
 
 -- the netlist is solved at the vectors that the given rails stood for, and the set has the function that it had

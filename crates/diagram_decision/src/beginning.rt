@@ -1,7 +1,8 @@
 //! What is decided before the gates: the initial states, and whether any vector counts.
 
 ghost use Rattle.std.specs.Prelude.{◌≡◌, ◌+◌, ◌*◌, IfOk};
-ghost use Rattle.care_sets.specs.Care.{columns, is_care_vector};
+ghost use Rattle.netlist.specs.Netlists.{columns};
+ghost use Rattle.care_sets.specs.Care.{is_care_vector};
 ghost use Rattle.diagram_decision.specs.Costs.{assume_effort, invariant_effort, set_cost, start_cost};
 ghost use Rattle.diagram_decision.specs.Enough.{GrowsInDecision};
 ghost use Rattle.isolation.specs.Columns.{AreColumns};

@@ -1,7 +1,8 @@
 //! The sweeps of the loops of an accepted netlist, by diagrams.
 
 ghost use Rattle.std.specs.Prelude.{◌≡◌, ◌≤◌, ◌+◌, Err, IfOk, IfSome};
-ghost use Rattle.care_sets.specs.Care.{columns, is_care_vector};
+ghost use Rattle.netlist.specs.Netlists.{columns};
+ghost use Rattle.care_sets.specs.Care.{is_care_vector};
 ghost use Rattle.fixpoint.specs.Orders.{order as order_of};
 ghost use Rattle.isolation.specs.Columns.{AreColumns};
 ghost use Rattle.diagram_decision.specs.Costs.{counting_cost, solving_cost, sweeps_cost};

@@ -1,7 +1,8 @@
 //! The decision by diagrams: all care vectors at once, on the fixpoint of the whole netlist.
 
 ghost use Rattle.std.specs.Prelude.{◌≡◌, ◌≤◌, ◌+◌, IfOk, IfSome};
-ghost use Rattle.care_sets.specs.Care.{columns, is_care_vector};
+ghost use Rattle.netlist.specs.Netlists.{columns};
+ghost use Rattle.care_sets.specs.Care.{is_care_vector};
 ghost use Rattle.fixpoint.specs.Orders.{order as order_of};
 ghost use Rattle.diagram_decision.specs.Costs.{care_cost, judging_cost, solving_cost, start_cost};
 ghost use Rattle.diagram_decision.specs.Enough.{AddsInDecision, GrowsInDecision};

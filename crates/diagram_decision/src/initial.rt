@@ -1,11 +1,11 @@
 //! The vectors whose states the inits permit.
 
 ghost use Rattle.std.specs.Prelude.{◌≡◌, Bool, List, IfOk};
+ghost use Rattle.netlist.specs.Netlists.{columns};
 ghost use Rattle.bdd_store.specs.Arena.{Arena, den, IsNodeOf};
 ghost use Rattle.bdd_store.specs.Growth.{GrowsWithin, NoOtherCause};
 ghost use Rattle.cyc_base.specs.Values.{bit};
 ghost use Rattle.dual_rail.specs.Rails.{AreRailsOf, value_of};
-ghost use Rattle.care_sets.specs.Care.{columns};
 ghost use Rattle.refusals.specs.Refusals.{may_start as may_start_with};
 ghost use Rattle.isolation.specs.Columns.{AreColumns};
 ghost use Rattle.fixpoint.specs.Orders.{laid, order as order_of};

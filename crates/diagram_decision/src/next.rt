@@ -1,13 +1,14 @@
 //! The latches' next values: as rails at the vectors of a set, and at one vector.
 
 ghost use Rattle.std.specs.Prelude.{◌≡◌, ◌*◌, Bool, List, length, map, All, IfOk, if◌then◌else◌};
+ghost use Rattle.netlist.specs.Netlists.{columns};
 ghost use Rattle.bdd_store.specs.Arena.{den, IsNodeOf};
 ghost use Rattle.bdd_store.specs.Growth.{GrowsWithin, NoOtherCause};
 ghost use Rattle.bdd_ops.specs.Operations.{conjunction};
 ghost use Rattle.cyc_base.specs.declared.trit.Trit.TheVariants.{X};
 ghost use Rattle.dual_rail.specs.Rails.{AreRailsOf, value_of, values_of};
 ghost use Rattle.fixpoint.specs.Orders.{laid};
-ghost use Rattle.care_sets.specs.Care.{columns, is_care_vector, is_one as is_one_of};
+ghost use Rattle.care_sets.specs.Care.{is_care_vector, is_one as is_one_of};
 ghost use Rattle.refusals.specs.Refusals.{next_state};
 ghost use Rattle.diagram_decision.specs.Enough.{GrowsInDecision};
 ghost use Rattle.diagram_decision.specs.Next.{next_within};

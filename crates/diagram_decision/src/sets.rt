@@ -1,13 +1,13 @@
 //! Sets of vectors as nodes, and their least vectors.
 
 ghost use Rattle.std.specs.Prelude.{◌≡◌, ℕ, Bool, List, IfOk, find, is_none, option_map};
+ghost use Rattle.netlist.specs.Netlists.{columns as columns_of};
 ghost use Rattle.bdd_store.specs.Arena.{den, IsNodeOf};
 ghost use Rattle.bdd_store.specs.Growth.{Grows};
 ghost use Rattle.bdd_store.specs.Subfunctions.{nodes};
 ghost use Rattle.bdd_ops.specs.Least.{IsLayout, by_variable as by_variable_of};
 ghost use Rattle.cyc_base.specs.Vectors.{vectors};
 ghost use Rattle.netlist.specs.declared.parts.Parts.{Parts};
-ghost use Rattle.care_sets.specs.Care.{columns as columns_of};
 ghost use Rattle.diagram_decision.specs.Sets.{Tells, difference};
 
 use bdd_ops::Diagrams;

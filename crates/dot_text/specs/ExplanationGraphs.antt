@@ -8,7 +8,7 @@ use Rattle.cyc_base.specs.declared.trit.Trit.{Trit}
 use Rattle.cyc_base.specs.declared.trit.Trit.TheVariants.{X}
 use Rattle.netlist.specs.declared.parts.Parts.{Parts}
 use Rattle.netlist.specs.Fixpoint.{wire as value_of}
-use Rattle.netlist.specs.Netlists.{gate_at, gate_sig}
+use Rattle.netlist.specs.Netlists.{gate_at, gate_sig, signal_name}
 use Rattle.loops.specs.Cuts.{Loops}
 use Rattle.loops.specs.Found.{loops_of}
 use Rattle.loops.specs.Listed.{gate_numbers}
@@ -18,7 +18,6 @@ use Rattle.explanations.specs.declared.pins.Pin.{Pin}
 use Rattle.explanations.specs.declared.pins.Pin.TheVariants.{Known, Open, Free}
 use Rattle.explanations.specs.Explained.{or_else}
 use Rattle.explanations.specs.Held.{seen}
-use Rattle.report.specs.Verdicts.{signal_name}
 use Rattle.dot_text.specs.Dot.{box, labelled_graph, node, wire}
 use Rattle.dot_text.specs.RefusalGraphs.{wire_label}
 use Rattle.dot_text.specs.LoopGraphs.{wire_style}

@@ -1,6 +1,6 @@
 -- Marks of gates.
 use Rattle.std.specs.Prelude.{◌≡◌, ℕ, Bool, List, length}
-use Rattle.loops.specs.Cones.{is_marked}
+use Rattle.netlist.specs.Netlists.{is_marked}
 use Rattle.netlist.specs.declared.parts.Parts.{Parts}
 use Rattle.dot_text.specs.ExplanationGraphs.{is_one_of}
 

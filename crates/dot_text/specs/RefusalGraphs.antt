@@ -1,10 +1,10 @@
 -- Refusals as labels of graphs: what is refused, without the values of columns.
 use Rattle.std.specs.Prelude.{ℕ, List, [], ◌++◌, codes}
 use Rattle.cyc_base.specs.declared.sig.Sig.{Sig}
+use Rattle.netlist.specs.Netlists.{signal_name}
 use Rattle.netlist.specs.declared.parts.Parts.{Parts}
 use Rattle.refusals.specs.declared.refusal.Refusal.{Refusal}
 use Rattle.refusals.specs.declared.refusal.Refusal.TheVariants.{Initial, EmptyCare, Undetermined, Leaves}
-use Rattle.report.specs.Verdicts.{signal_name}
 use Rattle.dot_text.specs.Dot.{labelled_graph}
 
 abbrev pub wire_label : Parts → Sig → List ℕ

@@ -1,7 +1,7 @@
 -- How clauses see what is drawn.
 use Rattle.std.specs.Prelude.{◌||◌, ℕ, List}
 use Rattle.cyc_base.specs.declared.sig.Sig.{Sig}
-use Rattle.loops.specs.Cones.{is_marked}
+use Rattle.netlist.specs.Netlists.{is_marked}
 use Rattle.loops.specs.Found.{loops_of}
 use Rattle.dot_text.specs.Dot.{quoted}
 use Rattle.dot_text.specs.ExplanationGraphs.{Picture, pin_line}

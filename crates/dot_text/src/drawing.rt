@@ -2,11 +2,10 @@
 
 ghost use Rattle.std.specs.Prelude.{◌≡◌, ◌≤◌, ◌<◌, ◌+◌, ◌||◌, ℕ, false, All, IfOk, filter, length};
 ghost use Rattle.cyc_base.specs.Values.{bits};
-ghost use Rattle.loops.specs.Cones.{is_marked};
 ghost use Rattle.loops.specs.Found.{loops_of};
 ghost use Rattle.loops.specs.Listed.{gate_numbers};
 ghost use Rattle.netlist.specs.Fixpoint.{fix};
-ghost use Rattle.netlist.specs.Netlists.{count, IsNetlist};
+ghost use Rattle.netlist.specs.Netlists.{count, IsNetlist, is_marked};
 ghost use Rattle.report.specs.Explanations.{IsExplanationOf};
 ghost use Rattle.dot_text.specs.ExplanationGraphs.{picture_of};
 ghost use Rattle.dot_text.specs.Marks.{AreMarksOf};

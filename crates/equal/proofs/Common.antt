@@ -7,7 +7,7 @@ pub use Rattle.bdd_store.specs.Growth.{GrowsWithin, NoOtherCause}
 pub use Rattle.bdd_store.specs.Subfunctions.{nodes}
 pub use Rattle.bdd_store.specs.declared.node.Node.{Node}
 pub use Rattle.care_sets.specs.Binding.{IsCareOf}
-pub use Rattle.care_sets.specs.Care.{CareSet, columns, is_care_vector, state_of}
+pub use Rattle.care_sets.specs.Care.{CareSet, is_care_vector, state_of}
 pub use Rattle.netlist.specs.Pairs.{IsPairOf}
 pub use Rattle.netlist.specs.declared.pair.Pair.{Pair}
 pub use Rattle.cyc_base.proofs.VectorLemmas.{find-alike}
@@ -31,11 +31,11 @@ pub use Rattle.fixpoint.specs.Working.{IsGatePart}
 pub use Rattle.loops.specs.Found.{loops_of}
 pub use Rattle.miters.specs.Differences.{AreAccepted, HaveOneSource, by_name, columns_by_name, comparison, difference, latch_pairs, output_pairs, pair_of, signal_named, source_named}
 pub use Rattle.miters.specs.Joined.{joined, joined_pairs, miter, miter_gates, moved, moved_gates, moved_pair_by}
-pub use Rattle.miters.specs.Matching.{name_of, unmatched}
+pub use Rattle.miters.specs.Matching.{unmatched}
 pub use Rattle.miters.specs.Pairs.{least_apart}
 pub use Rattle.miters.specs.declared.answer.Answer.{Answer}
 pub use Rattle.netlist.specs.Fixpoint.{fix_gates}
-pub use Rattle.netlist.specs.Netlists.{IsNetlist, count, gate_at, no_gate}
+pub use Rattle.netlist.specs.Netlists.{IsNetlist, count, gate_at, no_gate, columns, signal_name}
 pub use Rattle.netlist.specs.declared.parts.Gate.{Gate}
 pub use Rattle.netlist.specs.declared.parts.Latch.{Latch}
 pub use Rattle.netlist.specs.declared.parts.Parts.{Parts}

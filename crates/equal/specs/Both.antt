@@ -2,9 +2,9 @@
 use Rattle.std.specs.Prelude.{◌≡◌, ℕ, Bool, None, List, [], length}
 use Rattle.dual_rail.specs.WorkingLists.{IsWide}
 use Rattle.netlist.specs.declared.parts.Parts.{Parts}
-use Rattle.netlist.specs.Netlists.{IsNetlist}
+use Rattle.netlist.specs.Netlists.{IsNetlist, columns}
 use Rattle.fixpoint.specs.Orders.{laid, order}
-use Rattle.care_sets.specs.Care.{CareSet, columns}
+use Rattle.care_sets.specs.Care.{CareSet}
 use Rattle.diagram_decision.specs.Enough.{IsOfDecision}
 use Rattle.equal.specs.Comparisons.{IsLaidBy}
 use Rattle.miters.specs.Differences.{by_name}

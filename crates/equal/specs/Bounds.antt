@@ -1,10 +1,11 @@
 -- How many nodes are enough for a comparison, and what its node limit rests on.
 use Rattle.std.specs.Prelude.{◌≡◌, ◌<◌, ◌≤◌, ◌+◌, ◌*◌, ◌⊎◌, ℕ, None, length}
+use Rattle.netlist.specs.Netlists.{columns}
 use Rattle.bdd_store.specs.Arena.{Arena}
 use Rattle.dual_rail.specs.WorkingLists.{IsWide}
 use Rattle.netlist.specs.declared.parts.Parts.{Parts}
 use Rattle.fixpoint.specs.Working.{effort, HasLargeCover}
-use Rattle.care_sets.specs.Care.{CareSet, columns}
+use Rattle.care_sets.specs.Care.{CareSet}
 use Rattle.diagram_decision.specs.Causes.{HasModelOver}
 use Rattle.diagram_decision.specs.Enough.{IsLaid, in_all, enough}
 use Rattle.miters.specs.Matching.{unmatched}

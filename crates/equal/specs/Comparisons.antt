@@ -1,5 +1,6 @@
 -- The functions that a comparison works with, and how many nodes are enough for it.
 use Rattle.std.specs.Prelude.{◌≡◌, ◌<◌, ◌+◌, ◌*◌, ◌⊎◌, ℕ, Bool, List, Result, length, IsSomeAnd}
+use Rattle.netlist.specs.Netlists.{columns}
 use Rattle.bdd_store.specs.declared.fault.StoreFault.{StoreFault}
 use Rattle.bdd_store.specs.Arena.{Arena}
 use Rattle.bdd_store.specs.Growth.{AddsWithin, IsFullOnlyPast}
@@ -10,7 +11,7 @@ use Rattle.dual_rail.specs.WorkingLists.{IsWide}
 use Rattle.netlist.specs.declared.parts.Parts.{Parts}
 use Rattle.loops.specs.Found.{loops_of}
 use Rattle.fixpoint.specs.Working.{IsGatePart, effort}
-use Rattle.care_sets.specs.Care.{CareSet, columns, state_of, is_care_vector}
+use Rattle.care_sets.specs.Care.{CareSet, state_of, is_care_vector}
 use Rattle.diagram_decision.specs.Causes.{HasCoverOver, IsStoreFor}
 use Rattle.diagram_decision.specs.Costs.{assume_effort, invariant_effort}
 use Rattle.diagram_decision.specs.Enough.{IsOfModel, enough}

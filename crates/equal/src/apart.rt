@@ -1,10 +1,11 @@
 //! The least care vector on which the wires of some pair differ.
 
 ghost use Rattle.std.specs.Prelude.{◌≡◌, ◌≤◌, ◌⊎◌, IfOk, IfErr, option_map};
+ghost use Rattle.netlist.specs.Netlists.{columns};
 ghost use Rattle.bdd_store.specs.Growth.{GrowsWithin, NoOtherCause};
 ghost use Rattle.dual_rail.specs.WorkingLists.{IsWide};
 ghost use Rattle.care_sets.specs.Binding.{IsCareOf};
-ghost use Rattle.care_sets.specs.Care.{columns, is_care_vector};
+ghost use Rattle.care_sets.specs.Care.{is_care_vector};
 ghost use Rattle.isolation.specs.Columns.{AreColumns};
 ghost use Rattle.diagram_decision.specs.Causes.{IsOutOfNodes};
 ghost use Rattle.equal.specs.Comparisons.{AddsInComparison, IsBelowEnoughFor, IsFullFor, IsLaidBy, pairs_cost, whole_cost};

@@ -1,8 +1,8 @@
 //! What is compared.
 
 ghost use Rattle.std.specs.Prelude.{All};
+ghost use Rattle.netlist.specs.Netlists.{columns};
 ghost use Rattle.bdd_ops.specs.Least.{IsLayout};
-ghost use Rattle.care_sets.specs.Care.{columns};
 ghost use Rattle.netlist.specs.Pairs.{IsPairOf};
 
 use care_sets::Care;

@@ -4,10 +4,10 @@ ghost use Rattle.std.specs.Prelude.{◌≡◌, ◌<◌, ◌≤◌, ◌⊎◌, []
 ghost use Rattle.cyc_base.specs.Vectors.{vectors};
 ghost use Rattle.cyc_base.specs.declared.sig.Sig.{Sig as Signal};
 ghost use Rattle.refusals.specs.declared.refusal.Refusal.TheVariants.{Undetermined};
-ghost use Rattle.netlist.specs.Netlists.{IsNetlist};
+ghost use Rattle.netlist.specs.Netlists.{IsNetlist, columns};
 ghost use Rattle.fixpoint.specs.Orders.{order as order_of};
 ghost use Rattle.netlist.specs.declared.parts.Parts.{Parts as TheParts};
-ghost use Rattle.care_sets.specs.Care.{columns, CareSet};
+ghost use Rattle.care_sets.specs.Care.{CareSet};
 ghost use Rattle.refusals.specs.Tests.{is_unknown_at};
 ghost use Rattle.diagram_decision.specs.Judgements.{IsJudgement};
 ghost use Rattle.diagram_decision.specs.Causes.{IsOutOfNodes};

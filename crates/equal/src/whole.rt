@@ -1,10 +1,11 @@
 //! Pairs of wires that are never apart on care, asked for over all gates.
 
 ghost use Rattle.std.specs.Prelude.{◌≡◌, ◌<◌, true, ℕ, length, All, IfOk};
+ghost use Rattle.netlist.specs.Netlists.{is_marked};
 ghost use Rattle.care_sets.specs.Binding.{IsCareOf};
 ghost use Rattle.netlist.specs.Pairs.{IsPairOf};
 ghost use Rattle.clause_pairs.specs.Apart.{AreNeverApart};
-ghost use Rattle.clause_decision.specs.Scopes.{is_marked, IsScopeOf};
+ghost use Rattle.clause_decision.specs.Scopes.{IsScopeOf};
 
 use care_sets::Care;
 use clause_decision::Scope;

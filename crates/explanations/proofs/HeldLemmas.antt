@@ -12,7 +12,7 @@ use Rattle.cyc_base.proofs.ListLemmas.{Contains-cases, Contains-here, Contains-n
 use Rattle.cyc_base.proofs.OrderLemmas.{EachBelow-at}
 use Rattle.netlist.specs.declared.parts.Parts.{Parts}
 use Rattle.netlist.specs.Fixpoint.{wire, fix}
-use Rattle.netlist.specs.Netlists.{count, gate_at, gate_sig}
+use Rattle.netlist.specs.Netlists.{count, gate_at, gate_sig, is_marked}
 use Rattle.netlist.proofs.FixpointLemmas.{fix_is_monotone}
 use Rattle.ternary_run.specs.declared.fanout.Read.{Read}
 use Rattle.ternary_run.specs.Reading.{readers_of, IsFanoutOf}
@@ -20,7 +20,7 @@ use Rattle.ternary_run.proofs.ReadingLemmas.{readers_of-contain, readers_of-belo
 use Rattle.ternary_run.proofs.SettlingLemmas.{falls}
 use Rattle.explanations.specs.declared.pins.Pin.{Pin}
 use Rattle.explanations.specs.Pins.{MayBe, StaysOpen}
-use Rattle.explanations.specs.Held.{is_marked, Within, seen, pin_at, IsHeld, AreUnknownGates, IsHeldOpen, IsGreatestWithin, HoldsOpen, mark_count, AreChangedReaders, HasLookedAt, IsShrinking, looks_left}
+use Rattle.explanations.specs.Held.{Within, seen, pin_at, IsHeld, AreUnknownGates, IsHeldOpen, IsGreatestWithin, HoldsOpen, mark_count, AreChangedReaders, HasLookedAt, IsShrinking, looks_left}
 use Rattle.explanations.proofs.ClearedLemmas.{hidden, cleared_gates_stay_unknown}
 
 -- ---- what a gate may see

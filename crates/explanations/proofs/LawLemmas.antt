@@ -1,8 +1,8 @@
 -- The laws of the gates that some values hold open.
 use Rattle.std.proofs.Common.{◌≡◌, ◌⊎◌, inl, inr, ℕ, zero, suc, Bool, true, false, ◌||◌, List, [], ◌∷◌, get_or, refl, sym, ◌∙◌}
 use Rattle.std.proofs.lemmas.Bool.{or_cases, or_left, or_right}
-use Rattle.netlist.specs.Netlists.{gate_sig}
-use Rattle.explanations.specs.Held.{is_marked, AreUnknownGates}
+use Rattle.netlist.specs.Netlists.{gate_sig, is_marked}
+use Rattle.explanations.specs.Held.{AreUnknownGates}
 use Rattle.explanations.specs.Laws.{HeldStayUnknown, MoreHoldsOpen, union, UnionIsHeldOpen, GreatestHoldsOpen, VectorHoldsUnknown}
 use Rattle.explanations.proofs.HeldLemmas.{held_with_more, held_stays_unknown, holds_open_with_more}
 use Rattle.explanations.proofs.NeedLemmas.{vector_holding}

@@ -11,13 +11,13 @@ use Rattle.cyc_base.proofs.OrderLemmas.{Below-refl, EachBelow-refl, EachBelow-tr
 use Rattle.cover_logic.specs.Extensions.{ext}
 use Rattle.netlist.specs.declared.parts.Parts.{Parts}
 use Rattle.netlist.specs.Fixpoint.{wire, fix_gates, fix}
-use Rattle.netlist.specs.Netlists.{count, gate_at, gate_sig, no_gate, IsNetlist}
+use Rattle.netlist.specs.Netlists.{count, gate_at, gate_sig, no_gate, IsNetlist, is_marked}
 use Rattle.netlist.proofs.FixpointLemmas.{fix_is_monotone}
 use Rattle.ternary_run.proofs.SettlingLemmas.{falls, length-fix}
 use Rattle.explanations.specs.declared.needs.Holding.{Holding}
 use Rattle.explanations.specs.declared.needs.Run.{Run}
 use Rattle.explanations.specs.Pins.{MayBe}
-use Rattle.explanations.specs.Held.{is_marked, seen, pin_at, AreUnknownGates, IsHeldOpen, IsGreatestWithin, AreMarked, HoldsOpen}
+use Rattle.explanations.specs.Held.{seen, pin_at, AreUnknownGates, IsHeldOpen, IsGreatestWithin, AreMarked, HoldsOpen}
 use Rattle.explanations.specs.Explained.{IsUnknown, AreNeeded, AreFurther, both, or_else, beyond, HasTriedWithout, IsHolding, IsNeeding, IsNeededRun, IsNextRun, IsWithoutRun, AreAllUnknown}
 use Rattle.explanations.proofs.ClearedLemmas.{below_x, fix_at_gate}
 use Rattle.explanations.proofs.HeldLemmas.{held_with_more_known, holds_open_with_more}

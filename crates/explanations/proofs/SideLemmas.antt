@@ -11,11 +11,10 @@ use Rattle.cyc_base.specs.declared.trit.Trit.TheVariants.{Zero, One, X}
 use Rattle.cover_logic.specs.Extensions.{ext}
 use Rattle.netlist.specs.declared.parts.Parts.{Parts}
 use Rattle.netlist.specs.Fixpoint.{wire}
-use Rattle.netlist.specs.Netlists.{count, gate_at, gate_sig, no_gate, IsNetlist}
+use Rattle.netlist.specs.Netlists.{count, gate_at, gate_sig, no_gate, IsNetlist, is_marked}
 use Rattle.explanations.specs.declared.pins.Pin.{Pin}
 use Rattle.explanations.specs.declared.pins.Pin.TheVariants.{Known, Open, Free}
 use Rattle.explanations.specs.Pins.{trit_of, is_free, MayBe, StaysOpen}
-use Rattle.explanations.specs.Held.{is_marked}
 use Rattle.explanations.specs.Sides.{is_one_of, beside, StaysBeside, HoldsCycle, AreSides, AreMarksOf, StandsOpen, side_of, AreAllSides, reads, ReaderStays, ReadersStay, HasLeftOut, IsLeavingOut}
 use Rattle.explanations.proofs.HeldLemmas.{zip_weaker}
 

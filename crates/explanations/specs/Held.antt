@@ -5,16 +5,12 @@ use Rattle.cyc_base.specs.declared.trit.Trit.{Trit}
 use Rattle.cyc_base.specs.declared.trit.Trit.TheVariants.{Zero, One, X}
 use Rattle.netlist.specs.declared.parts.Parts.{Parts}
 use Rattle.netlist.specs.Fixpoint.{wire, fix}
-use Rattle.netlist.specs.Netlists.{count, gate_at, gate_sig}
+use Rattle.netlist.specs.Netlists.{count, gate_at, gate_sig, is_marked}
 use Rattle.ternary_run.specs.declared.fanout.Read.{Read}
 use Rattle.ternary_run.specs.Reading.{readers_of}
 use Rattle.explanations.specs.declared.pins.Pin.{Pin}
 use Rattle.explanations.specs.declared.pins.Pin.TheVariants.{Known, Open, Free}
 use Rattle.explanations.specs.Pins.{StaysOpen}
-
--- a set of signals, as one entry for each
-abbrev pub is_marked : List Bool → ℕ → Bool
-is_marked marks n = slice_index_or marks n false
 
 -- all signals of one set are in the other
 abbrev pub Within : List Bool → List Bool → Type 0

@@ -6,11 +6,10 @@ use Rattle.cyc_base.specs.declared.trit.Trit.{Trit}
 use Rattle.cyc_base.specs.declared.trit.Trit.TheVariants.{Zero, One, X}
 use Rattle.netlist.specs.declared.parts.Parts.{Parts}
 use Rattle.netlist.specs.Fixpoint.{wire, gate_value}
-use Rattle.netlist.specs.Netlists.{count, gate_at, gate_sig}
+use Rattle.netlist.specs.Netlists.{count, gate_at, gate_sig, is_marked}
 use Rattle.explanations.specs.declared.pins.Pin.{Pin}
 use Rattle.explanations.specs.declared.pins.Pin.TheVariants.{Known, Open, Free}
 use Rattle.explanations.specs.Pins.{trit_of, StaysOpen}
-use Rattle.explanations.specs.Held.{is_marked}
 
 -- the signal is one of these gates
 abbrev pub is_one_of : Parts → List ℕ → ℕ → Bool

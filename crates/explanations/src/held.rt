@@ -1,8 +1,8 @@
 //! The greatest set of gates that what is known of the signals holds open.
 
 ghost use Rattle.std.specs.Prelude.{◌≡◌, ◌<◌, ◌↔◌, true, length, map, All, IfOk, OnOk};
-ghost use Rattle.netlist.specs.Netlists.{count as signal_count, gate_sig as sig_of_gate};
-ghost use Rattle.explanations.specs.Held.{is_marked as is_marked_in, pin_at as pin_at_signal, seen as seen_as, IsHeld, HasTried, HasLookedAt, AreChangedReaders, AreUnknownGates, IsHeldOpen, IsGreatestWithin, AreMarked};
+ghost use Rattle.netlist.specs.Netlists.{count as signal_count, gate_sig as sig_of_gate, is_marked as is_marked_in};
+ghost use Rattle.explanations.specs.Held.{pin_at as pin_at_signal, seen as seen_as, IsHeld, HasTried, HasLookedAt, AreChangedReaders, AreUnknownGates, IsHeldOpen, IsGreatestWithin, AreMarked};
 ghost use Rattle.ternary_run.specs.Reading.{IsFanoutOf};
 
 use crate::pins::{Pin, stays_open};

@@ -1,8 +1,7 @@
 //! The wires beside a cycle whose values hold it open.
 
 ghost use Rattle.std.specs.Prelude.{◌≡◌, ◌≢◌, ◌<◌, ◌↔◌, true, length, map, All, IfOk, OnOk};
-ghost use Rattle.netlist.specs.Netlists.{count as signal_count, IsNetlist};
-ghost use Rattle.explanations.specs.Held.{is_marked as is_marked_in};
+ghost use Rattle.netlist.specs.Netlists.{count as signal_count, IsNetlist, is_marked as is_marked_in};
 ghost use Rattle.explanations.specs.Sides.{AreMarksOf, AreAllSides, AreSides, HasLeftOut, HoldsCycle, IsLeavingOut, ReadersStay, ReaderStays, StandsOpen, StaysBeside, beside, reads as reads_signal, side_of};
 
 use crate::held::is_marked;

@@ -1,5 +1,4 @@
 -- The names that most proofs of this crate cite, passed on from one place. Declares nothing.
-pub use Rattle.care_sets.specs.Care.{columns}
 pub use Rattle.loop_simulation.specs.Events.{AreUnseen, IsReady, IsSweeping}
 pub use Rattle.loop_simulation.specs.LoopsAt.{AreCutPlacesBelow, IsLoopAt, LoopAt, gates_in, loops_in}
 pub use Rattle.loop_simulation.specs.Readers.{AreReaders, HasGainedReader}
@@ -17,7 +16,7 @@ pub use Rattle.loops.specs.Sweeps.{CutsAreFixed, cuts_of, first_gate, gate_of, s
 pub use Rattle.loops.specs.declared.structure.Blocks.{Blocks}
 pub use Rattle.loops.specs.declared.structure.Cut.{Cut}
 pub use Rattle.netlist.specs.Fixpoint.{fix, fix_gates, wire}
-pub use Rattle.netlist.specs.Netlists.{count, gate_at, gate_sig, no_gate}
+pub use Rattle.netlist.specs.Netlists.{count, gate_at, gate_sig, no_gate, columns}
 pub use Rattle.netlist.specs.declared.parts.Parts.{Parts}
 pub use Rattle.std.proofs.lemmas.Bool.{and_parts, cases_lt, eq-eqb}
 pub use Rattle.std.proofs.lemmas.List.Elements.{All-push, All-weaker, Contains-append_left, Contains-get_or, Contains-push, Contains-push_cases}

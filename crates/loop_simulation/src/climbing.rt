@@ -2,8 +2,8 @@
 //! and a flip is kept where gates are then known later.
 
 ghost use Rattle.std.specs.Prelude.{◌≡◌, ◌<◌, ◌≤◌, length, IfOk, IfSome};
+ghost use Rattle.netlist.specs.Netlists.{columns};
 ghost use Rattle.care_sets.specs.Binding.{IsCareOf};
-ghost use Rattle.care_sets.specs.Care.{columns};
 ghost use Rattle.loop_simulation.specs.Climbing.{IsWitness, NeedAtLeast};
 ghost use Rattle.loop_simulation.specs.LoopsAt.{gates_in, loops_in};
 ghost use Rattle.loop_simulation.specs.Readers.{AreReaders};

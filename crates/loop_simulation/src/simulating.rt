@@ -2,10 +2,9 @@
 
 ghost use Rattle.std.specs.Prelude.{◌≡◌, ◌<◌, List, true, length, map, All, IfOk};
 ghost use Rattle.cyc_base.specs.declared.trit.Trit.{Trit};
-ghost use Rattle.netlist.specs.Netlists.{count, IsSignal};
+ghost use Rattle.netlist.specs.Netlists.{count, IsSignal, columns};
 ghost use Rattle.loops.specs.Blocks.{block_at};
 ghost use Rattle.loops.specs.Cuts.{loops_by};
-ghost use Rattle.care_sets.specs.Care.{columns};
 ghost use Rattle.loop_simulation.specs.Events.{cover_value, IsNewValue, IsReady, IsSwept};
 ghost use Rattle.loop_simulation.specs.LoopsAt.{gates_in, loops_in, LoopAt, IsLoopAt};
 ghost use Rattle.loop_simulation.specs.Readers.{AreReaders};

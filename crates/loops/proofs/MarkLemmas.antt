@@ -3,11 +3,11 @@ use Rattle.std.proofs.Common.{◌≡◌, inl, inr, ◌⊎◌, ◌↔◌, ℕ, ze
 use Rattle.std.proofs.Math.ListN.{set}
 use Rattle.std.specs.Prelude.{IfNone}
 use Rattle.loops.proofs.Common.{cases_lt, cases_eq, get_or_append_left, get_or_default, get_or-set_other, get_or-set_same, length-set, Contains-append_left, Contains-get_or, Contains-push, Contains-push_cases, Sig, Parts, gate_at, gate_sig, Feeds, Blocks, AreBlocksOf, block_at, home_of, first_gate}
-use Rattle.netlist.specs.Netlists.{IsNetlist}
+use Rattle.netlist.specs.Netlists.{IsNetlist, is_marked}
 use Rattle.std.proofs.lemmas.List.{get_or_push, length_push}
 use Rattle.loops.proofs.Told.{gate_home, home_gate}
 use Rattle.loops.proofs.Walks.{leads-step}
-use Rattle.loops.specs.Cones.{is_marked, AddMarks, AreMarkedFrom, AreUpstreamMarks, IsConeOf, IsOnPin, IsNear, IsNearOne, IsWithMark, ListsMarked}
+use Rattle.loops.specs.Cones.{AddMarks, AreMarkedFrom, AreUpstreamMarks, IsConeOf, IsOnPin, IsNear, IsNearOne, IsWithMark, ListsMarked}
 use Rattle.loops.specs.Walks.{IsUpstream}
 use Rattle.loops.proofs.UpstreamLemmas.{upstream-trans, same-up, upstream-closed}
 

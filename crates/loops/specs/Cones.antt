@@ -1,14 +1,11 @@
 -- Marks of gates, and of all that lies upstream of them.
 use Rattle.std.specs.Prelude.{◌≡◌, ◌⊎◌, ◌↔◌, ◌<◌, ◌≤◌, ℕ, Bool, true, false, List, length, Contains, slice_index_or}
+use Rattle.netlist.specs.Netlists.{is_marked}
 use Rattle.netlist.specs.declared.parts.Parts.{Parts}
 use Rattle.netlist.specs.Walks.{Feeds}
 use Rattle.loops.specs.declared.structure.Blocks.{Blocks}
 use Rattle.loops.specs.Blocks.{home_of}
 use Rattle.loops.specs.Walks.{IsUpstream}
-
--- a gate is marked
-abbrev pub is_marked : List Bool → ℕ → Bool
-is_marked marks n = slice_index_or marks n false
 
 -- the gate is marked, or a walk leads from it to a marked one
 pub record LeadsToMark (net : Parts) (marks : List Bool) (m : ℕ) : Type 0 where

@@ -1,9 +1,9 @@
 //! Marks of gates, and of all that lies upstream of them.
 
 ghost use Rattle.std.specs.Prelude.{◌≡◌, ◌<◌, ℕ, false, length, All, Contains, IfOk};
-ghost use Rattle.netlist.specs.Netlists.{gate_sig, IsSignal};
+ghost use Rattle.netlist.specs.Netlists.{gate_sig, IsSignal, is_marked};
 ghost use Rattle.netlist.specs.Walks.{Feeds};
-ghost use Rattle.loops.specs.Cones.{is_marked, AddMarks, AreUpstreamMarks, IsConeOf, IsNear, IsNearOne, IsWithMark};
+ghost use Rattle.loops.specs.Cones.{AddMarks, AreUpstreamMarks, IsConeOf, IsNear, IsNearOne, IsWithMark};
 
 use crate::looped_netlist::{LoopedNetlist, gates_at};
 use cyc_base::Sig;

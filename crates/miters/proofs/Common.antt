@@ -2,7 +2,7 @@
 pub use Rattle.care_sets.proofs.BindingLemmas.{column_within}
 pub use Rattle.care_sets.proofs.NameLemmas.{length-column_names}
 pub use Rattle.care_sets.specs.Binding.{IsBoundTo, IsCareOf, column_of}
-pub use Rattle.care_sets.specs.Care.{CareSet, IsCareVector, column_names, columns, is_care_vector, is_one}
+pub use Rattle.care_sets.specs.Care.{CareSet, IsCareVector, column_names, is_care_vector, is_one}
 pub use Rattle.care_sets.specs.declared.model.CareModel.{CareModel}
 pub use Rattle.netlist.specs.Pairs.{IsPairOf, are_apart, is_apart_at, some_is_apart}
 pub use Rattle.netlist.specs.declared.pair.Pair.{Pair}
@@ -22,7 +22,7 @@ pub use Rattle.loops.specs.Sweeps.{first_gate}
 pub use Rattle.miters.specs.Answers.{IsAnswerOf}
 pub use Rattle.miters.specs.Differences.{AreAccepted, HaveOneSource, at_difference, by_name, column_named, columns_by_name, comparison, comparison_of_accepted, difference, differs, differs_at, latch_pairs, model_of, number_or_0, output_pairs, pair_of, signal_named, source_named}
 pub use Rattle.miters.specs.Joined.{joined, joined_pairs, last_gate, link_gate, miter, miter_gates, moved, moved_gate_by, moved_gates, moved_pair_by, no_pair}
-pub use Rattle.miters.specs.Matching.{has_latch, init_eq, is_input, is_latch, is_output, latch_name, latch_named, name_of, output_names, unmatched}
+pub use Rattle.miters.specs.Matching.{has_latch, init_eq, is_input, is_latch, is_output, latch_name, latch_named, unmatched}
 pub use Rattle.miters.specs.Pairs.{least_apart}
 pub use Rattle.miters.specs.Rebound.{rebound}
 pub use Rattle.miters.specs.Runs.{renamed}
@@ -31,7 +31,7 @@ pub use Rattle.netlist.proofs.Decisions.{none_found}
 pub use Rattle.netlist.proofs.FixpointLemmas.{get_or-step}
 pub use Rattle.netlist.proofs.NameLemmas.{length-signal_names}
 pub use Rattle.netlist.specs.Fixpoint.{fix, fix_gates, steps, wire, wires}
-pub use Rattle.netlist.specs.Netlists.{IsNetlist, IsSignal, count, driven_names, gate_at, gate_sig, no_gate, sig_eq, signal, signal_names, with_gates}
+pub use Rattle.netlist.specs.Netlists.{IsNetlist, IsSignal, count, driven_names, gate_at, gate_sig, no_gate, sig_eq, signal, signal_names, with_gates, columns, signal_name, output_names}
 pub use Rattle.netlist.specs.declared.parts.Gate.{Gate}
 pub use Rattle.netlist.specs.declared.parts.Latch.{Latch}
 pub use Rattle.netlist.specs.declared.parts.Parts.{Parts}

@@ -1,6 +1,6 @@
 -- Both netlists stand in the joined one, each with the fixpoint that it has alone.
 use Rattle.std.proofs.Common.{◌≡◌, ◌≢◌, inl, inr, ℕ, ◌+◌, ◌-◌, ◌<◌, ◌≤◌, Bool, true, false, List, [], ◌∷◌, ◌++◌, length, get_or, All, Option, refl, sym, ap, ap₂, subst, ◌∙◌, arith}
-use Rattle.miters.proofs.Common.{list_any, option_map_or, bytes_eq, cases_lt, length-append, length-map, get_or-map, get_or_append_left, get_or-append-add, map-id, All-map, All-append, length-map-range_with_len, get_or-map-range_with_len, position-Some, slice_get_within, get_or_from_slice_get, Sig, Trit, X, bit, bits, Gate, Latch, Parts, count, signal, gate_at, no_gate, gate_sig, signal_names, IsSignal, IsNetlist, wire, fix, columns, mark, Pair, some_is_apart, are_apart, is_apart_at, name_of, latch_named, has_latch, is_output, init_eq, columns_by_name, by_name, signal_named, source_named, pair_of, output_pairs, latch_pairs, differs, moved, moved_gate_by, moved_gates, moved_pair_by, joined, joined_pairs, find_at, length-signal_names, list_any-map, gate_sigs, AreDetermined}
+use Rattle.miters.proofs.Common.{list_any, option_map_or, bytes_eq, cases_lt, length-append, length-map, get_or-map, get_or_append_left, get_or-append-add, map-id, All-map, All-append, length-map-range_with_len, get_or-map-range_with_len, position-Some, slice_get_within, get_or_from_slice_get, Sig, Trit, X, bit, bits, Gate, Latch, Parts, count, signal, gate_at, no_gate, gate_sig, signal_names, IsSignal, IsNetlist, wire, fix, columns, mark, Pair, some_is_apart, are_apart, is_apart_at, signal_name, latch_named, has_latch, is_output, init_eq, columns_by_name, by_name, signal_named, source_named, pair_of, output_pairs, latch_pairs, differs, moved, moved_gate_by, moved_gates, moved_pair_by, joined, joined_pairs, find_at, length-signal_names, list_any-map, gate_sigs, AreDetermined}
 use Rattle.std.proofs.lemmas.Bool.{lt-ltb, le-ltb}
 use Rattle.miters.specs.Differences.{are_different, differs_at}
 use Rattle.cyc_base.proofs.OrderLemmas.{bits-at}
@@ -84,9 +84,9 @@ named_signal : (net : Parts) (name : List ℕ) → 0 < count net → IsSignal ne
 named_signal net name some = grind (arith, position-Some (bytes_eq name) (signal_names net), length-signal_names net)
 
 has_output : (net : Parts) (name : List ℕ) → IsNetlist net → is_output net name ≡ true → 0 < count net
-has_output net name valid e = by net.outputs refl (sym (list_any-map (bytes_eq name) (name_of net) net.outputs) ∙ e)
+has_output net name valid e = by net.outputs refl (sym (list_any-map (bytes_eq name) (signal_name net) net.outputs) ∙ e)
   where
-    by : (outputs : List Sig) → net.outputs ≡ outputs → list_any (λ s. bytes_eq name (name_of net s)) outputs ≡ true → 0 < count net
+    by : (outputs : List Sig) → net.outputs ≡ outputs → list_any (λ s. bytes_eq name (signal_name net s)) outputs ≡ true → 0 < count net
     by [] same h = cc
     by (s ∷ ss) same h = let l = valid.outputs 0 s (subst (λ (xs : List Sig). 0 < length xs) (sym same) (omega arith)) in omega arith
 
@@ -100,14 +100,14 @@ module _ (a b : Parts) (valid_a : IsNetlist a) (valid_b : IsNetlist b) (match_ :
   pub pairs_for : All (IsPairFor a b) (output_pairs a b ++ latch_pairs a b)
   pairs_for =
       All-append (IsPairFor a b) (output_pairs a b) (latch_pairs a b)
-      (All-map (IsPairFor a b) (λ s. pair_of s (signal_named b (name_of a s))) a.outputs
+      (All-map (IsPairFor a b) (λ s. pair_of s (signal_named b (signal_name a s))) a.outputs
       (λ k d l. record {
         here = valid_a.outputs k d l;
         there =
-            named_signal b (name_of a (get_or a.outputs k d))
-            (has_output b (name_of a (get_or a.outputs k d)) valid_b
-            (let m = length-map a.outputs (name_of a) in
-            ap (is_output b) (sym (get_or-map (name_of a) a.outputs k d [] l)) ∙ match_.outputs_ab k [] (omega arith)));
+            named_signal b (signal_name a (get_or a.outputs k d))
+            (has_output b (signal_name a (get_or a.outputs k d)) valid_b
+            (let m = length-map a.outputs (signal_name a) in
+            ap (is_output b) (sym (get_or-map (signal_name a) a.outputs k d [] l)) ∙ match_.outputs_ab k [] (omega arith)));
       }))
       (All-map (IsPairFor a b) (λ (latch : Latch). pair_of latch.from (source_named b latch.name)) a.latches
       (λ k d l. record {

@@ -1,6 +1,6 @@
 -- Steps of loops over outputs.
 use Rattle.std.proofs.Common.{◌≡◌, ◌≢◌, ℕ, ◌+◌, ◌<◌, true, false, not, if◌then◌else◌, List, [], ◌∷◌, ◌++◌, length, take, get_or, slice_get, Some, None, sym, ap, ap₂, ◌∙◌, arith}
-use Rattle.miters.proofs.Common.{find, list_any, IsDistinct, get_or_default, get_or-map, length-map, take_more, length-take-le, get_or-take, get_or_from_slice_get, Sig, Parts, signal, sig_eq, signal_names, name_of, is_output, output_names, eq-eqb, false_from_ne_true, list_any_none}
+use Rattle.miters.proofs.Common.{find, list_any, IsDistinct, get_or_default, get_or-map, length-map, take_more, length-take-le, get_or-take, get_or_from_slice_get, Sig, Parts, signal, sig_eq, signal_names, signal_name, is_output, output_names, eq-eqb, false_from_ne_true, list_any_none}
 use Rattle.std.specs.List.{AllPairs}
 use Rattle.std.proofs.lemmas.Option.{slice_get-get_or}
 use Rattle.std.specs.Bool.{Decides}
@@ -34,7 +34,7 @@ outputs_more own i s d old new distinct inside is before after =
 -- the name of an output, by its place
 named_output : (net : Parts) (i : ℕ) (d : Sig) (name : List ℕ) → i < length net.outputs → slice_get (signal_names net) (get_or net.outputs i d).0 ≡ Some name → slice_get (output_names net) i ≡ Some name
 named_output net i d name inside is =
-    grind (arith, length-map net.outputs (name_of net), slice_get-get_or (output_names net) i [], get_or-map (name_of net) net.outputs i d [] inside, get_or_from_slice_get (signal_names net) (get_or net.outputs i d).0 name [] is)
+    grind (arith, length-map net.outputs (signal_name net), slice_get-get_or (output_names net) i [], get_or-map (signal_name net) net.outputs i d [] inside, get_or_from_slice_get (signal_names net) (get_or net.outputs i d).0 name [] is)
 
 module _ (net other : Parts) (own : List Sig) (is_own : own ≡ net.outputs) (i : ℕ) (s d : Sig) (name : List ℕ) (inside : i < length own) (is : s ≡ get_or own i d)
     (named : slice_get (signal_names net) s.0 ≡ Some name) (before : find (λ n. not (is_output other n)) (take i (output_names net)) ≡ None) where

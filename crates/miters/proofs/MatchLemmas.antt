@@ -1,6 +1,6 @@
 -- What it means that all names match, and vectors by name.
 use Rattle.std.proofs.Common.{◌≡◌, inl, inr, ℕ, zero, suc, ◌+◌, ◌-◌, ◌<◌, ◌≤◌, Bool, true, false, not, List, [], ◌∷◌, ◌++◌, length, map, take, drop, get_or, slice_get, Option, Some, None, IfSome, refl, sym, ap, ap₂, subst, ◌∙◌, arith, true≢false}
-use Rattle.miters.proofs.Common.{find, is_none, list_any, option_map_or, bytes_eq, cases_lt, append_assoc, map-append, length-map, get_or-map, get_or_append_left, get_or-append-add, list_any-append, list_any_none, position-Some, get_or_from_slice_get, same_Some, Sig, X, bits, Latch, Parts, signal, signal_names, IsBoundTo, IsCareOf, column_of, CareSet, columns, column_names, is_care_vector, is_one, CareModel, name_of, is_input, is_latch, has_latch, is_output, output_names, unmatched, latch_name, column_named, columns_by_name, by_name, model_of, HaveOneSource, list_any-map, option_or-neither, option_map-nothing, any-find, column_within, length-column_names}
+use Rattle.miters.proofs.Common.{find, is_none, list_any, option_map_or, bytes_eq, cases_lt, append_assoc, map-append, length-map, get_or-map, get_or_append_left, get_or-append-add, list_any-append, list_any_none, position-Some, get_or_from_slice_get, same_Some, Sig, X, bits, Latch, Parts, signal, signal_names, IsBoundTo, IsCareOf, column_of, CareSet, columns, column_names, is_care_vector, is_one, CareModel, signal_name, is_input, is_latch, has_latch, is_output, output_names, unmatched, latch_name, column_named, columns_by_name, by_name, model_of, HaveOneSource, list_any-map, option_or-neither, option_map-nothing, any-find, column_within, length-column_names}
 use Rattle.std.proofs.lemmas.Bool.{not-false, or_left, or_right}
 use Rattle.std.proofs.lemmas.List.{get_or-drop}
 use Rattle.care_sets.specs.Care.{inputs_at, holds_at}
@@ -178,5 +178,5 @@ pub column_taken : {T : Type 0} (net : Parts) (f : List ℕ → T) (i : ℕ) (na
 column_taken net f i name l is = grind (arith, length-column_names net, append_assoc net.inputs (map latch_name net.latches), taken_first (column_names net), map-append f (take i (column_names net)) (name ∷ []))
 
 -- the name of a signal, and that of an input
-pub named : (net : Parts) (s : Sig) (name : List ℕ) → slice_get (signal_names net) s.0 ≡ Some name → name_of net s ≡ name
+pub named : (net : Parts) (s : Sig) (name : List ℕ) → slice_get (signal_names net) s.0 ≡ Some name → signal_name net s ≡ name
 named net s name is = get_or_from_slice_get (signal_names net) s.0 name [] is

@@ -1,6 +1,6 @@
 -- What a name finds in a netlist.
 use Rattle.std.proofs.Common.{◌≡◌, ◌⊎◌, inl, inr, ℕ, zero, suc, ◌+◌, ◌-◌, ◌<◌, ◌≤◌, Bool, true, false, ◌||◌, List, [], ◌∷◌, length, get_or, take, slice_get, position, Some, None, refl, sym, ap, ap₂, ◌∙◌, arith, true≢false}
-use Rattle.miters.proofs.Common.{find, is_none, list_any, bytes_eq, length-map, get_or_append_left, get_or-append-add, get_or-map, get_or_default, get_or-take, length-take-le, take_more, list_any-append, list_any_none, find_at, find-append, get_or_from_slice_get, slice_get_within, Latch, Parts, signal, sig_eq, signal_names, driven_names, IsNetlist, name_of, latch_named, is_input, is_output, number_or_0, column_named, signal_named, eq-eqb, false_from_ne_true, or_parts, list_any-map, length-signal_names, any-find}
+use Rattle.miters.proofs.Common.{find, is_none, list_any, bytes_eq, length-map, get_or_append_left, get_or-append-add, get_or-map, get_or_default, get_or-take, length-take-le, take_more, list_any-append, list_any_none, find_at, find-append, get_or_from_slice_get, slice_get_within, Latch, Parts, signal, sig_eq, signal_names, driven_names, IsNetlist, signal_name, latch_named, is_input, is_output, number_or_0, column_named, signal_named, eq-eqb, false_from_ne_true, or_parts, list_any-map, length-signal_names, any-find}
 use Rattle.std.specs.Prelude.{not}
 use Rattle.std.proofs.lemmas.List.Folds.{list_any_at}
 use Rattle.std.proofs.lemmas.Bool.{cases_eq, ne_eqb}
@@ -88,12 +88,12 @@ latch_absent net name absent =
 -- an output by its name
 pub output_found : (net : Parts) (name : List ℕ) (s : ℕ) → IsNetlist net → slice_get (signal_names net) s ≡ Some name → list_any (sig_eq (signal s)) net.outputs ≡ is_output net name
 output_found net name s valid found =
-    grind (arith, any_agree (sig_eq (signal s)), list_any-map (bytes_eq name) (name_of net) net.outputs, length-signal_names net, cases_eq s, eq-eqb s, bytes_eq-same name, found_is net name s found, ne_eqb s, others_differ (signal_names net) name s)
+    grind (arith, any_agree (sig_eq (signal s)), list_any-map (bytes_eq name) (signal_name net) net.outputs, length-signal_names net, cases_eq s, eq-eqb s, bytes_eq-same name, found_is net name s found, ne_eqb s, others_differ (signal_names net) name s)
 
 pub output_absent : (net : Parts) (name : List ℕ) → IsNetlist net → list_any (bytes_eq name) (signal_names net) ≡ false → is_output net name ≡ false
 output_absent net name valid absent =
-    list_any-map (bytes_eq name) (name_of net) net.outputs
-    ∙ list_any_none (λ t. bytes_eq name (name_of net t)) net.outputs (λ k d l.
+    list_any-map (bytes_eq name) (signal_name net) net.outputs
+    ∙ list_any_none (λ t. bytes_eq name (signal_name net t)) net.outputs (λ k d l.
     let n = length-signal_names net in
     let inside = valid.outputs k d l in
     nowhere_any (bytes_eq name) (signal_names net) absent (get_or net.outputs k d).0 [] (omega arith))

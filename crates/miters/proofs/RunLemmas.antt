@@ -1,6 +1,6 @@
 -- Tick by tick, two netlists that agree show the same by name.
 use Rattle.std.proofs.Common.{◌≡◌, ◌≢◌, ℕ, ◌+◌, ◌-◌, ◌<◌, ◌≤◌, Bool, false, ◌&&◌, List, [], ◌∷◌, ◌++◌, length, map, get_or, slice_get, position, All, Option, Some, None, refl, sym, ap, ap₂, ◌∙◌, arith, true≢false}
-use Rattle.miters.proofs.Common.{option_map, list_any, option_or, option_map_or, bytes_eq, length-append, length-map, get_or-map, get_or_append_left, get_or-append-add, Sig, Trit, X, bits, Parts, signal, signal_names, IsNetlist, IsCareOf, CareSet, columns, is_care_vector, IsCareVector, Refusal, refusal, care_test, care_vector_decides, Answer, name_of, latch_name, unmatched, number_or_0, output_pairs, latch_pairs, differs_at, differs, difference, at_difference, comparison, comparison_of_accepted, renamed}
+use Rattle.miters.proofs.Common.{option_map, list_any, option_or, option_map_or, bytes_eq, length-append, length-map, get_or-map, get_or_append_left, get_or-append-add, Sig, Trit, X, bits, Parts, signal, signal_names, IsNetlist, IsCareOf, CareSet, columns, is_care_vector, IsCareVector, Refusal, refusal, care_test, care_vector_decides, Answer, signal_name, latch_name, unmatched, number_or_0, output_pairs, latch_pairs, differs_at, differs, difference, at_difference, comparison, comparison_of_accepted, renamed}
 use Rattle.miters.specs.declared.answer.Answer.TheVariants.{Equal, Unmatched, First, Second, Output}
 use Rattle.std.proofs.lemmas.List.{map-append}
 use Rattle.std.proofs.lemmas.List.Elements.{All-head, All-tail}
@@ -9,7 +9,7 @@ use Rattle.std.proofs.lemmas.Simd.{map-map}
 use Rattle.cyc_base.specs.declared.trit.Trit.TheVariants.{Zero, One}
 use Rattle.cyc_base.proofs.OrderLemmas.{same_bit}
 use Rattle.netlist.specs.declared.parts.Latch.{Latch}
-use Rattle.netlist.specs.Netlists.{count}
+use Rattle.netlist.specs.Netlists.{count, output_names}
 use Rattle.netlist.specs.Fixpoint.{wire, fix, outs, next}
 use Rattle.netlist.proofs.NameLemmas.{length-signal_names}
 use Rattle.loops.proofs.Reading.{map_agree}
@@ -26,7 +26,7 @@ use Rattle.schedules.proofs.CareLemmas.{care_is_kept, runs_follow_fix, follows_f
 use Rattle.schedules.proofs.SameLemmas.{same_head, same_tail}
 use Rattle.netlist.specs.declared.pair.Pair.{Pair}
 use Rattle.miters.specs.declared.answer.Answer.TheVariants.{Latch as LatchAt}
-use Rattle.miters.specs.Matching.{latch_named, output_names}
+use Rattle.miters.specs.Matching.{latch_named}
 use Rattle.miters.specs.Differences.{column_named, by_name, signal_named, source_named, pair_of, are_different, HaveOneSource}
 use Rattle.miters.proofs.MatchLemmas.{Match, matched, care_by_name, latch_any}
 use Rattle.miters.proofs.NameLemmas.{input_behind, latch_at, latch_found, nowhere_any, signal_found}
@@ -157,9 +157,9 @@ module _ (a b : Parts) (valid_a : IsNetlist a) (valid_b : IsNetlist b) (match_ :
     pair_same : (k : ℕ) (d : Pair) → k < length pairs → wire (fix a (bits v)) (get_or pairs k d).here ≡ wire (fix b (bits (by_name a b v))) (get_or pairs k d).there
     pair_same k d less = not_different (wire (fix a (bits v)) (get_or pairs k d).here) (wire (fix b (bits (by_name a b v))) (get_or pairs k d).there) (nowhere_any (differs_at a b v) pairs same k d less)
 
-    output_same : (k : ℕ) (d : Sig) → k < length a.outputs → wire (fix a (bits v)) (get_or a.outputs k d) ≡ wire (fix b (bits (by_name a b v))) (signal_named b (name_of a (get_or a.outputs k d)))
+    output_same : (k : ℕ) (d : Sig) → k < length a.outputs → wire (fix a (bits v)) (get_or a.outputs k d) ≡ wire (fix b (bits (by_name a b v))) (signal_named b (signal_name a (get_or a.outputs k d)))
     output_same k d less =
-        let f : Sig → Pair = λ s. pair_of s (signal_named b (name_of a s)) in
+        let f : Sig → Pair = λ s. pair_of s (signal_named b (signal_name a s)) in
         let m = length-map a.outputs f in
         let l = length-append (output_pairs a b) (latch_pairs a b) in
         let at : get_or pairs k (f d) ≡ f (get_or a.outputs k d) = get_or_append_left (output_pairs a b) (latch_pairs a b) (f d) k (omega (arith, less, m)) ∙ get_or-map f a.outputs k d (f d) less in
@@ -196,17 +196,17 @@ module _ (a b : Parts) (valid_a : IsNetlist a) (valid_b : IsNetlist b) (match_ :
       output_value k inside =
           let none : Sig = signal 0 in
           let name : List ℕ = get_or (output_names b) k [] in
-          let nb = length-map b.outputs (name_of b) in
+          let nb = length-map b.outputs (signal_name b) in
           let less : k < length b.outputs = omega (arith, inside, nb) in
           let s : Sig = get_or b.outputs k none in
-          let name_is : name ≡ name_of b s = get_or-map (name_of b) b.outputs k none [] less in
-          let s_named : signal s.0 ≡ signal_named b (name_of b s) = signal_found b (name_of b s) s.0 valid_b (name_there b s.0 (valid_b.outputs k none less)) in
+          let name_is : name ≡ signal_name b s = get_or-map (signal_name b) b.outputs k none [] less in
+          let s_named : signal s.0 ≡ signal_named b (signal_name b s) = signal_found b (signal_name b s) s.0 valid_b (name_there b s.0 (valid_b.outputs k none less)) in
           let at = place_of (output_names a) name (match_.outputs_ba k [] inside) in
           let place : ℕ = at.0 in
-          let na = length-map a.outputs (name_of a) in
+          let na = length-map a.outputs (signal_name a) in
           let within : place < length a.outputs = let w = at.1.within in omega (arith, w, na) in
           let r : Sig = get_or a.outputs place none in
-          let r_named : name_of a r ≡ name = sym (get_or-map (name_of a) a.outputs place none [] within) ∙ at.1.named in
+          let r_named : signal_name a r ≡ name = sym (get_or-map (signal_name a) a.outputs place none [] within) ∙ at.1.named in
           same_bit _ _
           (bit_read (bit_at (newest twin.ended)) (wire (fix b (bits (by_name a b v)))) b.outputs twin_shown k none less
           ∙ ap (wire (fix b (bits (by_name a b v)))) (s_named ∙ ap (signal_named b) (sym name_is ∙ sym r_named))
@@ -250,7 +250,7 @@ module _ (a b : Parts) (valid_a : IsNetlist a) (valid_b : IsNetlist b) (match_ :
       pub tick_alike : TickAlike first twin
       tick_alike =
           let ob = length-map b.outputs (bit_at (newest twin.ended)) in
-          let nb = length-map b.outputs (name_of b) in
+          let nb = length-map b.outputs (signal_name b) in
           let lb = length-map b.latches (λ (l : Latch). bit_at (newest twin.ended) l.from) in
           let mb = length-map b.latches latch_name in
           record {

@@ -1,12 +1,13 @@
 -- A scope of all gates, of none of which it is said that it is never unknown.
 use Rattle.std.proofs.Common.{◌≡◌, ℕ, ◌<◌, true, false, Bool, List, length, get_or, All, sym, arith, ◌∙◌, true≢false}
+use Rattle.netlist.specs.Netlists.{is_marked}
 use Rattle.miters.proofs.Common.{Parts}
 use Rattle.clause_pairs.specs.declared.pairs.Hint.{Hint}
 use Rattle.netlist.specs.declared.pair.Pair.{Pair}
 use Rattle.clause_decision.specs.declared.scope.Scope.{Scope}
 use Rattle.netlist.specs.Pairs.{IsPairOf}
 use Rattle.clause_pairs.specs.Apart.{ArePairsIn, IsPairIn}
-use Rattle.clause_decision.specs.Scopes.{is_marked, AreClosed, AreNeverUnknown}
+use Rattle.clause_decision.specs.Scopes.{AreClosed, AreNeverUnknown}
 
 pub all_close : (net : Parts) (marks : List Bool) → ((n : ℕ) → n < length net.gates → is_marked marks n ≡ true) → AreClosed net marks
 all_close net marks all m n feeds marked = all m feeds.source

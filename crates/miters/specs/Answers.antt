@@ -1,7 +1,7 @@
 -- What an answer about two netlists speaks of.
 use Rattle.std.specs.Prelude.{◌≡◌, ◌<◌, ℕ, Bool, List, length}
+use Rattle.netlist.specs.Netlists.{columns}
 use Rattle.netlist.specs.declared.parts.Parts.{Parts}
-use Rattle.care_sets.specs.Care.{columns}
 use Rattle.refusals.specs.Refusals.{IsRefusalOf}
 use Rattle.miters.specs.declared.answer.Answer.{Answer}
 use Rattle.miters.specs.declared.answer.Answer.TheVariants.{Equal, Unmatched, First, Second, Output, Latch}

@@ -1,14 +1,14 @@
 -- What is told of pairs of wires where some columns are fixed.
 use Rattle.std.specs.Prelude.{◌≡◌, ◌+◌, ◌≤◌, ◌<◌, ℕ, Bool, true, List, [], All, length, if◌then◌else◌}
 use Rattle.netlist.specs.declared.parts.Parts.{Parts}
-use Rattle.netlist.specs.Netlists.{count}
+use Rattle.netlist.specs.Netlists.{count, is_marked}
 use Rattle.care_sets.specs.Binding.{IsCareOf}
 use Rattle.care_sets.specs.Care.{CareSet}
 use Rattle.clause_pairs.specs.declared.pairs.Fixed.{Fixed}
 use Rattle.netlist.specs.declared.pair.Pair.{Pair}
 use Rattle.netlist.specs.Pairs.{IsPairOf}
 use Rattle.clause_pairs.specs.Apart.{AreNeverApartIn}
-use Rattle.clause_decision.specs.Scopes.{is_marked, IsScopeOf}
+use Rattle.clause_decision.specs.Scopes.{IsScopeOf}
 use Rattle.miters.specs.declared.cases.JoinedPairs.{JoinedPairs}
 use Rattle.miters.specs.declared.cases.PairsTold.{PairsTold}
 use Rattle.miters.specs.declared.cases.PairsTold.TheVariants.{Never, Apart, Open}

@@ -9,7 +9,7 @@ use Rattle.cyc_base.specs.declared.trit.Trit.{Trit}
 use Rattle.cyc_base.specs.declared.trit.Trit.TheVariants.{Zero, One, X}
 use Rattle.cyc_base.specs.Values.{bits}
 use Rattle.netlist.specs.declared.parts.Parts.{Parts}
-use Rattle.netlist.specs.Netlists.{signal, signal_names}
+use Rattle.netlist.specs.Netlists.{signal, signal_names, signal_name}
 use Rattle.netlist.specs.Faults.{first_there}
 use Rattle.netlist.specs.Fixpoint.{wire, fix}
 use Rattle.care_sets.specs.Binding.{column_of}
@@ -21,7 +21,7 @@ use Rattle.refusals.specs.Refusals.{care_vectors, refusal}
 use Rattle.miters.specs.declared.answer.Answer.{Answer}
 use Rattle.miters.specs.declared.answer.Answer.TheVariants.{Equal, Unmatched, First, Second, Output, Latch as LatchAt}
 use Rattle.netlist.specs.declared.pair.Pair.{Pair}
-use Rattle.miters.specs.Matching.{name_of, latch_named, unmatched}
+use Rattle.miters.specs.Matching.{latch_named, unmatched}
 
 -- the number of a place, or 0 where there is none
 abbrev pub number_or_0 : Option ℕ → ℕ
@@ -52,7 +52,7 @@ pair_of here there = record { here = here; there = there }
 
 -- the outputs of one name, and what the latches of one name load
 abbrev pub output_pairs : Parts → Parts → List Pair
-output_pairs a b = map (λ s. pair_of s (signal_named b (name_of a s))) a.outputs
+output_pairs a b = map (λ s. pair_of s (signal_named b (signal_name a s))) a.outputs
 
 abbrev pub latch_pairs : Parts → Parts → List Pair
 latch_pairs a b = map (λ latch. pair_of latch.from (source_named b latch.name)) a.latches

@@ -9,12 +9,8 @@ use Rattle.netlist.specs.declared.parts.Init.{Init}
 use Rattle.netlist.specs.declared.parts.Init.TheVariants.{Zero, One, Either}
 use Rattle.netlist.specs.declared.parts.Latch.{Latch}
 use Rattle.netlist.specs.declared.parts.Parts.{Parts}
-use Rattle.netlist.specs.Netlists.{signal_names}
+use Rattle.netlist.specs.Netlists.{signal_names, output_names}
 use Rattle.netlist.specs.Faults.{first_there}
-
--- the name of a signal
-abbrev pub name_of : Parts → Sig → List ℕ
-name_of net s = slice_index_or (signal_names net) s.0 []
 
 -- two latches start alike
 abbrev pub init_eq : Init → Init → Bool
@@ -38,9 +34,6 @@ is_input net name = list_any (bytes_eq name) net.inputs
 
 abbrev pub is_latch : Parts → List ℕ → Bool
 is_latch net name = option_map_or (λ latch. true) (latch_named net name) false
-
-abbrev pub output_names : Parts → List (List ℕ)
-output_names net = map (name_of net) net.outputs
 
 abbrev pub is_output : Parts → List ℕ → Bool
 is_output net name = list_any (bytes_eq name) (output_names net)

@@ -3,8 +3,7 @@ use Rattle.std.specs.Prelude.{◌≡◌, ◌<◌, ◌≤◌, ◌-◌, ℕ, nat_l
 use Rattle.cyc_base.specs.declared.sig.Sig.{Sig}
 use Rattle.cover_logic.specs.Covers.{Cover}
 use Rattle.netlist.specs.declared.parts.Parts.{Parts}
-use Rattle.netlist.specs.Netlists.{signal, count, gate_at}
-use Rattle.care_sets.specs.Care.{columns}
+use Rattle.netlist.specs.Netlists.{signal, count, gate_at, columns}
 use Rattle.miters.specs.Differences.{columns_by_name}
 
 -- A signal of the second netlist as one of the first, by the first one's columns of the second one's names, and a signal of

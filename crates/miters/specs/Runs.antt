@@ -2,13 +2,13 @@
 use Rattle.std.specs.Prelude.{◌≡◌, ℕ, Bool, false, List, map, position, slice_index_or}
 use Rattle.std.specs.Str.{bytes_eq}
 use Rattle.netlist.specs.declared.parts.Parts.{Parts}
-use Rattle.netlist.specs.Netlists.{IsNetlist}
+use Rattle.netlist.specs.Netlists.{IsNetlist, output_names}
 use Rattle.care_sets.specs.Binding.{IsCareOf}
 use Rattle.care_sets.specs.Care.{CareSet}
 use Rattle.schedules.specs.Runs.{Run, IsRun, inputs_of, latches_of, outputs_of}
 use Rattle.schedules.specs.Settling.{IsWithinCare}
 use Rattle.miters.specs.declared.answer.Answer.TheVariants.{Equal}
-use Rattle.miters.specs.Matching.{latch_name, output_names}
+use Rattle.miters.specs.Matching.{latch_name}
 use Rattle.miters.specs.Differences.{number_or_0, comparison, HaveOneSource}
 
 -- values for these names, as values for those, by name

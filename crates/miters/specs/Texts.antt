@@ -1,10 +1,11 @@
 -- The text of what is found of two netlists. It is one line.
 use Rattle.std.specs.Prelude.{ℕ, List, [], ◌++◌, map, slice_index_or, codes}
+use Rattle.netlist.specs.Netlists.{output_names}
 use Rattle.netlist.specs.declared.parts.Parts.{Parts}
 use Rattle.report.specs.Verdicts.{refusal_text, vector_text}
 use Rattle.miters.specs.declared.answer.Answer.{Answer}
 use Rattle.miters.specs.declared.answer.Answer.TheVariants.{Equal, Unmatched, First, Second, Output, Latch}
-use Rattle.miters.specs.Matching.{latch_name, output_names}
+use Rattle.miters.specs.Matching.{latch_name}
 
 -- the name of an output or of a latch, by its place
 abbrev pub output_at : Parts → ℕ → List ℕ

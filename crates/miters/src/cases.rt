@@ -2,7 +2,7 @@
 //! equal one of the other, but many do where the columns are fixed that steer the loop.
 
 ghost use Rattle.std.specs.Prelude.{◌≡◌, ◌<◌, ◌++◌, ◌∷◌, [], All, IfOk, IfSome};
-ghost use Rattle.care_sets.specs.Care.{columns as columns_of};
+ghost use Rattle.netlist.specs.Netlists.{columns as columns_of};
 ghost use Rattle.netlist.specs.Pairs.{IsPairOf};
 ghost use Rattle.clause_pairs.specs.Apart.{IsCubeOf};
 ghost use Rattle.miters.specs.Cases.{told_by, ArePaired, TellsIn};

@@ -4,8 +4,8 @@
 
 ghost use Rattle.std.specs.Prelude.{◌≡◌, ◌<◌, ◌≤◌, ◌++◌, ◌∷◌, [], ℕ, Some, true, false, length, All, IfOk, IfSome};
 ghost use Rattle.std.specs.List.{list_any};
+ghost use Rattle.netlist.specs.Netlists.{columns as columns_of};
 ghost use Rattle.netlist.specs.Fixpoint.{wire};
-ghost use Rattle.care_sets.specs.Care.{columns as columns_of};
 ghost use Rattle.netlist.specs.Pairs.{are_apart as are_apart_of};
 ghost use Rattle.miters.specs.Beginnings.{cube_of as cube_of_values, IsNextValue, IsLeastBeginning, IsApartAt};
 ghost use Rattle.miters.specs.Cases.{ArePaired, TellsIn};

@@ -2,8 +2,7 @@
 
 ghost use Rattle.std.specs.Prelude.{◌≡◌, ◌+◌, ◌-◌, ◌++◌, ◌<◌, ◌≤◌, [], None, length, map, All, IfOk, OnOk};
 ghost use Rattle.std.specs.List.{range_with_len};
-ghost use Rattle.netlist.specs.Netlists.{count, with_gates, IsNetlist};
-ghost use Rattle.care_sets.specs.Care.{columns as column_count};
+ghost use Rattle.netlist.specs.Netlists.{count, with_gates, IsNetlist, columns as column_count};
 ghost use Rattle.unroll.specs.Marks.{mark as mark_of};
 ghost use Rattle.miters.specs.Differences.{columns_by_name};
 ghost use Rattle.miters.specs.Joined.{moved_by, moved_gate_by, moved_gates, moved_pair_by, joined, joined_pairs as joined_pairs_of};

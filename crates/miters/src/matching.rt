@@ -1,8 +1,9 @@
 //! Whether the names of two netlists match.
 
 ghost use Rattle.std.specs.Prelude.{◌≡◌, ◌∷◌, [], not, find, option_copied, option_map, IfOk};
+ghost use Rattle.netlist.specs.Netlists.{output_names};
 ghost use Rattle.netlist.specs.Faults.{first_there};
-ghost use Rattle.miters.specs.Matching.{init_eq as is_same_init, latch_named, latch_name, is_input as is_input_of, is_latch as is_latch_of, has_latch as has_latch_of, is_output as is_output_of, output_names, unmatched};
+ghost use Rattle.miters.specs.Matching.{init_eq as is_same_init, latch_named, latch_name, is_input as is_input_of, is_latch as is_latch_of, has_latch as has_latch_of, is_output as is_output_of, unmatched};
 
 use cyc_base::{Name, Sig};
 use indexmap::IndexSet;

@@ -1,9 +1,8 @@
 //! Wires of the same name.
 
 ghost use Rattle.std.specs.Prelude.{◌≡◌, ◌++◌, IfOk};
-ghost use Rattle.netlist.specs.Netlists.{IsSignal};
+ghost use Rattle.netlist.specs.Netlists.{IsSignal, signal_name};
 ghost use Rattle.miters.specs.Differences.{column_named, columns_by_name, pair_of, signal_named, source_named, output_pairs as output_pairs_of, latch_pairs as latch_pairs_of};
-ghost use Rattle.miters.specs.Matching.{name_of};
 
 use crate::matching::latch_of;
 use cyc_base::{Name, Sig};
@@ -62,7 +61,7 @@ fn source_in(net: &Netlist, name: &Name) -> Sig
 /// An output of the first netlist, and the signal of the second of the same name.
 fn output_pair(a: &Netlist, b: &Netlist, output: Sig) -> Pair
     requires { IsSignal a.now output }
-    ensures { result ≡ pair_of output (signal_named b.now (name_of a.now output)) }
+    ensures { result ≡ pair_of output (signal_named b.now (signal_name a.now output)) }
 {
     Pair {
         here: output,

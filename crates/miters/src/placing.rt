@@ -2,8 +2,8 @@
 
 ghost use Rattle.std.specs.Prelude.{◌≡◌, false, Bool, List, length, map, position, IfOk, slice_index_or};
 ghost use Rattle.cyc_base.specs.Values.{bits};
+ghost use Rattle.netlist.specs.Netlists.{columns};
 ghost use Rattle.netlist.specs.Fixpoint.{wire, fix};
-ghost use Rattle.care_sets.specs.Care.{columns};
 ghost use Rattle.miters.specs.Differences.{are_different as are_other, by_name as by_name_of, at_difference as at_difference_of, output_pairs as output_pairs_of, latch_pairs as latch_pairs_of};
 ghost use Rattle.miters.specs.Places.{answer_at};
 

@@ -1,7 +1,8 @@
 //! The scope of all gates of a netlist.
 
 ghost use Rattle.std.specs.Prelude.{◌≡◌, ◌<◌, ℕ, true, length, IfOk};
-ghost use Rattle.clause_decision.specs.Scopes.{is_marked, IsScopeOf};
+ghost use Rattle.netlist.specs.Netlists.{is_marked};
+ghost use Rattle.clause_decision.specs.Scopes.{IsScopeOf};
 
 use clause_decision::Scope;
 use cyc_base::Items;

@@ -1,7 +1,7 @@
 //! The columns that steer the loops of a netlist: those that most pins of gates in loops read, through gates outside.
 
 ghost use Rattle.std.specs.Prelude.{◌≡◌, ◌<◌, ◌≤◌, length, All, IfOk, IfSome};
-ghost use Rattle.care_sets.specs.Care.{columns};
+ghost use Rattle.netlist.specs.Netlists.{columns};
 
 use cyc_base::Sig;
 use loops::{LoopedNetlist, gates_at};

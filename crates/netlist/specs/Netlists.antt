@@ -35,6 +35,21 @@ driven_names net = map (λ latch. latch.name) net.latches ++ map (λ gate. gate.
 abbrev pub signal_names : Parts → List (List ℕ)
 signal_names net = net.inputs ++ driven_names net
 
+-- the name of a signal, and the names of the outputs
+abbrev pub signal_name : Parts → Sig → List ℕ
+signal_name net s = slice_index_or (signal_names net) s.0 []
+
+abbrev pub output_names : Parts → List (List ℕ)
+output_names net = map (signal_name net) net.outputs
+
+-- how many columns a vector has: the inputs, and then the latches
+abbrev pub columns : Parts → ℕ
+columns net = length net.inputs + length net.latches
+
+-- whether a gate or a signal is marked, by a list with one entry for each
+abbrev pub is_marked : List Bool → ℕ → Bool
+is_marked marks n = slice_index_or marks n false
+
 -- a latch or a gate has this name
 abbrev pub is_driven : Parts → List ℕ → Bool
 is_driven net name =

@@ -1,8 +1,7 @@
 -- The names that most proofs of this crate cite, passed on from one place. Declares nothing.
 pub use Rattle.cyc_base.specs.declared.sig.Sig.{Sig}
 pub use Rattle.delay_core.specs.declared.change.Change.{Change}
-pub use Rattle.netlist.specs.Netlists.{count, signal}
-pub use Rattle.probes.specs.Texts.{signal_name}
+pub use Rattle.netlist.specs.Netlists.{count, signal, signal_name}
 pub use Rattle.probes.specs.Values.{value_after}
 pub use Rattle.std.proofs.lemmas.Bool.{and_from, and_parts, cases_lt, eq-eqb, le-ltb, lt-ltb, ne_eqb, not-true}
 pub use Rattle.std.proofs.lemmas.List.{append-nil, append_assoc}

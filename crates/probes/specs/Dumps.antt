@@ -3,9 +3,8 @@ use Rattle.std.specs.Prelude.{ℕ, ◌==◌, Bool, not, if◌then◌else◌, Lis
 use Rattle.std.specs.List.{flat_map, range_with_len}
 use Rattle.cyc_io.specs.Bits.{bit_text}
 use Rattle.netlist.specs.declared.parts.Parts.{Parts}
-use Rattle.netlist.specs.Netlists.{count, signal}
+use Rattle.netlist.specs.Netlists.{count, signal, signal_name}
 use Rattle.delay_core.specs.declared.change.Change.{Change}
-use Rattle.probes.specs.Texts.{signal_name}
 use Rattle.probes.specs.Codes.{code}
 
 -- `$var wire 1 CODE NAME $end`

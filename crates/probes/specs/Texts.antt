@@ -3,11 +3,8 @@ use Rattle.std.specs.Prelude.{ℕ, ◌+◌, ◌-◌, ◌==◌, ◌&&◌, Bool, t
 use Rattle.std.specs.List.{flat_map, fold, sum_by, range_with_len}
 use Rattle.cyc_base.specs.declared.sig.Sig.{Sig}
 use Rattle.netlist.specs.declared.parts.Parts.{Parts}
-use Rattle.netlist.specs.Netlists.{gate_sig, sig_eq, signal_names}
+use Rattle.netlist.specs.Netlists.{gate_sig, sig_eq, signal_names, signal_name}
 use Rattle.delay_core.specs.declared.change.Change.{Change}
-
-abbrev pub signal_name : Parts → Sig → List ℕ
-signal_name net s = slice_index_or (signal_names net) s.0 []
 
 -- ---- trace: a line for each change
 

@@ -2,10 +2,10 @@
 
 ghost use Rattle.std.specs.Prelude.{◌≡◌, ◌≢◌, ◌<◌, ◌≤◌, ◌+◌, ◌-◌, ◌^◌, ◌==◌, ◌&&◌, ◌||◌, ◌++◌, ◌∷◌, [], ℕ, not, All, IfOk, OnOk, OnErr, length, take, slice_index_or, slice_set};
 ghost use Rattle.cyc_base.specs.declared.sig.Sig.{Sig as sig_type};
-ghost use Rattle.netlist.specs.Netlists.{count, gate_sig};
+ghost use Rattle.netlist.specs.Netlists.{count, gate_sig, signal_name};
 ghost use Rattle.delay_core.specs.declared.change.Change.{Change as change_type};
 ghost use Rattle.commands.specs.declared.kind.Kind.TheVariants as kinds;
-ghost use Rattle.probes.specs.Texts.{signal_name, last_tick, glitch_line, glitches_text};
+ghost use Rattle.probes.specs.Texts.{last_tick, glitch_line, glitches_text};
 ghost use Rattle.probes.specs.Tables.{has_turn, IsTally};
 
 use crate::heard::Heard;

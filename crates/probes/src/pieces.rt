@@ -2,8 +2,7 @@
 
 ghost use Rattle.std.specs.Prelude.{◌≡◌, ◌++◌, OnOk, decimal, codes};
 ghost use Rattle.std.specs.Prelude.{◌<◌};
-ghost use Rattle.netlist.specs.Netlists.{count};
-ghost use Rattle.probes.specs.Texts.{signal_name};
+ghost use Rattle.netlist.specs.Netlists.{count, signal_name};
 
 use cyc_base::Sig;
 use itoa::Buffer;

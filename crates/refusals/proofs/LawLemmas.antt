@@ -9,9 +9,9 @@ use Rattle.cyc_base.specs.declared.sig.Sig.{Sig}
 use Rattle.cyc_base.specs.declared.trit.Trit.TheVariants.{X}
 use Rattle.cyc_base.specs.Values.{bits}
 use Rattle.netlist.specs.declared.parts.Parts.{Parts}
-use Rattle.netlist.specs.Netlists.{count, signal, IsNetlist}
+use Rattle.netlist.specs.Netlists.{count, signal, IsNetlist, columns}
 use Rattle.netlist.specs.Fixpoint.{wire, fix, IsInitialState}
-use Rattle.care_sets.specs.Care.{CareSet, columns, is_one, is_in_invariant, is_care_vector, IsCareVector}
+use Rattle.care_sets.specs.Care.{CareSet, is_one, is_in_invariant, is_care_vector, IsCareVector}
 use Rattle.refusals.specs.declared.refusal.Refusal.{Refusal}
 use Rattle.refusals.specs.declared.refusal.Refusal.TheVariants.{Initial, EmptyCare, Undetermined, Leaves}
 use Rattle.refusals.specs.declared.observe.Observe.{Observe}

@@ -10,11 +10,10 @@ use Rattle.cyc_base.specs.Values.{bits}
 use Rattle.netlist.specs.declared.parts.Latch.{Latch}
 use Rattle.netlist.specs.declared.parts.Init.TheVariants as inits
 use Rattle.netlist.specs.declared.parts.Parts.{Parts}
-use Rattle.netlist.specs.Netlists.{count, gate_sig, sig_eq, IsNetlist}
+use Rattle.netlist.specs.Netlists.{count, gate_sig, sig_eq, IsNetlist, columns}
 use Rattle.netlist.specs.Fixpoint.{wire, fix, fix_gates}
 use Rattle.netlist.proofs.NameLemmas.{sig_eq-true}
 use Rattle.netlist.proofs.FixpointLemmas.{length-fix_gates}
-use Rattle.care_sets.specs.Care.{columns}
 use Rattle.refusals.specs.declared.observe.Observe.{Observe}
 use Rattle.refusals.specs.declared.observe.Observe.TheVariants as observe
 use Rattle.refusals.specs.Acceptance.{gate_sigs, observed}

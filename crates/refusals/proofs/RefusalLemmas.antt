@@ -17,10 +17,10 @@ use Rattle.cyc_base.proofs.OrderLemmas.{bit-known}
 use Rattle.cyc_base.proofs.ListLemmas.{option_or-cases}
 use Rattle.netlist.specs.declared.parts.Latch.{Latch}
 use Rattle.netlist.specs.declared.parts.Parts.{Parts}
-use Rattle.netlist.specs.Netlists.{count, signal, gate_sig}
+use Rattle.netlist.specs.Netlists.{count, signal, gate_sig, columns}
 use Rattle.netlist.specs.Fixpoint.{wire, fix, fix_gates, next}
 use Rattle.netlist.proofs.FixpointLemmas.{length-fix_gates}
-use Rattle.care_sets.specs.Care.{CareSet, columns, is_one, is_in_invariant}
+use Rattle.care_sets.specs.Care.{CareSet, is_one, is_in_invariant}
 use Rattle.refusals.specs.declared.refusal.Refusal.{Refusal}
 use Rattle.refusals.specs.declared.refusal.Refusal.TheVariants.{Initial, EmptyCare, Undetermined, Leaves}
 use Rattle.refusals.specs.declared.observe.Observe.{Observe}

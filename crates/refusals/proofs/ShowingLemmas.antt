@@ -9,11 +9,12 @@ use Rattle.cyc_base.specs.declared.trit.Trit.{Trit}
 use Rattle.cyc_base.specs.declared.trit.Trit.TheVariants.{X}
 use Rattle.cyc_base.specs.Values.{bit, bits}
 use Rattle.cyc_base.specs.declared.sig.Sig.{Sig}
+use Rattle.netlist.specs.Netlists.{columns}
 use Rattle.netlist.specs.declared.parts.Init.TheVariants as inits
 use Rattle.netlist.specs.Fixpoint.{next, Permits, IsInitialState}
 use Rattle.netlist.specs.declared.parts.Latch.{Latch}
 use Rattle.netlist.specs.declared.parts.Parts.{Parts}
-use Rattle.care_sets.specs.Care.{CareSet, columns, is_in_invariant, is_care_vector, IsCareVector}
+use Rattle.care_sets.specs.Care.{CareSet, is_in_invariant, is_care_vector, IsCareVector}
 use Rattle.refusals.specs.Refusals.{may_start, is_initial, is_value, is_x, is_undetermined, IsOutside, IsUnknownAt, LeavesTo}
 
 -- each latch may start with its value

@@ -5,8 +5,8 @@ use Rattle.cyc_base.specs.declared.trit.Trit.TheVariants.{X}
 use Rattle.cyc_base.specs.Values.{bits}
 use Rattle.netlist.specs.declared.parts.Parts.{Parts}
 use Rattle.netlist.specs.Fixpoint.{fix_gates, IsInitialState}
-use Rattle.netlist.specs.Netlists.{IsNetlist}
-use Rattle.care_sets.specs.Care.{CareSet, columns, is_in_invariant, IsCareVector}
+use Rattle.netlist.specs.Netlists.{IsNetlist, columns}
+use Rattle.care_sets.specs.Care.{CareSet, is_in_invariant, IsCareVector}
 use Rattle.refusals.specs.declared.observe.Observe.{Observe}
 use Rattle.refusals.specs.declared.observe.Observe.TheVariants as observe
 use Rattle.refusals.specs.declared.refusal.Refusal.{Refusal}

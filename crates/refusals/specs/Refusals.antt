@@ -12,8 +12,8 @@ use Rattle.netlist.specs.declared.parts.Init.TheVariants as inits
 use Rattle.netlist.specs.declared.parts.Parts.{Parts}
 use Rattle.netlist.specs.Faults.{first_there}
 use Rattle.netlist.specs.Fixpoint.{wire, fix, next, IsInitialState}
-use Rattle.netlist.specs.Netlists.{count, sig_eq}
-use Rattle.care_sets.specs.Care.{CareSet, columns, is_one, is_in_invariant, is_care_vector, IsCareVector}
+use Rattle.netlist.specs.Netlists.{count, sig_eq, columns}
+use Rattle.care_sets.specs.Care.{CareSet, is_one, is_in_invariant, is_care_vector, IsCareVector}
 use Rattle.refusals.specs.declared.observe.Observe.{Observe}
 use Rattle.refusals.specs.declared.refusal.Refusal.{Refusal}
 use Rattle.refusals.specs.declared.refusal.Refusal.TheVariants.{Initial, EmptyCare, Undetermined, Leaves}

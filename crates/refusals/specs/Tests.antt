@@ -5,8 +5,8 @@ use Rattle.cyc_base.specs.Values.{bits}
 use Rattle.cyc_base.specs.Vectors.{vectors}
 use Rattle.netlist.specs.declared.parts.Parts.{Parts}
 use Rattle.netlist.specs.Fixpoint.{fix, wire}
-use Rattle.netlist.specs.Netlists.{gate_sig}
-use Rattle.care_sets.specs.Care.{CareSet, columns, is_in_invariant, is_care_vector, IsCareVector}
+use Rattle.netlist.specs.Netlists.{gate_sig, columns}
+use Rattle.care_sets.specs.Care.{CareSet, is_in_invariant, is_care_vector, IsCareVector}
 use Rattle.refusals.specs.declared.observe.Observe.{Observe}
 use Rattle.refusals.specs.Acceptance.{observed}
 use Rattle.refusals.specs.Refusals.{is_among, is_initial, is_undetermined, leaves}

@@ -4,8 +4,8 @@ ghost use Rattle.std.specs.Prelude.{◌≡◌, ◌+◌, ◌++◌, ◌↔◌, ◌
 ghost use Rattle.std.specs.List.{list_all};
 ghost use Rattle.cyc_base.specs.Values.{bits};
 ghost use Rattle.netlist.specs.Fixpoint.{wire as wire_of, next as next_values};
-ghost use Rattle.netlist.specs.Netlists.{count};
-ghost use Rattle.care_sets.specs.Care.{columns, is_care_vector as is_care_vector_of};
+ghost use Rattle.netlist.specs.Netlists.{count, columns};
+ghost use Rattle.care_sets.specs.Care.{is_care_vector as is_care_vector_of};
 ghost use Rattle.care_sets.specs.Binding.{IsCareOf};
 ghost use Rattle.refusals.specs.Refusals.{is_value, may_start as may_start_with, is_initial as is_initial_state, is_x as is_unknown, is_undetermined as is_undetermined_at, IsAt, IsStepTo, IsRefusalOf, IsOutside, IsUnknownAt, LeavesTo, Proves};
 

@@ -4,12 +4,12 @@ use Rattle.std.specs.List.{flat_map, range_with_len}
 use Rattle.cyc_base.specs.declared.trit.Trit.{Trit}
 use Rattle.cyc_base.specs.declared.trit.Trit.TheVariants.{Zero, One, X}
 use Rattle.netlist.specs.declared.parts.Parts.{Parts}
-use Rattle.netlist.specs.Netlists.{signal, count}
+use Rattle.netlist.specs.Netlists.{signal, count, signal_name}
 use Rattle.explanations.specs.declared.explanation.Explanation.{Explanation}
 use Rattle.explanations.specs.declared.pins.Pin.{Pin}
 use Rattle.explanations.specs.declared.pins.Pin.TheVariants.{Known, Open, Free}
 use Rattle.report.specs.LoopTexts.{names_text}
-use Rattle.report.specs.Verdicts.{column_text, signal_name}
+use Rattle.report.specs.Verdicts.{column_text}
 
 -- gates behind a word
 abbrev pub gates_line : List ℕ → Parts → List ℕ → List ℕ

@@ -5,7 +5,7 @@ use Rattle.std.specs.List.{flat_map}
 use Rattle.cyc_base.specs.declared.sig.Sig.{Sig}
 use Rattle.cyc_io.specs.Bits.{bit_text}
 use Rattle.netlist.specs.declared.parts.Parts.{Parts}
-use Rattle.netlist.specs.Netlists.{signal_names}
+use Rattle.netlist.specs.Netlists.{signal_names, signal_name}
 use Rattle.refusals.specs.declared.refusal.Refusal.{Refusal}
 use Rattle.refusals.specs.declared.refusal.Refusal.TheVariants.{Initial, EmptyCare, Undetermined, Leaves}
 
@@ -20,9 +20,6 @@ columns_text net first values = flat_map column_text (zip (drop first (signal_na
 -- the line ends behind them
 abbrev pub last_columns : Parts → ℕ → List Bool → List ℕ
 last_columns net first values = columns_text net first values ++ codes "\n"
-
-abbrev pub signal_name : Parts → Sig → List ℕ
-signal_name net s = slice_index_or (signal_names net) s.0 []
 
 -- a vector, where there is a column
 abbrev pub vector_text : Parts → List Bool → List ℕ

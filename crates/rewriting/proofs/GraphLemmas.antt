@@ -10,7 +10,7 @@ use Rattle.cyc_base.specs.Values.{bits, EachBelow}
 use Rattle.cyc_base.proofs.OrderLemmas.{above_bits}
 use Rattle.netlist.specs.declared.parts.Latch.{Latch}
 use Rattle.netlist.specs.declared.parts.Parts.{Parts}
-use Rattle.netlist.specs.Netlists.{signal_names, IsNetlist}
+use Rattle.netlist.specs.Netlists.{signal_names, IsNetlist, columns}
 use Rattle.netlist.specs.Fixpoint.{wire, fix, outs, next}
 use Rattle.care_sets.specs.Care.{CareSet, IsCareVector}
 use Rattle.refusals.specs.declared.observe.Observe.{Observe}
@@ -23,7 +23,7 @@ use Rattle.schedules.proofs.CareLemmas.{outputs_known}
 use Rattle.schedules.proofs.MachineLemmas.{runs_are_machines}
 use Rattle.aig_core.specs.declared.building.Built.{Built}
 use Rattle.aig_core.specs.Answers.{FitsNetlist, HasValues}
-use Rattle.aig_core.specs.Building.{built, columns}
+use Rattle.aig_core.specs.Building.{built}
 use Rattle.rewriting.specs.Graphs.{RunsAs, machine_of, IsGraphIn}
 use Rattle.rewriting.specs.Laws.{GraphsShowTheSame}
 use Rattle.rewriting.specs.Rewriting.{rewritten, IsLoopFreeForm}

@@ -10,13 +10,14 @@ use Rattle.cyc_base.specs.declared.trit.Trit.{Trit}
 use Rattle.cyc_base.specs.declared.trit.Trit.TheVariants.{Zero, One, X}
 use Rattle.cyc_base.specs.Values.{bits}
 use Rattle.cyc_base.proofs.VectorLemmas.{find-none}
+use Rattle.netlist.specs.Netlists.{columns}
 use Rattle.netlist.specs.declared.parts.Parts.{Parts}
 use Rattle.netlist.specs.Fixpoint.{fix_gates}
 use Rattle.loops.specs.Found.{loops_of}
 use Rattle.loops.specs.Sweeps.{value_in, sweeps, CutsAreFixed}
 use Rattle.loops.proofs.Existence.{loops_exist}
 use Rattle.loops.proofs.Sweeps.{few_sweeps_are_enough}
-use Rattle.care_sets.specs.Care.{CareSet, columns, is_one, is_care_vector, IsCareVector}
+use Rattle.care_sets.specs.Care.{CareSet, is_one, is_care_vector, IsCareVector}
 use Rattle.refusals.specs.Refusals.{is_x, care_vectors}
 use Rattle.refusals.proofs.FirstLemmas.{none_passes}
 use Rattle.refusals.proofs.LawLemmas.{care_test}

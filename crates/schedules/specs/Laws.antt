@@ -2,9 +2,10 @@
 use Rattle.std.specs.Prelude.{◌≡◌, ◌≢◌, ℕ, ◌+◌, ◌*◌, ◌≤◌, Bool, List, [], ◌∷◌, length, map, All}
 use Rattle.cyc_base.specs.declared.trit.Trit.TheVariants.{X}
 use Rattle.cyc_base.specs.Values.{bits, Completes}
+use Rattle.netlist.specs.Netlists.{columns}
 use Rattle.netlist.specs.declared.parts.Parts.{Parts}
 use Rattle.netlist.specs.Fixpoint.{wires, steps, fix_gates}
-use Rattle.care_sets.specs.Care.{CareSet, columns}
+use Rattle.care_sets.specs.Care.{CareSet}
 use Rattle.schedules.specs.Moments.{History, Round, newest, after_rounds}
 use Rattle.schedules.specs.Fairness.{IsFair}
 use Rattle.schedules.specs.Runs.{Tick, Run, IsRun, gates_at}

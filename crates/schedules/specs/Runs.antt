@@ -1,9 +1,8 @@
 -- Ticks one after another: the latches hold what their sources had at the last moment before.
 use Rattle.std.specs.Prelude.{◌≡◌, ℕ, ◌+◌, ◌*◌, ◌≤◌, Bool, List, [], ◌∷◌, ◌++◌, length, map, drop, All}
 use Rattle.netlist.specs.declared.parts.Parts.{Parts}
-use Rattle.netlist.specs.Netlists.{count}
+use Rattle.netlist.specs.Netlists.{count, columns}
 use Rattle.netlist.specs.Fixpoint.{wires, IsInitialState}
-use Rattle.care_sets.specs.Care.{columns}
 use Rattle.schedules.specs.Moments.{Moment, History, Round, bit_at, newest, after_rounds}
 use Rattle.schedules.specs.Fairness.{IsFair}
 

@@ -4,9 +4,8 @@ use Rattle.cyc_base.specs.declared.trit.Trit.{Trit}
 use Rattle.cyc_base.specs.declared.trit.Trit.TheVariants.{X}
 use Rattle.cyc_base.specs.Values.{bits, Completes}
 use Rattle.netlist.specs.declared.parts.Parts.{Parts}
-use Rattle.netlist.specs.Netlists.{IsNetlist, count, gate_sig}
+use Rattle.netlist.specs.Netlists.{IsNetlist, count, gate_sig, columns}
 use Rattle.netlist.specs.Fixpoint.{wire, fix}
-use Rattle.care_sets.specs.Care.{columns}
 use Rattle.schedules.specs.declared.event.Event.{Event}
 use Rattle.schedules.specs.Moments.{History, Round, bit_at, newest, event_value, after_events}
 use Rattle.schedules.specs.Fairness.{IsFair}

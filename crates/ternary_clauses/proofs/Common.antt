@@ -8,7 +8,7 @@ pub use Rattle.cyc_base.specs.declared.trit.Trit.{Trit}
 pub use Rattle.loops.specs.Cuts.{is_cut}
 pub use Rattle.loops.specs.Sweeps.{first_gate, gate_of, value_in}
 pub use Rattle.netlist.specs.Fixpoint.{wire}
-pub use Rattle.netlist.specs.Netlists.{gate_at, no_gate}
+pub use Rattle.netlist.specs.Netlists.{gate_at, no_gate, is_marked}
 pub use Rattle.netlist.specs.declared.parts.Gate.{Gate}
 pub use Rattle.netlist.specs.declared.parts.Parts.{Parts}
 pub use Rattle.std.proofs.Math.Bool.{not-not}
@@ -18,7 +18,7 @@ pub use Rattle.std.proofs.lemmas.List.{get_or_append_left, get_or_push, length-m
 pub use Rattle.std.proofs.lemmas.Result.{on_ok_weaker}
 pub use Rattle.std.specs.List.{All, AllZip, list_any, slice_index_or}
 pub use Rattle.ternary_clauses.specs.Columns.{SaysColumns}
-pub use Rattle.ternary_clauses.specs.Encoding.{IsWanted, is_marked}
+pub use Rattle.ternary_clauses.specs.Encoding.{IsWanted}
 pub use Rattle.ternary_clauses.specs.Formulas.{Grows, HasModelFrom, IsFormula, IsModel, IsWhole, holds, negation, says}
 pub use Rattle.ternary_clauses.specs.Lifts.{Extends, ForksTo, IsFork, IsLift, IsTable}
 pub use Rattle.ternary_clauses.specs.Nodes.{column_rails, equal_clauses, new_rails, pick_clauses, picked, rail_clauses, same_clauses, wire_clauses}

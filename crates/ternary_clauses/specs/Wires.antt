@@ -5,14 +5,14 @@ use Rattle.cyc_base.specs.declared.trit.Trit.{Trit}
 use Rattle.cyc_base.specs.declared.trit.Trit.TheVariants.{X}
 use Rattle.netlist.specs.declared.parts.Gate.{Gate}
 use Rattle.netlist.specs.declared.parts.Parts.{Parts}
-use Rattle.netlist.specs.Netlists.{gate_at}
+use Rattle.netlist.specs.Netlists.{gate_at, is_marked}
 use Rattle.netlist.specs.Fixpoint.{wires, gate_value}
 use Rattle.loops.specs.Sweeps.{first_gate, value_in}
 use Rattle.ternary_clauses.specs.declared.formula.Formula.{Formula}
 use Rattle.ternary_clauses.specs.declared.formula.Rails.{Rails}
 use Rattle.ternary_clauses.specs.Formulas.{IsModel, HasModelFrom, Grows}
 use Rattle.ternary_clauses.specs.Rails.{is_known, Reads, AreWithin, AreRailsOf, no_rails, rails_at}
-use Rattle.ternary_clauses.specs.Encoding.{is_marked, IsWanted, IsStill, gate_rails, ReadsGates, Fits}
+use Rattle.ternary_clauses.specs.Encoding.{IsWanted, IsStill, gate_rails, ReadsGates, Fits}
 
 -- a model, with values for these further variables, in which the rails stand for this value
 pub record TakesValue (f : Formula) (r : Rails) (m : List Bool) (t : Trit) : Type 0 where

@@ -4,7 +4,7 @@ use Rattle.std.specs.Option.{IfSome}
 use Rattle.std.specs.declared.option.Option.{Option}
 use Rattle.std.proofs.lemmas.List.{get_or-replicate, get_or_default}
 use Rattle.netlist.specs.declared.parts.Parts.{Parts}
-use Rattle.netlist.specs.Netlists.{IsNetlist, gate_sig}
+use Rattle.netlist.specs.Netlists.{IsNetlist, gate_sig, is_marked}
 use Rattle.netlist.specs.Fixpoint.{fix, loaded, wire}
 use Rattle.cyc_base.specs.Values.{bit, bits}
 use Rattle.cyc_base.specs.declared.sig.Sig.{Sig}
@@ -23,7 +23,7 @@ use Rattle.refusals.proofs.RefusalLemmas.{gate_sig_at, gate_wire, length-gate_si
 use Rattle.clause_decision.specs.Changes.{AreFedKnown}
 use Rattle.clause_decision.specs.Loads.{HasLoads}
 use Rattle.refusals.specs.Tests.{LoadsAreKnown}
-use Rattle.clause_decision.specs.Scopes.{AreClosed, AreInScope, AreKnownOnCare, AreNeverUnknown, is_marked}
+use Rattle.clause_decision.specs.Scopes.{AreClosed, AreInScope, AreKnownOnCare, AreNeverUnknown}
 use Rattle.clause_decision.specs.declared.scope.Scope.{Scope}
 
 pub all_closed : (net : Parts) (marks : List Bool) → marks ≡ replicate (length net.gates) true → AreClosed net marks

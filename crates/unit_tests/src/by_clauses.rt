@@ -2,10 +2,10 @@
 
 ghost use Rattle.std.specs.Prelude.{◌≡◌, ◌<◌, ℕ, true, length, IfOk};
 ghost use Rattle.care_sets.specs.Binding.{IsCareOf};
-ghost use Rattle.clause_decision.specs.Scopes.{is_marked, IsScopeOf};
+ghost use Rattle.clause_decision.specs.Scopes.{IsScopeOf};
 ghost use Rattle.loops.specs.Blocks.{block_at, AreBlocksOf};
 ghost use Rattle.loops.specs.Cuts.{IsCutOf};
-ghost use Rattle.netlist.specs.Netlists.{IsNetlist};
+ghost use Rattle.netlist.specs.Netlists.{IsNetlist, is_marked};
 ghost use Rattle.refusals.specs.Acceptance.{Accepts};
 
 use crate::asked::{ANY, Asked, is_right_of};

@@ -6,7 +6,7 @@ use Rattle.cyc_base.specs.declared.trit.Trit.{Trit}
 use Rattle.cyc_base.specs.Values.{Below, EachBelow}
 use Rattle.netlist.specs.declared.parts.Parts.{Parts}
 use Rattle.netlist.specs.Fixpoint.{wire, fix, outs, next}
-use Rattle.netlist.specs.Netlists.{gate_at, gate_sig, signal_names, IsNetlist}
+use Rattle.netlist.specs.Netlists.{gate_at, gate_sig, signal_names, IsNetlist, output_names}
 use Rattle.netlist.specs.Walks.{IsLoopFree}
 use Rattle.loops.specs.declared.structure.Blocks.{Blocks}
 use Rattle.loops.specs.declared.structure.Cut.{Cut}
@@ -69,10 +69,6 @@ pub record TellsAsMuchAt (net other : Parts) (v : List Trit) : Type 0 where
 abbrev pub UnrolledTellsAsMuch : Type 0
 UnrolledTellsAsMuch = OfUnrolled (λ net loops m.
     (v : List Trit) → AreEnough net loops m v → TellsAsMuchAt net (unrolled net loops m) v)
-
--- the names of the outputs
-abbrev pub output_names : Parts → List (List ℕ)
-output_names net = map (λ s. slice_index_or (signal_names net) s.0 []) net.outputs
 
 -- the other netlist has the names of inputs, latches and outputs in their order, the inits and the clock of this one
 pub record KeepsInterface (net other : Parts) : Type 0 where

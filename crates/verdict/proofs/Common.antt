@@ -1,7 +1,7 @@
 -- The names that most proofs of this crate cite, passed on from one place. Declares nothing.
 pub use Rattle.bdd_store.proofs.GrowthLemmas.{adds_then}
 pub use Rattle.care_sets.specs.Binding.{IsCareOf}
-pub use Rattle.care_sets.specs.Care.{CareSet, IsCareVector, columns, is_care_vector, is_in_invariant}
+pub use Rattle.care_sets.specs.Care.{CareSet, IsCareVector, is_care_vector, is_in_invariant}
 pub use Rattle.care_sets.specs.declared.model.CareModel.{CareModel}
 pub use Rattle.clause_decision.specs.Changes.{AreFedKnown}
 pub use Rattle.loop_simulation.specs.Sweeping.{IsLeastCount}
@@ -12,7 +12,7 @@ pub use Rattle.cyc_base.specs.declared.sig.Sig.{Sig}
 pub use Rattle.cyc_base.specs.declared.trit.Trit.{Trit}
 pub use Rattle.cyc_base.specs.declared.trit.Trit.TheVariants.{X}
 pub use Rattle.isolation.proofs.SettledLemmas.{unsettled_loops_decide}
-pub use Rattle.loops.specs.Cones.{AddMarks, ListsMarked, is_marked}
+pub use Rattle.loops.specs.Cones.{AddMarks, ListsMarked}
 pub use Rattle.loops.proofs.Told.{gate_home, home_gate}
 pub use Rattle.loops.specs.Blocks.{AreBlocksOf, block_at, home_of}
 pub use Rattle.loops.specs.Cuts.{IsCutOf, Loops, loops_by}
@@ -20,7 +20,7 @@ pub use Rattle.loops.specs.Sweeps.{IsCountOfSweeps, value_in}
 pub use Rattle.loops.specs.declared.structure.Blocks.{Blocks}
 pub use Rattle.loops.specs.declared.structure.Cut.{Cut}
 pub use Rattle.netlist.specs.Fixpoint.{fix, fix_gates, wire}
-pub use Rattle.netlist.specs.Netlists.{IsNetlist, gate_sig}
+pub use Rattle.netlist.specs.Netlists.{IsNetlist, gate_sig, columns, is_marked}
 pub use Rattle.netlist.specs.Walks.{Feeds}
 pub use Rattle.netlist.specs.declared.parts.Latch.{Latch}
 pub use Rattle.netlist.specs.declared.parts.Parts.{Parts}

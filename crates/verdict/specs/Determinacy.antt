@@ -1,8 +1,7 @@
 -- Whether the observed gates of a netlist are seen to be determined on care.
 use Rattle.std.specs.Prelude.{◌≡◌, ◌<◌, ℕ, Bool, true, List, length}
 use Rattle.netlist.specs.declared.parts.Parts.{Parts}
-use Rattle.netlist.specs.Netlists.{gate_sig}
-use Rattle.care_sets.specs.Care.{columns}
+use Rattle.netlist.specs.Netlists.{gate_sig, columns}
 use Rattle.refusals.specs.Tests.{is_unknown_at}
 use Rattle.refusals.specs.Acceptance.{observed}
 use Rattle.refusals.specs.Refusals.{is_among}

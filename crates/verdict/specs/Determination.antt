@@ -2,13 +2,13 @@
 use Rattle.std.specs.Prelude.{◌≡◌, ◌≢◌, ◌<◌, ℕ, Bool, false, List, length}
 use Rattle.cyc_base.specs.declared.trit.Trit.TheVariants.{X}
 use Rattle.cyc_base.specs.Values.{bits}
+use Rattle.netlist.specs.Netlists.{is_marked}
 use Rattle.netlist.specs.declared.parts.Parts.{Parts}
 use Rattle.netlist.specs.Fixpoint.{fix_gates}
 use Rattle.loops.specs.declared.structure.Blocks.{Blocks}
 use Rattle.loops.specs.Blocks.{home_of}
 use Rattle.loops.specs.Sweeps.{value_in}
 use Rattle.isolation.specs.Laws.{IsLooped}
-use Rattle.loops.specs.Cones.{is_marked}
 use Rattle.care_sets.specs.Care.{CareSet, IsCareVector}
 
 -- no gate of the kind is X in the fixpoint of a care vector

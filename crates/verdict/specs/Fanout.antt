@@ -2,11 +2,10 @@
 use Rattle.std.specs.Prelude.{◌≡◌, ◌⊎◌, ◌↔◌, ◌<◌, ℕ, Bool, true, List, length, Contains}
 use Rattle.cyc_base.specs.declared.sig.Sig.{Sig}
 use Rattle.netlist.specs.declared.parts.Parts.{Parts}
-use Rattle.netlist.specs.Netlists.{gate_sig}
+use Rattle.netlist.specs.Netlists.{gate_sig, is_marked}
 use Rattle.netlist.specs.Walks.{Feeds}
 use Rattle.loops.specs.declared.structure.Blocks.{Blocks}
 use Rattle.loops.specs.Blocks.{home_of}
-use Rattle.loops.specs.Cones.{is_marked}
 use Rattle.loops.specs.Walks.{IsUpstream}
 
 -- the gate is marked, or a walk leads to it from a marked one

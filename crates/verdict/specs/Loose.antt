@@ -2,6 +2,7 @@
 use Rattle.std.specs.Prelude.{◌≡◌, ◌≢◌, ◌<◌, ℕ, Bool, true, false, None, List, length, Contains, slice_index_or}
 use Rattle.cyc_base.specs.declared.trit.Trit.TheVariants.{X}
 use Rattle.cyc_base.specs.Values.{bits}
+use Rattle.netlist.specs.Netlists.{is_marked}
 use Rattle.netlist.specs.declared.parts.Parts.{Parts}
 use Rattle.netlist.specs.Fixpoint.{fix_gates}
 use Rattle.netlist.specs.Walks.{Feeds}
@@ -10,7 +11,6 @@ use Rattle.loops.specs.declared.structure.Cut.{Cut}
 use Rattle.loops.specs.Blocks.{block_at}
 use Rattle.loops.specs.Cuts.{loops_by}
 use Rattle.loops.specs.Sweeps.{IsCountOfSweeps, value_in}
-use Rattle.loops.specs.Cones.{is_marked}
 use Rattle.isolation.specs.Excerpts.{gate_in}
 use Rattle.care_sets.specs.Care.{CareSet, IsCareVector}
 use Rattle.refusals.specs.Refusals.{undetermined_refusal}

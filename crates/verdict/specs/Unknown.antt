@@ -1,8 +1,8 @@
 -- The refusal of a gate that is unknown on care, found on cones.
 use Rattle.std.specs.Prelude.{◌≡◌, ◌≤◌, ℕ, Bool, true, List, length}
+use Rattle.netlist.specs.Netlists.{is_marked}
 use Rattle.netlist.specs.declared.parts.Parts.{Parts}
 use Rattle.loops.specs.declared.structure.Blocks.{Blocks}
-use Rattle.loops.specs.Cones.{is_marked}
 use Rattle.loops.specs.Walks.{IsUpstream}
 use Rattle.verdict.specs.Determination.{IsOpen}
 

@@ -1,7 +1,7 @@
 //! Whether the observed gates of a netlist are determined on care, and how many others aren't.
 
 ghost use Rattle.std.specs.Prelude.{◌≡◌, ◌<◌, true, length, IfOk};
-ghost use Rattle.care_sets.specs.Care.{columns};
+ghost use Rattle.netlist.specs.Netlists.{columns};
 ghost use Rattle.refusals.specs.Tests.{is_unknown_at};
 ghost use Rattle.refusals.specs.Acceptance.{observed as observed_signals};
 ghost use Rattle.verdict.specs.Determinacy.{IsDeterminacy};

@@ -1,8 +1,8 @@
 //! The fanout of gates: what walks along pins lead to from them.
 
 ghost use Rattle.std.specs.Prelude.{◌≡◌, ◌↔◌, ◌<◌, true, not, length, map, All, IfOk};
-ghost use Rattle.netlist.specs.Netlists.{IsSignal};
-ghost use Rattle.loops.specs.Cones.{AddMarks, is_marked};
+ghost use Rattle.netlist.specs.Netlists.{IsSignal, is_marked};
+ghost use Rattle.loops.specs.Cones.{AddMarks};
 ghost use Rattle.verdict.specs.Fanout.{AreFanoutMarks, AreReached, HasMarkedDriver, IsReached, ReadsMark};
 ghost use Rattle.verdict.specs.Loose.{AreCandidates};
 

@@ -1,7 +1,7 @@
 //! Whether the invariant is one: whether a next state leaves it.
 
 ghost use Rattle.std.specs.Prelude.{IfOk};
-ghost use Rattle.care_sets.specs.Care.{columns as columns_of};
+ghost use Rattle.netlist.specs.Netlists.{columns as columns_of};
 ghost use Rattle.refusals.specs.Tests.{LoadsAreKnown};
 ghost use Rattle.clause_queries.specs.Vectors.{IsFirstOf};
 ghost use Rattle.refusals.specs.Tests.{is_leaving};

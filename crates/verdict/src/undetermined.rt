@@ -1,7 +1,7 @@
 //! The refusal of the first observed gate that is unknown on care.
 
 ghost use Rattle.std.specs.Prelude.{◌≡◌, ◌<◌, ℕ, Some, true, length, All, IfOk, IfSome};
-ghost use Rattle.loops.specs.Cones.{is_marked};
+ghost use Rattle.netlist.specs.Netlists.{is_marked};
 ghost use Rattle.refusals.specs.Acceptance.{observed as observed_signals};
 ghost use Rattle.refusals.specs.Refusals.{undetermined_refusal};
 ghost use Rattle.clause_decision.specs.Tests.{TellsFirstUnknown};

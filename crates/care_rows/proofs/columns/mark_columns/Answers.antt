@@ -1,5 +1,5 @@
 use Rattle.std.proofs.Common.{◌≡◌, ◌<◌, List, Bool, ℕ, true, false, length, get_or, arith}
-use Rattle.loops.specs.Cones.{is_marked}
+use Rattle.netlist.specs.Netlists.{is_marked}
 use Rattle.care_rows.proofs.Common.{get_or-set_same}
 use Rattle.care_rows.proofs.ColumnLemmas.{so_far-start, so_far-more, so_far-all, set-keeps}
 use Rattle.care_rows.proofs.columns.mark_columns.Goals as goal

@@ -1,5 +1,5 @@
 use Rattle.std.proofs.Common.{◌≡◌, true}
-use Rattle.loops.specs.Cones.{is_marked}
+use Rattle.netlist.specs.Netlists.{is_marked}
 use Rattle.care_rows.proofs.ColumnLemmas.{MarkedSoFar}
 use Rattle.care_rows.proofs.columns.mark_columns.Given as goal
 

@@ -1,6 +1,6 @@
 use Rattle.std.proofs.Common.{◌≡◌, ◌≤◌, length}
 use Rattle.std.specs.List.{filter, range_with_len}
-use Rattle.loops.specs.Cones.{is_marked}
+use Rattle.netlist.specs.Netlists.{is_marked}
 use Rattle.case_split.proofs.splitting.copied_count.Given as goal
 
 abbrev pub invariant-loop-gate : goal.invariant-loop-gate

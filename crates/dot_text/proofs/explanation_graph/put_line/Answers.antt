@@ -1,8 +1,7 @@
 use Rattle.std.proofs.Common.{◌≡◌, List, [], ℕ, ap, ap₂, sym, ◌∙◌}
 use Rattle.std.proofs.lemmas.Option.{get_or_from_slice_get}
-use Rattle.netlist.specs.Netlists.{signal_names}
+use Rattle.netlist.specs.Netlists.{signal_names, signal_name}
 use Rattle.explanations.specs.declared.pins.Pin.{Pin}
-use Rattle.report.specs.Verdicts.{signal_name}
 use Rattle.dot_text.specs.Dot.{quoted}
 use Rattle.dot_text.specs.ExplanationGraphs.{value_line}
 use Rattle.dot_text.proofs.Common.{Parts, appended_equal}

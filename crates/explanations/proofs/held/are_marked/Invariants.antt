@@ -1,6 +1,5 @@
 use Rattle.std.proofs.Common.{ℕ, ◌<◌, ◌≡◌, true, get_or}
-use Rattle.netlist.specs.Netlists.{gate_sig}
-use Rattle.explanations.specs.Held.{is_marked}
+use Rattle.netlist.specs.Netlists.{gate_sig, is_marked}
 use Rattle.explanations.proofs.held.are_marked.Given as goal
 
 abbrev pub invariant-loop-gate : goal.invariant-loop-gate

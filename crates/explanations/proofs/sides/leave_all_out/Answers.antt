@@ -1,5 +1,5 @@
-use Rattle.explanations.specs.Held.{is_marked}
 use Rattle.explanations.proofs.SideLemmas.{leaving_first, leaving_next}
+use Rattle.netlist.specs.Netlists.{is_marked}
 use Rattle.explanations.proofs.sides.leave_all_out.Goals as goal
 
 pub loop-signal-init : goal.loop-signal-init

@@ -1,5 +1,5 @@
-use Rattle.explanations.specs.Held.{is_marked}
 use Rattle.explanations.proofs.SideLemmas.{leaving_first}
+use Rattle.netlist.specs.Netlists.{is_marked}
 use Rattle.explanations.proofs.sides.leave_others_out.Goals as goal
 
 pub loop-signal-init : goal.loop-signal-init

@@ -1,5 +1,5 @@
-use Rattle.explanations.specs.Held.{is_marked}
 use Rattle.explanations.specs.Sides.{IsLeavingOut}
+use Rattle.netlist.specs.Netlists.{is_marked}
 use Rattle.explanations.proofs.sides.leave_others_out.Given as goal
 
 abbrev pub invariant-loop-signal : goal.invariant-loop-signal

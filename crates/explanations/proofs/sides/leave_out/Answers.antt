@@ -1,7 +1,7 @@
 use Rattle.std.proofs.Common.{◌≡◌, get_or, false, sym, ◌∙◌, true≢false, arith}
 use Rattle.std.proofs.lemmas.List.{get_or_default}
+use Rattle.netlist.specs.Netlists.{is_marked}
 use Rattle.explanations.specs.declared.pins.Pin.TheVariants.{Known, Free}
-use Rattle.explanations.specs.Held.{is_marked}
 use Rattle.explanations.proofs.SideLemmas.{free_pin, kept_free, kept_side, left_out}
 use Rattle.explanations.proofs.sides.leave_out.Goals as goal
 

@@ -1,5 +1,5 @@
 use Rattle.std.proofs.Common.{ℕ, ◌<◌, get_or}
-use Rattle.explanations.specs.Held.{is_marked}
+use Rattle.netlist.specs.Netlists.{is_marked}
 use Rattle.explanations.specs.Sides.{ReaderStays}
 use Rattle.explanations.proofs.sides.readers_stay.Given as goal
 

@@ -1,7 +1,6 @@
 use Rattle.std.proofs.Common.{◌≡◌, ◌<◌, ℕ, length, arith}
 use Rattle.std.proofs.lemmas.Result.{IfOk-weaker}
-use Rattle.netlist.specs.Netlists.{count}
-use Rattle.explanations.specs.Held.{is_marked}
+use Rattle.netlist.specs.Netlists.{count, is_marked}
 use Rattle.std.proofs.lemmas.List.Elements.{All-weaker}
 use Rattle.explanations.specs.Sides.{is_one_of, AreAllSides, AreSides, IsLeavingOut, StandsOpen}
 use Rattle.explanations.proofs.SideLemmas.{marks_all, all_hold, are_sides}

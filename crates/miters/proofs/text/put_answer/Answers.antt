@@ -1,5 +1,5 @@
 use Rattle.std.proofs.Common.{◌≡◌, ◌∙◌, ℕ, List, [], get_or, sym, ap, subst}
-use Rattle.miters.proofs.Common.{get_or-map, Sig, Parts, signal_names, name_of, latch_name, IsAnswerOf}
+use Rattle.miters.proofs.Common.{get_or-map, Sig, Parts, signal_names, signal_name, latch_name, IsAnswerOf}
 use Rattle.std.proofs.lemmas.Option.{get_or_from_slice_get}
 use Rattle.miters.specs.Texts.{output_at, latch_at}
 use Rattle.miters.proofs.text.put_answer.Goals as goal
@@ -12,7 +12,7 @@ returns-in-Output g c =
     let fits = subst (IsAnswerOf c.args.a.now c.args.b.now) c.in-Output.is c.requires in
     let name = get_or_from_slice_get (signal_names c.args.a.now) (get_or c.outputs.result.now c.in-Output.at none).0 c.name_of.result.now [] c.name_of.ensures.name in
     let told : output_at c.args.a.now c.in-Output.at ≡ c.name_of.result.now =
-    get_or-map (name_of net) net.outputs at none [] fits.within ∙ ap (λ (xs : List Sig). name_of net (get_or xs at none)) (sym c.outputs.ensures.outputs) ∙ name in
+    get_or-map (signal_name net) net.outputs at none [] fits.within ∙ ap (λ (xs : List Sig). signal_name net (get_or xs at none)) (sym c.outputs.ensures.outputs) ∙ name in
     rw (c.in-Output.is, told, ← c.items.ensures) c.put_differing.ensures
 
 pub returns-in-Latch : goal.returns-in-Latch

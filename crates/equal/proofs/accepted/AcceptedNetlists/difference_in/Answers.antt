@@ -1,7 +1,8 @@
 use Rattle.std.proofs.Common.{◌≡◌, ◌<◌, true, ℕ, List, All, [], length, ap, ap₂, subst, sym, ◌∙◌, arith}
+use Rattle.netlist.specs.Netlists.{is_marked}
 use Rattle.equal.proofs.Common.{Parts, IsCareOf, Pair, IsPairOf, difference, joined, least_apart, Accepted}
 use Rattle.loops.specs.Looped.{Looped}
-use Rattle.clause_decision.specs.Scopes.{is_marked, IsScopeOf}
+use Rattle.clause_decision.specs.Scopes.{IsScopeOf}
 use Rattle.miters.proofs.ComparisonLemmas.{care_joined, pairs_joined, least_joined}
 use Rattle.equal.proofs.accepted.AcceptedNetlists.difference_in.Goals as goal
 
