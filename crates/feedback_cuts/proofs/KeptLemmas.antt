@@ -1,21 +1,21 @@
--- Rows that gain a gate, the sources of a gate's pins, and levels that are moved.
+-- Rows that gain readers, the sources of a gate's pins, and levels that are moved.
 use Rattle.std.proofs.Common.{◌≡◌, ◌⊎◌, ◌↔◌, inl, inr, ℕ, ◌+◌, ◌<◌, ◌≤◌, Bool, List, [], ◌∷◌, ◌++◌, length, get_or, set, sym, ◌∙◌, subst, arith, Contains}
 use Rattle.feedback_cuts.proofs.Common.{cases_eq, get_or-set_same, get_or-set_other, get_or_default, get_or_read, length-set, Contains-append_left, Contains-get_or, Contains-push, Contains-push_cases, Sig, Parts, gate_at, gate_sig, Blocks, AreBlocksOf, Landmark, AreSourcesBelow, HaveGained, HaveGainedPins, IsKept, AreLandmarks, IsLoopPin, InRow, IsFree, IsReady, row_at}
 use Rattle.std.specs.List.{All}
 use Rattle.feedback_cuts.specs.Keeping.{AreLinks}
 use Rattle.loops.specs.Links.{IsLoopSource}
 use Rattle.loops.proofs.Reading.{each_more}
-use Rattle.loops.proofs.Told.{told_parts}
+use Rattle.loops.proofs.RowLemmas.{pin_of_source, pushed_keeps, pushed_new, pushed_only, same_source}
 
 -- a gate is added to the row at a place
-module _ (rows : List (List ℕ)) (n gate : ℕ) (row : List ℕ) (l : n < length rows) (row_is : row ≡ row_at rows n) where
+module _ (rows : List (List ℕ)) (n gate : ℕ) (row : List ℕ) (inside : n < length rows) (row_is : row ≡ row_at rows n) where
   pub gained_more : (readers : List ℕ) (k : ℕ) (first : List (List ℕ)) → k < length readers → ((d : ℕ) → get_or readers k d ≡ n) → HaveGained readers gate k first rows → HaveGained readers gate (k + 1) first (set rows n (row ++ gate ∷ []))
   gained_more readers k first kl at g = record {
     size = length-set rows n (row ++ gate ∷ []) ∙ g.size;
-    keeps = λ x y c. pushed_keeps x y (g.keeps x y c);
-    each = each_more (λ z. InRow (set rows n (row ++ gate ∷ [])) z gate) readers k n at pushed_new (λ j d l. pushed_keeps (get_or readers j d) gate (g.each j d l));
+    keeps = λ x y c. pushed_keeps rows n gate row inside row_is x y (g.keeps x y c);
+    each = each_more (λ z. InRow (set rows n (row ++ gate ∷ [])) z gate) readers k n at (pushed_new rows n gate row inside row_is) (λ j d l. pushed_keeps rows n gate row inside row_is (get_or readers j d) gate (g.each j d l));
     only = λ x y c.
-        elim (pushed_only x y c) [
+        elim (pushed_only rows n gate row inside row_is x y c) [
           | inl old ↦ g.only x y old
           | inr w ↦ inr (subst (λ (z : ℕ). Contains readers z) (sym w.0) (k, kl, at n), w.1)
         ];
@@ -24,13 +24,13 @@ module _ (rows : List (List ℕ)) (n gate : ℕ) (row : List ℕ) (l : n < lengt
   pub gained_pin : (net : Parts) (blocks : Blocks) (k : ℕ) (pin : Sig) (first : List (List ℕ)) → AreBlocksOf net blocks → k < length (gate_at net gate).pins → ((d : Sig) → get_or (gate_at net gate).pins k d ≡ pin) → IsLoopSource net blocks gate pin n → HaveGainedPins net blocks gate k first rows → HaveGainedPins net blocks gate (k + 1) first (set rows n (row ++ gate ∷ []))
   gained_pin net blocks k pin first are kl at source g = record {
     size = length-set rows n (row ++ gate ∷ []) ∙ g.size;
-    keeps = λ x y c. pushed_keeps x y (g.keeps x y c);
+    keeps = λ x y c. pushed_keeps rows n gate row inside row_is x y (g.keeps x y c);
     each = λ a.
         each_more (λ p. IsLoopSource net blocks gate p a → InRow (set rows n (row ++ gate ∷ [])) a gate) (gate_at net gate).pins k pin at
-        (λ other. rw (same_source net blocks gate pin a n other source) pushed_new)
-        (λ j d l other. pushed_keeps a gate (g.each a j d l other));
+        (λ other. rw (same_source net blocks gate pin a n other source) (pushed_new rows n gate row inside row_is))
+        (λ j d l other. pushed_keeps rows n gate row inside row_is a gate (g.each a j d l other));
     only = λ x y c.
-        elim (pushed_only x y c) [
+        elim (pushed_only rows n gate row inside row_is x y c) [
           | inl old ↦ g.only x y old
           | inr w ↦ inr (subst (λ (z : ℕ). IsLoopPin net blocks z gate) (sym w.0) (pin_of_source net blocks gate k pin n are kl at source), w.1)
         ];

@@ -40,7 +40,8 @@ pub(crate) struct KeptLinks<'a> {
 impl KeptGates {
     ghost use Rattle.netlist.specs.Netlists.{gate_at};
     ghost use Rattle.feedback_cuts.specs.Keeping.{AreLinks, HaveGained, HaveGainedPins, IsPlaced};
-    ghost use Rattle.feedback_cuts.specs.Searching.{InRow, level_at, row_at};
+    ghost use Rattle.loops.specs.Rows.{InRow, row_at};
+    ghost use Rattle.feedback_cuts.specs.Searching.{level_at};
 
     /// No gate is entered yet.
     pub fn new(alloc: Global, gates: u32) -> Result<KeptGates, AllocError>
