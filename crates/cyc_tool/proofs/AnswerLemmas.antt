@@ -4,11 +4,13 @@ use Rattle.std.specs.Prelude.{IfSome, IsSomeAnd, MatchOption}
 use Rattle.cyc_tool.proofs.Common.{Option, Arena, Files, ShelfCall, AreGiven, rest_of, EndsAt, ComesTo, IsDecided, IsSought, IsCompared, Limit, Sought, Undecided, Found, Unfinished, Runs, Plan, Reads, Faulty, WantsMemory, Ends, Decides, Assumes, Compares, plan_of, Outcome, no_memory, Command}
 use Rattle.cyc_io.specs.Files.{IsFile}
 use Rattle.cyc_tool.specs.Answer.{IsOutcomeAt, IsAnswer}
-use Rattle.cyc_tool.specs.Calls.{SinkCall, ReadFailed, Verdict, IsTold, Tells}
+use Rattle.plain_commands.specs.Sinks.{SinkCall, IsTold, Tells}
+use Rattle.plain_commands.specs.Shelves.{ReadFailed}
+use Rattle.cyc_tool.specs.Calls.{Verdict}
 use Rattle.cyc_tool.specs.Causes.{Leads, Reaches, MeetsLimit, IsToldAs, NoneFailed, IsWell, GivesAnswer, IsEnoughFor, HasEnoughNodes, IsComplete}
 use Rattle.cyc_tool.proofs.CauseLemmas.{told_as}
-use Rattle.cyc_tool.specs.Requests.{Request}
-use Rattle.cyc_tool.specs.Texts.{usage, read_failed}
+use Rattle.plain_commands.specs.Requests.{Request}
+use Rattle.plain_commands.specs.Texts.{usage, read_failed}
 use Rattle.commands.specs.Words.{command_of}
 
 -- a text that was given is that of the file that is told

@@ -18,13 +18,12 @@ use Rattle.parsed_files.proofs.CareTextLemmas.{care_texts_read_back}
 use Rattle.refusals.specs.declared.observe.Observe.{Observe}
 use Rattle.verdict.specs.declared.fault.DecideFault.{DecideFault}
 use Rattle.verdict.specs.declared.fault.DecideFault.TheVariants.{NodeLimit, Memory}
-use Rattle.cyc_tool.specs.Answer.{told as done}
+use Rattle.plain_commands.specs.Texts.{told as done, limit_reached}
 use Rattle.cyc_tool.specs.Calls.{IsCareFile, IsSearchLimited, IsWritten}
 use Rattle.cyc_tool.specs.Endings.{assumption_told, care_text}
-use Rattle.cyc_tool.specs.Plans.{Decision}
+use Rattle.plain_commands.specs.Plans.{Decision}
 use Rattle.cyc_tool.specs.Seen.{IsLimitOf, IsTellableAssumption}
-use Rattle.cyc_tool.specs.Texts.{limit_reached}
-use Rattle.cyc_tool.specs.declared.outcome.Outcome.{Outcome as Told}
+use Rattle.plain_commands.specs.declared.outcome.Outcome.{Outcome as Told}
 use Rattle.cyc_tool.proofs.DecisionLemmas.{at_limit, nodes_are, refusal_fits}
 
 -- models of a care file go into one text: their names differ

@@ -26,12 +26,14 @@ use Rattle.miters.specs.Texts.{answer_text}
 use Rattle.miters.specs.Shown.{IsShown}
 use Rattle.miters.specs.Told.{is_equal}
 use Rattle.cyc_tool.specs.Answer.{verdict_of, IsAcceptedOutcome, IsGraphedByCases, IsRefusalOutcome, IsTooLarge, IsVerdictOutcome}
-use Rattle.cyc_tool.specs.Calls.{SinkCall, WriteFailed, Takes, IsMadeFor, IsWritten, Verdict, IsTold, Tells}
+use Rattle.plain_commands.specs.Sinks.{SinkCall, WriteFailed, Takes, IsTold, Tells}
+use Rattle.cyc_tool.specs.Calls.{IsMadeFor, IsWritten, Verdict}
 use Rattle.cyc_tool.specs.Causes.{IsHelped, IsHelpedBy, IsWithoutCommand, Leads, Reaches, IsFaulty, IsUnread, MeetsLimit, IsVerdict, IsStormed, HasFormByCases, HasGraphByCases, HasMade, HasWeakest, IsRefusedStill, AreToldEqual, IsDoneWith}
-use Rattle.cyc_tool.specs.Endings.{accepted_told, aiger_told, assumption_told, comparison_told, found_told, graph_text, refused_told}
-use Rattle.cyc_tool.specs.Storms.{events_of, events_told, storm_text}
-use Rattle.cyc_tool.specs.Plans.{PrintsBeside, Refuses, Declines, WantsRows, Decision, Comparison}
-use Rattle.cyc_tool.specs.Requests.{Request}
+use Rattle.cyc_tool.specs.Endings.{accepted_told, aiger_told, assumption_told, comparison_told, found_told, refused_told}
+use Rattle.plain_commands.specs.Texts.{graph_text}
+use Rattle.plain_commands.specs.Storms.{events_of, events_told, storm_text}
+use Rattle.plain_commands.specs.Plans.{PrintsBeside, Refuses, Declines, WantsRows, Decision, Comparison}
+use Rattle.plain_commands.specs.Requests.{Request}
 use Rattle.report.specs.Help.{help_text, topic_text, version_text}
 use Rattle.commands.specs.Words.{Decide, Assume, Equal, Flat, Loops, Sim, Delays, Demo, Help, HelpOn, Version, command_of}
 

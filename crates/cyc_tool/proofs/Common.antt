@@ -4,23 +4,17 @@ pub use Rattle.blif_write.specs.Written.{written}
 pub use Rattle.commands.specs.Seen.{cells_seen, options_seen, purpose_seen}
 pub use Rattle.commands.specs.Words.{Command, Demonstrates, Explains, Judges, Purpose, Rewrites, Storms, WritesGraph}
 pub use Rattle.commands.specs.declared.form.Form.{Form}
-pub use Rattle.parsed_files.specs.Faults.{IsErrorOf}
 pub use Rattle.parsed_files.specs.NetlistFiles.{netlist_of}
-pub use Rattle.parsed_files.specs.Seen.{error_seen}
 pub use Rattle.cyc_base.specs.Values.{bits}
 pub use Rattle.cyc_base.specs.declared.sig.Sig.{Sig}
-pub use Rattle.cyc_base.specs.declared.trit.Trit.{Trit}
 pub use Rattle.cyc_io.specs.Faults.{Counts}
 pub use Rattle.cyc_io.specs.Files.{Files}
-pub use Rattle.cyc_tool.specs.Answer.{told}
-pub use Rattle.cyc_tool.specs.Calls.{AreGiven, ComesTo, EndsAt, Follows, Found, IsCompared, IsDecided, IsSought, Limit, Runs, ShelfCall, Sought, Undecided, Unfinished, rest_of}
-pub use Rattle.cyc_tool.specs.Plans.{Assumes, Compares, Decides, Ending, Ends, Faulty, WantsMemory, Outgrows, Plan, Prints, Reads, plan_of, with_netlist, with_vectors}
-pub use Rattle.cyc_tool.specs.Plays.{delays_text, known, played}
-pub use Rattle.cyc_tool.specs.Reading.{GoesOn, StopsIn}
-pub use Rattle.cyc_tool.specs.Requests.{Shows}
-pub use Rattle.cyc_tool.specs.Seen.{end_of, outcome_of, stop_outcome}
-pub use Rattle.cyc_tool.specs.Texts.{Outcome, no_memory}
-pub use Rattle.delay_core.specs.declared.plan.Schedule.{Schedule}
+pub use Rattle.plain_commands.specs.Texts.{told, Outcome, no_memory}
+pub use Rattle.plain_commands.specs.Shelves.{AreGiven, ShelfCall, rest_of}
+pub use Rattle.cyc_tool.specs.Calls.{ComesOf, ComesTo, EndsAt, Follows, Found, IsCompared, IsDecided, IsSought, Limit, Runs, Sought, Undecided, Unfinished}
+pub use Rattle.plain_commands.specs.Plans.{Assumes, Compares, Decides, Ending, Ends, Faulty, WantsMemory, Outgrows, Plan, Prints, Reads, plan_of, with_netlist}
+pub use Rattle.plain_commands.specs.Requests.{Shows}
+pub use Rattle.plain_commands.specs.Seen.{end_of, outcome_of, stop_outcome}
 pub use Rattle.netlist.specs.Fixpoint.{fix}
 pub use Rattle.netlist.specs.Netlists.{IsNetlist}
 pub use Rattle.netlist.specs.declared.parts.Parts.{Parts}

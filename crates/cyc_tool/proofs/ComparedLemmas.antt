@@ -10,12 +10,11 @@ use Rattle.equal.specs.Bounds.{IsLimited}
 use Rattle.miters.specs.Shown.{ShowsItself}
 use Rattle.miters.specs.Told.{IsToldOf}
 use Rattle.miters.specs.declared.telling.Told.{Told}
-use Rattle.cyc_tool.specs.Answer.{told as done}
+use Rattle.plain_commands.specs.Texts.{told as done, limit_reached}
 use Rattle.cyc_tool.specs.Endings.{found_told}
-use Rattle.cyc_tool.specs.Plans.{Comparison}
+use Rattle.plain_commands.specs.Plans.{Comparison}
 use Rattle.cyc_tool.specs.Seen.{IsComparisonLimitOf}
-use Rattle.cyc_tool.specs.Texts.{limit_reached}
-use Rattle.cyc_tool.specs.declared.outcome.Outcome.{Outcome as OutcomeTold}
+use Rattle.plain_commands.specs.declared.outcome.Outcome.{Outcome as OutcomeTold}
 
 pub found_compares : (c : Comparison) (nodes : Arena) (told : Told) (end : Outcome) → end ≡ done (found_told told.equal told.text.items)
     → IsToldOf c.first c.second (found c.first c.second c.care) told → ShowsItself c.first c.second c.care → IsCompared c nodes end

@@ -40,11 +40,12 @@ use Rattle.verdict.specs.declared.verdict.Verdict.{Verdict}
 use Rattle.verdict.specs.declared.verdict.Verdict.TheVariants.{Accepted, Refused}
 use Rattle.cyc_tool.specs.Answer.{IsRefusalOutcome, IsVerdictOutcome}
 use Rattle.cyc_tool.specs.Calls.{IsAccepted, IsMadeFor, Verdict as ByVerdict}
-use Rattle.cyc_tool.specs.Endings.{accepted_told, aiger_told, count_of_loops, graph_text, loops_explained, where_outputs}
-use Rattle.cyc_tool.specs.Plans.{Decision, Declines}
-use Rattle.cyc_tool.specs.Seen.{IsLimitOf, IsOutgrown, IsRefusalTold, IsSaid, IsShown, IsTellable, IsToldRefusal, IsToldOf, IsToldOfGraph}
-use Rattle.cyc_tool.specs.Texts.{limit_reached}
-use Rattle.cyc_tool.specs.declared.outcome.Outcome.{Outcome as Told}
+use Rattle.cyc_tool.specs.Endings.{accepted_told, aiger_told, loops_explained, where_outputs}
+use Rattle.plain_commands.specs.Texts.{count_of_loops, graph_text, limit_reached}
+use Rattle.plain_commands.specs.Plans.{Decision, Declines}
+use Rattle.cyc_tool.specs.Seen.{IsLimitOf, IsOutgrown, IsRefusalTold, IsSaid, IsTellable, IsToldRefusal, IsToldOf, IsToldOfGraph}
+use Rattle.plain_commands.specs.Seen.{IsShown}
+use Rattle.plain_commands.specs.declared.outcome.Outcome.{Outcome as Told}
 
 abbrev pub decision_of : Parts → CareSet → ℕ → Observe → Decision
 decision_of net care limit what = record { net = net; care = care; limit = limit; observe = what }

@@ -11,7 +11,7 @@ use Rattle.explanations.specs.Explained.{Explains, IsUnknown}
 use Rattle.report.specs.Explanations.{IsExplanationOf}
 use Rattle.cyc_tool.specs.Answer.{IsWireExplained}
 use Rattle.cyc_tool.specs.Endings.{wire_explained}
-use Rattle.cyc_tool.specs.Plans.{Refuses}
+use Rattle.plain_commands.specs.Plans.{Refuses}
 
 -- an explanation speaks of gates and columns of its netlist
 pub fits_netlist : (net : Parts) (v : List Bool) (gate : ℕ) (why : Explanation) → length v ≡ columns net → Explains net v gate why → IsExplanationOf net why

@@ -3,7 +3,7 @@ use Rattle.std.proofs.Common.{◌≡◌, ◌⊎◌, ◌≤◌, ℕ, List, Some, 
 use Rattle.cyc_tool.proofs.Common.{Option, Counts, Files, Arena, Command, ShelfCall, ComesTo, Follows, plan_of, Shows, Outcome, no_memory}
 use Rattle.commands.specs.Words.{Decide, Assume, Equal, Flat, Loops, Sim, Delays, Demo, Help, HelpOn, Version}
 use Rattle.cyc_tool.specs.Calls.{KeepsNodes}
-use Rattle.cyc_tool.specs.Texts.{usage}
+use Rattle.plain_commands.specs.Texts.{usage}
 
 -- a call comes to what its command comes to, and words outside the grammar to the usage
 pub comes_to_command : (shows : Shows) (asked : Option Command) (command : Command) (shelf : ShelfCall) (nodes : Arena) (end : Outcome) → asked ≡ Some command

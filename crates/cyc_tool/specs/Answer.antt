@@ -17,23 +17,13 @@ use Rattle.refusals.specs.declared.refusal.Refusal.{Refusal}
 use Rattle.refusals.specs.declared.refusal.Refusal.TheVariants.{Undetermined}
 use Rattle.rewriting.specs.Graphs.{most_ands, IsGraphIn}
 use Rattle.rewriting.specs.Rewriting.{rewritten_size, IsLoopFreeForm}
-use Rattle.report.specs.Messages.{too_large_text, too_many_rows_text}
 use Rattle.commands.specs.Words.{command_of, Purpose, Rewrites, WritesGraph, Explains}
 use Rattle.commands.specs.declared.encoding.Encoding.{Encoding}
 use Rattle.commands.specs.declared.form.Form.{Form}
 use Rattle.cyc_tool.specs.Endings.{accepted_told, aiger_told, refused_told, wire_explained, assumption_told, comparison_told}
-use Rattle.cyc_tool.specs.Plans.{Ending, Prints, PrintsBeside, Refuses, Declines, Outgrows, WantsRows, Decision, Comparison, Plan, Reads, Faulty, WantsMemory, Ends, Decides, Assumes, Compares, plan_of}
-use Rattle.cyc_tool.specs.Requests.{Request}
-use Rattle.cyc_tool.specs.Texts.{Outcome, on_out, on_both, on_err, usage, has_fault, no_memory, read_failed}
-
--- the outcome of an ending
-abbrev pub told : Ending → Outcome
-told (Prints text) = on_out 0 text
-told (PrintsBeside text lines) = on_both 0 text lines
-told (Refuses text) = on_out 1 text
-told (Declines text) = on_err 1 text
-told (Outgrows size) = on_err 8 (too_large_text size)
-told (WantsRows most) = on_err 8 (too_many_rows_text most)
+use Rattle.plain_commands.specs.Plans.{Prints, Refuses, Outgrows, Decision, Comparison, Plan, Reads, Faulty, WantsMemory, Ends, Decides, Assumes, Compares, plan_of}
+use Rattle.plain_commands.specs.Requests.{Request}
+use Rattle.plain_commands.specs.Texts.{Outcome, usage, has_fault, no_memory, read_failed}
 
 -- what refuses the netlist of a decision, if anything does
 abbrev pub verdict_of : Decision → Option Refusal

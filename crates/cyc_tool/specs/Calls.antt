@@ -1,12 +1,6 @@
 -- What a call of `run` did with its shelf and its sinks.
-use Rattle.std.specs.Prelude.{◌≡◌, ◌≢◌, ◌≤◌, ◌⊎◌, ℕ, List, [], ◌∷◌, length, All, Some, None, Ok, IfOk}
+use Rattle.std.specs.Prelude.{◌≡◌, ◌≤◌, ◌⊎◌, ℕ, [], length, All, Some, None, Ok}
 use Rattle.std.specs.declared.option.Option.{Option}
-use Rattle.std.specs.List.{AllByRecursion}
-use Rattle.std.specs.Io.KnownBytes.{Appends}
-use Rattle.cyc_io.specs.Faults.{Rose, Counts}
-use Rattle.cyc_io.specs.Files.{Files, IsFile}
-pub use Rattle.cyc_io.specs.Taken.{SinkCall, sink_call}
-use Rattle.cyc_io.specs.Taken.{AppendsPrefix}
 use Rattle.assumptions.specs.Limits.{RunsOutOfNodes}
 use Rattle.assumptions.specs.declared.assumption.Assumption.{Assumption}
 use Rattle.assumptions.specs.declared.assumption.Assumption.TheVariants.{Stands, Weakest}
@@ -20,76 +14,19 @@ use Rattle.diagram_decision.specs.Enough.{IsBelowEnough}
 use Rattle.commands.specs.Words.{Decide, Command, Assume, Equal, Demo, command_of, Purpose, Judges, Rewrites, WritesGraph, Explains, Demonstrates, Storms}
 use Rattle.parsed_files.specs.CareFiles.{care_of}
 use Rattle.parsed_files.specs.CareTexts.{AreNamed, models_of}
-use Rattle.parsed_files.specs.NetlistFiles.{netlist_of}
 use Rattle.cyc_base.specs.declared.limits.TheConstants.{MAX_FILE_BYTES, MAX_REWRITTEN_ITEMS}
 use Rattle.refusals.specs.declared.refusal.Refusal.{Refusal}
 use Rattle.equal.specs.Bounds.{IsLimited as IsComparisonLimited}
 use Rattle.miters.specs.Shown.{ShowsItself}
 use Rattle.rewriting.specs.Graphs.{graph_of, most_ands, IsGraphing}
 use Rattle.rewriting.specs.Rewriting.{rewritten, rewritten_size, IsRewriting}
-use Rattle.cyc_tool.specs.Answer.{told, verdict_of, IsAcceptedOutcome, IsVerdictOutcome, IsAssumed, compared}
+use Rattle.plain_commands.specs.Plans.{Decision, Comparison, Plan, Decides, Assumes, Compares, plan_of}
+use Rattle.plain_commands.specs.Requests.{Request, Shows}
+use Rattle.plain_commands.specs.Shelves.{ShelfCall, ChangesCountsOf, EndsBy, FollowsBy}
+use Rattle.plain_commands.specs.Sinks.{SinkCall, Tells}
+use Rattle.plain_commands.specs.Texts.{Outcome, usage, limit_reached, no_memory}
+use Rattle.cyc_tool.specs.Answer.{verdict_of, IsAcceptedOutcome, IsVerdictOutcome, IsAssumed, compared}
 use Rattle.cyc_tool.specs.Endings.{care_text}
-use Rattle.cyc_tool.specs.Plans.{Role, Netlist, Care, Vectors, Recorded, Decision, Comparison, Plan, Reads, Faulty, WantsMemory, Ends, Decides, Assumes, Compares, plan_of}
-use Rattle.cyc_tool.specs.Requests.{Request, Shows}
-use Rattle.cyc_tool.specs.Texts.{Outcome, usage, has_fault, read_failed, limit_reached, no_memory}
-
--- a shelf over a call: its files, where it tells them, and its counts of faults before and after
-pub record ShelfCall : Type 0 where
-  pub files : Option Files
-  pub before : Counts
-  pub now : Counts
-
-abbrev pub shelf_call : {S : Type 0} → (S → Option Files) → (S → Counts) → S → S → ShelfCall
-shelf_call files faults old new = record { files = files old; before = faults old; now = faults new }
-
--- the count of this name rose
-abbrev pub ReadFailed : ShelfCall → List ℕ → Type 0
-ReadFailed shelf name = Rose (shelf.before name) (shelf.now name)
-
-abbrev pub WriteFailed : SinkCall → Type 0
-WriteFailed sink = Rose sink.before sink.now
-
--- no count fell, and none changed but those of these names
-pub record ChangesCountsOf (names : List (List ℕ)) (shelf : ShelfCall) : Type 0 where
-  pub later : (other : List ℕ) → shelf.before other ≤ shelf.now other
-  pub others : (other : List ℕ) → AllByRecursion (λ name. other ≢ name) names → shelf.now other ≡ shelf.before other
-
-abbrev pub Takes : SinkCall → List ℕ → Type 0
-Takes sink text = Appends sink.old sink.new text
-
-abbrev pub TakesPrefix : SinkCall → List ℕ → Type 0
-TakesPrefix sink text = AppendsPrefix sink.old sink.new text
-
--- A netlist that a file has meets all conditions of one.
-abbrev pub IsSound : Role → List ℕ → Type 0
-IsSound Netlist bytes = IfOk (netlist_of bytes) IsNetlist
-IsSound Care bytes = Unit {0}
-IsSound Vectors bytes = Unit {0}
-IsSound Recorded bytes = Unit {0}
-
--- What is given for the files of a plan in order, each text once: a real file may change between two reads. These are
--- the bytes of the files that a shelf tells.
-abbrev pub AreGiven : Option Files → List (List ℕ) → Plan → Type 0
-AreGiven files [] plan = Unit {0}
-AreGiven files (bytes ∷ given) (Reads role name next) = IsFile files name bytes × IsSound role bytes × AreGiven files given (next bytes)
-AreGiven files (bytes ∷ given) (Faulty name fault) = ⊥
-AreGiven files (bytes ∷ given) WantsMemory = ⊥
-AreGiven files (bytes ∷ given) (Ends ending) = ⊥
-AreGiven files (bytes ∷ given) (Decides decision purpose) = ⊥
-AreGiven files (bytes ∷ given) (Assumes decision) = ⊥
-AreGiven files (bytes ∷ given) (Compares c) = ⊥
-
--- what is left of a plan behind these texts
-abbrev pub rest_of : List (List ℕ) → Plan → Plan
-rest_of [] plan = plan
-rest_of (bytes ∷ given) (Reads role name next) = rest_of given (next bytes)
-rest_of (bytes ∷ given) plan = plan
-
--- the names of the files that gave these texts, and of the one that is next
-abbrev pub names_read : List (List ℕ) → Plan → List (List ℕ)
-names_read [] (Reads role name next) = name ∷ []
-names_read (bytes ∷ given) (Reads role name next) = name ∷ names_read given (next bytes)
-names_read given plan = []
 
 -- The diagrams are full, or a cover is too large for them, and the limit is below what is enough.
 pub record IsLimited (decision : Decision) (nodes : Arena) : Type 0 where
@@ -156,23 +93,21 @@ pub data IsCompared (c : Comparison) (nodes : Arena) (end : Outcome) : Type 0 wh
   Found : end ≡ compared c → ShowsItself c.first c.second c.care → IsCompared c nodes end
   Unfinished : IsComparisonLimited nodes c.first c.second c.care c.limit → end ≡ limit_reached c.limit → IsCompared c nodes end
 
+-- what comes of a decision, of a search for an assumption and of a comparison, as these diagrams show
+abbrev pub ComesOf : Arena → Plan → Outcome → Type 0
+ComesOf nodes (Decides decision purpose) end = IsNetlist decision.net × IsDecided decision purpose nodes end
+ComesOf nodes (Assumes decision) end = IsNetlist decision.net × IsSought decision nodes end
+ComesOf nodes (Compares c) end = IsCompared c nodes end
+ComesOf nodes plan end = ⊥
+
 -- how a call ends at what is left of its plan
 abbrev pub EndsAt : ShelfCall → Arena → Outcome → Plan → Type 0
-EndsAt shelf nodes end (Reads role name next) = ReadFailed shelf name × (end ≡ read_failed name)
-EndsAt shelf nodes end (Faulty name fault) = end ≡ has_fault name fault
-EndsAt shelf nodes end WantsMemory = ⊥
-EndsAt shelf nodes end (Ends ending) = end ≡ told ending
-EndsAt shelf nodes end (Decides decision purpose) = IsNetlist decision.net × IsDecided decision purpose nodes end
-EndsAt shelf nodes end (Assumes decision) = IsNetlist decision.net × IsSought decision nodes end
-EndsAt shelf nodes end (Compares c) = IsCompared c nodes end
+EndsAt shelf nodes end plan = EndsBy (ComesOf nodes) shelf end plan
 
 -- A call went along a plan to this outcome, by what the shelf gave and these diagrams show, or it wants memory. It
 -- read no file but those of the plan, in its order.
-pub record Follows (plan : Plan) (shelf : ShelfCall) (nodes : Arena) (end : Outcome) : Type 0 where
-  pub given : List (List ℕ)
-  pub gave : AreGiven shelf.files given plan
-  pub counts : ChangesCountsOf (names_read given plan) shelf
-  pub ends : EndsAt shelf nodes end (rest_of given plan) ⊎ (end ≡ no_memory)
+abbrev pub Follows : Plan → ShelfCall → Arena → Outcome → Type 0
+Follows plan shelf nodes end = FollowsBy (ComesOf nodes) plan shelf end
 
 -- Words outside the grammar come to the usage, and nothing is read.
 pub record ComesToUsage (shelf : ShelfCall) (end : Outcome) : Type 0 where
@@ -190,25 +125,6 @@ KeepsNodes (Some (Assume file options)) before now = Unit {0}
 KeepsNodes (Some (Equal file second options)) before now = Unit {0}
 KeepsNodes (Some (Demo cells)) before now = Unit {0}
 KeepsNodes other before now = now ≡ before
-
--- This was told whole.
-pub record IsTold (end : Outcome) (out err : SinkCall) (status : ℕ) : Type 0 where
-  pub is : status ≡ end.status
-  pub out_text : Takes out end.out
-  pub err_text : Takes err end.err
-
--- A write failed: the status is 5, and each sink took a prefix of its text. Out is written first, so err took nothing
--- where out isn't whole.
-pub record IsCutOff (end : Outcome) (out err : SinkCall) (status : ℕ) : Type 0 where
-  pub is : status ≡ 5
-  pub cause : WriteFailed out ⊎ WriteFailed err
-  pub out_text : TakesPrefix out end.out
-  pub err_text : TakesPrefix err end.err
-  pub in_order : Takes out end.out ⊎ Takes err []
-
--- Status 5 takes the place of any other.
-abbrev pub Tells : Outcome → SinkCall → SinkCall → ℕ → Type 0
-Tells end out err status = IsTold end out err status ⊎ IsCutOff end out err status
 
 -- the theorem of a run, from which all the others follow
 pub record Runs (request : Request) (shelf : ShelfCall) (nodes : Arena) (out err : SinkCall) (status : ℕ) : Type 0 where

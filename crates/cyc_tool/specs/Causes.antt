@@ -21,19 +21,21 @@ use Rattle.commands.specs.Words.{Command, Help, HelpOn, Version, command_of, Pur
 use Rattle.cyc_base.specs.declared.sig.Sig.{Sig}
 use Rattle.storm.specs.Laws.{PlaysAsStorm}
 use Rattle.storm.specs.Storms.{storm_of}
-use Rattle.cyc_tool.specs.Storms.{storm_text}
+use Rattle.plain_commands.specs.Storms.{storm_text}
 use Rattle.miters.specs.Matching.{unmatched}
 use Rattle.equal.specs.Bounds.{IsEnoughForBoth, IsLimited as IsComparisonLimited}
 use Rattle.miters.specs.Runs.{RunAlike}
 use Rattle.miters.specs.Shown.{ShowsItself}
 use Rattle.rewriting.specs.Graphs.{graph_of, IsGraphIn, IsGraphing}
 use Rattle.rewriting.specs.Rewriting.{rewritten, IsLoopFreeForm, IsRewriting}
-use Rattle.cyc_tool.specs.Answer.{told, verdict_of, IsVerdictOutcome, IsAssumed, compared, IsAnswer}
-use Rattle.cyc_tool.specs.Calls.{ShelfCall, SinkCall, ReadFailed, WriteFailed, Takes, AreGiven, rest_of, IsLimited, IsSearchLimited, IsCareFile, IsTold}
-use Rattle.cyc_tool.specs.Endings.{accepted_told, care_text, graph_text}
-use Rattle.cyc_tool.specs.Plans.{Decision, Comparison, Plan, Reads, Faulty, Ends, Decides, Assumes, Compares, plan_of}
-use Rattle.cyc_tool.specs.Requests.{Request}
-use Rattle.cyc_tool.specs.Texts.{Outcome, no_memory}
+use Rattle.plain_commands.specs.Texts.{told, graph_text, Outcome, no_memory}
+use Rattle.cyc_tool.specs.Answer.{verdict_of, IsVerdictOutcome, IsAssumed, compared, IsAnswer}
+use Rattle.plain_commands.specs.Shelves.{ShelfCall, ReadFailed, AreGiven, rest_of}
+use Rattle.plain_commands.specs.Sinks.{SinkCall, WriteFailed, Takes, IsTold}
+use Rattle.cyc_tool.specs.Calls.{IsLimited, IsSearchLimited, IsCareFile}
+use Rattle.cyc_tool.specs.Endings.{accepted_told, care_text}
+use Rattle.plain_commands.specs.Plans.{Decision, Comparison, Plan, Reads, Faulty, Ends, Decides, Assumes, Compares, plan_of}
+use Rattle.plain_commands.specs.Requests.{Request}
 
 -- Words outside the grammar get their status, unless a write failed or memory ran out.
 abbrev pub IsWithoutCommand : Option Command → ℕ → Type 0

@@ -1,6 +1,6 @@
 -- What a call ends with that makes a decision, by its verdict: nothing, or what refuses the netlist. And what one ends
 -- with that looks for an assumption, or compares two netlists.
-use Rattle.std.specs.Prelude.{ℕ, ◌+◌, ◌++◌, Bool, true, false, List, [], length, nat_le, if◌then◌else◌, Some, None}
+use Rattle.std.specs.Prelude.{ℕ, ◌+◌, ◌++◌, Bool, true, false, List, length, nat_le, if◌then◌else◌, Some, None}
 use Rattle.std.specs.declared.option.Option.{Option}
 use Rattle.cyc_base.specs.declared.limits.TheConstants.{MAX_REWRITTEN_ITEMS}
 use Rattle.cyc_base.specs.declared.sig.Sig.{Sig}
@@ -13,15 +13,12 @@ use Rattle.dot_text.specs.RefusalGraphs.{refusal_graph}
 use Rattle.explanations.specs.declared.explanation.Explanation.{Explanation}
 use Rattle.netlist.specs.Fixpoint.{fix}
 use Rattle.netlist.specs.declared.parts.Parts.{Parts}
-use Rattle.loops.specs.Listed.{first_gates}
 use Rattle.assumptions.specs.declared.assumption.Assumption.{Assumption}
 use Rattle.assumptions.specs.declared.assumption.Assumption.TheVariants.{Stands, Weakest, Refused, TooManyRows, TooLarge}
 use Rattle.assumptions.specs.declared.search.TheConstants.{MAX_ROWS}
 use Rattle.blif_write.specs.Written.{models_written, written}
 use Rattle.aig_core.specs.declared.building.Built.{Built}
-use Rattle.aig_core.specs.Text.{aiger_text, binary_text}
 use Rattle.commands.specs.declared.encoding.Encoding.{Encoding}
-use Rattle.commands.specs.declared.encoding.Encoding.TheVariants.{Ascii, Binary}
 use Rattle.parsed_files.specs.CareTexts.{models_of}
 use Rattle.refusals.specs.Refusals.{loose_gates}
 use Rattle.refusals.specs.declared.observe.Observe.{Observe}
@@ -32,13 +29,13 @@ use Rattle.accepted_loops.specs.Graphs.{told_graph}
 use Rattle.accepted_loops.specs.Lines.{told_loops}
 use Rattle.report.specs.Explanations.{explanation_text}
 use Rattle.report.specs.Verdicts.{accepted_text, refusal_text, ring_line}
-use Rattle.storm.specs.Storms.{most_events}
 use Rattle.rewriting.specs.Graphs.{graph_of, most_ands}
 use Rattle.rewriting.specs.Rewriting.{rewritten, rewritten_size, sweeps_needed}
 use Rattle.miters.specs.Told.{are_equal, found_text}
 use Rattle.commands.specs.Words.{Purpose, Judges, Rewrites, WritesGraph, Explains, Demonstrates, Storms}
-use Rattle.cyc_tool.specs.Plans.{Ending, Prints, Refuses, Declines, Outgrows, WantsRows, Decision, Comparison}
-use Rattle.cyc_tool.specs.Storms.{events_of, events_told, storm_text}
+use Rattle.plain_commands.specs.Plans.{Ending, Prints, Refuses, Declines, Outgrows, WantsRows, Decision, Comparison}
+use Rattle.plain_commands.specs.Storms.{storm_or_refusal}
+use Rattle.plain_commands.specs.Texts.{count_of_loops, graph_text}
 
 -- a number that is told only where the outputs alone are observed
 abbrev pub where_outputs : Observe → ℕ → Option ℕ
@@ -49,20 +46,12 @@ where_outputs Outputs number = Some number
 abbrev pub loose_told : Decision → Option ℕ
 loose_told decision = where_outputs decision.observe (length (loose_gates decision.net decision.care))
 
-abbrev pub count_of_loops : Parts → ℕ
-count_of_loops net = length (first_gates net)
-
 -- the rewritten netlist, unless it has too many gates and latches
 abbrev pub rewritten_told : Decision → Ending
 rewritten_told decision =
     if nat_le (rewritten_size decision.net decision.care) MAX_REWRITTEN_ITEMS
     then Prints (written (rewritten decision.net decision.care))
     else Outgrows (rewritten_size decision.net decision.care)
-
--- the text of a netlist's graph, in a form of AIGER
-abbrev pub graph_text : Encoding → Parts → Built → List ℕ
-graph_text Ascii = aiger_text
-graph_text Binary = binary_text
 
 -- a graph of a netlist, unless it has too many ANDs. They aren't counted further than to the first that is too many
 abbrev pub aiger_told : Encoding → Parts → Built → Ending
@@ -75,16 +64,6 @@ graph_told encoding decision =
     if nat_le (rewritten_size decision.net decision.care) MAX_REWRITTEN_ITEMS
     then aiger_told encoding (rewritten decision.net decision.care) (graph_of decision.net decision.care)
     else Outgrows (rewritten_size decision.net decision.care)
-
--- the storm of a vector, unless it has too many events
-abbrev pub storm_told : Parts → ℕ → List Bool → Ending
-storm_told net rounds v =
-    if nat_le (events_of net v rounds) most_events then Prints (storm_text net v rounds) else Outgrows (events_told (events_of net v rounds))
-
--- only a refused wire has a storm
-abbrev pub storm_or_refusal : Parts → ℕ → Refusal → Ending
-storm_or_refusal net rounds (Undetermined v wire) = storm_told net rounds v
-storm_or_refusal net rounds refused = Declines (refusal_text net refused)
 
 -- The line of an accepted netlist, and behind it those of its loops, with the sweeps that they need on care. As a graph
 -- the first is the label.

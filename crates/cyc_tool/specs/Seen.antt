@@ -1,6 +1,5 @@
 -- How clauses see the values of the code.
 use Rattle.std.specs.Prelude.{◌≡◌, ◌+◌, Ok, Err, length}
-use Rattle.std.specs.declared.alloc.AllocError.{AllocError}
 use Rattle.std.specs.declared.result.Result.{Result}
 use Rattle.netlist.specs.declared.parts.Parts.{Parts}
 use Rattle.aig_core.specs.declared.building.Built.{Built}
@@ -20,7 +19,8 @@ use Rattle.refusals.specs.declared.refusal.Refusal.TheVariants.{Undetermined}
 use Rattle.cyc_base.specs.declared.trit.Trit.TheVariants.{X}
 use Rattle.cyc_base.specs.Values.{bits}
 use Rattle.netlist.specs.Fixpoint.{fix, wire as wire_of}
-use Rattle.cyc_tool.specs.Endings.{graph_text, refused_told}
+use Rattle.plain_commands.specs.Texts.{graph_text, told as done}
+use Rattle.cyc_tool.specs.Endings.{refused_told}
 use Rattle.unroll.specs.declared.fault.UnrollFault.{UnrollFault}
 use Rattle.unroll.specs.declared.fault.UnrollFault.TheVariants.{TooLarge, Memory as NoMemory}
 use Rattle.rewriting.specs.Graphs.{most_ands}
@@ -32,15 +32,11 @@ use Rattle.diagram_decision.specs.declared.judgement.Judgement.{Judgement}
 use Rattle.diagram_decision.specs.declared.judgement.Judgement.TheVariants as judgements
 use Rattle.verdict.specs.declared.verdict.Verdict.{Verdict}
 use Rattle.verdict.specs.declared.verdict.Verdict.TheVariants.{Accepted, Refused}
-use Rattle.cyc_tool.specs.Answer.{told as done, IsWireExplained}
-use Rattle.cyc_tool.specs.Plans as plans
-use Rattle.cyc_tool.specs.Texts as texts
-use Rattle.cyc_tool.specs.declared.outcome.Outcome.{Outcome}
-use Rattle.cyc_tool.specs.declared.outcome.Stop.{Stop}
-use Rattle.cyc_tool.specs.declared.outcome.Stop.TheVariants.{At, Memory}
-
-abbrev pub outcome_of : Outcome → texts.Outcome
-outcome_of told = record { status = told.status; out = told.out.items; err = told.err.items }
+use Rattle.cyc_tool.specs.Answer.{IsWireExplained}
+use Rattle.plain_commands.specs.Plans as plans
+use Rattle.plain_commands.specs.Texts as texts
+use Rattle.plain_commands.specs.declared.outcome.Outcome.{Outcome}
+use Rattle.plain_commands.specs.Seen.{outcome_of, IsShown}
 
 -- what is told of a netlist that isn't made: its size
 abbrev pub IsOutgrown : UnrollFault → Outcome → Type 0
@@ -82,11 +78,6 @@ abbrev pub IsComparisonLimitOf : EqualFault → Outcome → Type 0
 IsComparisonLimitOf (PairLimit nodes) told = outcome_of told ≡ texts.limit_reached nodes
 IsComparisonLimitOf NoPair told = ⊥
 
--- the wire of a refusal is unknown at its vector
-abbrev pub IsShown : Parts → Refusal → Type 0
-IsShown net (Undetermined v wire) = wire_of (fix net (bits v)) wire ≡ X
-IsShown net refused = Unit {0}
-
 -- a refusal that can be told of a netlist: it has the netlist's widths and a wire that is unknown
 abbrev pub IsToldRefusal : Parts → Refusal → Type 0
 IsToldRefusal net refused = IsRefusalOf net refused × IsShown net refused
@@ -107,21 +98,3 @@ abbrev pub IsTellableAssumption : Parts → Assumption → Type 0
 IsTellableAssumption net (assumptions.Weakest stronger) = IsCareOf net stronger
 IsTellableAssumption net (assumptions.Refused refused) = IsRefusalOf net refused
 IsTellableAssumption net answer = Unit {0}
-
--- want of memory
-abbrev pub no_memory : Stop
-no_memory = Memory
-
-abbrev pub stop_outcome : Stop → texts.Outcome
-stop_outcome (At told) = outcome_of told
-stop_outcome Memory = texts.no_memory
-
--- the outcome to which a call comes
-abbrev pub end_of : Result Outcome Stop → texts.Outcome
-end_of (Ok told) = outcome_of told
-end_of (Err stop) = stop_outcome stop
-
--- how a call ends with what is told, or for want of memory
-abbrev pub EndsAs : Result Outcome AllocError → texts.Outcome → Type 0
-EndsAs (Ok told) end = end ≡ outcome_of told
-EndsAs (Err lacks) end = end ≡ texts.no_memory

@@ -1,5 +1,6 @@
 // The weakest assumption under which a netlist is accepted.
 ghost use Rattle.std.specs.Prelude.{◌≡◌, ◌≤◌, ◌++◌, IfOk, OnOk, option_copied};
+ghost use Rattle.assumptions.specs.declared.search.TheConstants.{MAX_ROWS as most_rows};
 ghost use Rattle.blif_write.specs.Laws.{EachReadsBack, FitOneText};
 ghost use Rattle.blif_write.specs.Written.{models_written};
 ghost use Rattle.care_sets.specs.Binding.{IsCare, IsCareOf};
@@ -9,18 +10,16 @@ ghost use Rattle.cyc_io.specs.Text.{text_bytes};
 ghost use Rattle.netlist.specs.Netlists.{IsNetlist};
 ghost use Rattle.netlist.specs.declared.parts.Parts.{Parts};
 ghost use Rattle.parsed_files.specs.CareTexts.{listed, models_of};
-ghost use Rattle.cyc_tool.specs.Answer.{told as done};
-ghost use Rattle.cyc_tool.specs.Calls.{shelf_call, Follows, IsCareFile, IsSought, IsWritten};
+ghost use Rattle.plain_commands.specs.Texts.{told as done};
+ghost use Rattle.plain_commands.specs.Shelves.{shelf_call};
+ghost use Rattle.cyc_tool.specs.Calls.{Follows, IsCareFile, IsSought, IsWritten};
 ghost use Rattle.cyc_tool.specs.Endings.{assumption_told, care_text};
-ghost use Rattle.cyc_tool.specs.Plans.{Prints, assuming};
-ghost use Rattle.cyc_tool.specs.Seen.{IsTellableAssumption, end_of, outcome_of};
+ghost use Rattle.plain_commands.specs.Plans.{Prints, WantsRows, assuming};
+ghost use Rattle.cyc_tool.specs.Seen.{IsTellableAssumption};
+ghost use Rattle.plain_commands.specs.Seen.{end_of, outcome_of};
 
 use crate::decision::tell_limited;
-use crate::outcome::{Outcome, Stop, or_stop};
-use crate::reading::{read_care, read_netlist};
-use crate::status;
-use crate::texts::{on_out, tell_declined, tell_too_large, tell_too_many_rows};
-use assumptions::{Assumption, weakest_assumption};
+use assumptions::{Assumption, MAX_ROWS, weakest_assumption};
 use bdd_ops::Diagrams;
 use blif_write::write_models;
 use care_sets::Care;
@@ -30,7 +29,12 @@ use cyc_io::{Failed, Shelf, TextSink};
 use feedback_cuts::find_cut;
 use loops::{LoopedNetlist, find_blocks};
 use netlist::Netlist;
+use plain_commands::{
+    Outcome, Stop, on_err, on_out, or_stop, read_care, read_netlist, status, tell_declined,
+    tell_too_large,
+};
 use refusals::Observe;
+use report::put_too_many_rows;
 use std::alloc::{AllocError, Global};
 
 // Appends care models, the assumption first.
@@ -67,6 +71,17 @@ fn tell_care(alloc: Global, care: &Care) -> Result<Outcome, AllocError>
     let mut sink = TextSink::new(alloc);
     match put_care(care, &mut sink) {
         Ok(()) => Ok(on_out(alloc, status::DONE, sink.into_vec())),
+        Err(_) => Err(AllocError),
+    }
+}
+
+// That an assumption would have too many rows.
+fn tell_too_many_rows(alloc: Global) -> Result<Outcome, AllocError>
+    ensures { IfOk result (λ told. outcome_of told ≡ done (WantsRows most_rows)) }
+{
+    let mut sink = TextSink::new(alloc);
+    match put_too_many_rows(MAX_ROWS as u32, &mut sink) {
+        Ok(()) => Ok(on_err(alloc, status::TOO_LARGE, sink.into_vec())),
         Err(_) => Err(AllocError),
     }
 }

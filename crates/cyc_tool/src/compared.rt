@@ -3,16 +3,14 @@ ghost use Rattle.std.specs.Prelude.{◌≡◌, ◌≤◌, IfOk};
 ghost use Rattle.care_sets.specs.Binding.{IsCareOf};
 ghost use Rattle.commands.specs.Seen.{options_seen};
 ghost use Rattle.cyc_base.specs.declared.limits.TheConstants.{MAX_NODES as most_nodes};
-ghost use Rattle.cyc_tool.specs.Calls.{shelf_call, Follows, IsCompared};
-ghost use Rattle.cyc_tool.specs.Answer.{told as done};
+ghost use Rattle.plain_commands.specs.Shelves.{shelf_call};
+ghost use Rattle.cyc_tool.specs.Calls.{Follows, IsCompared};
+ghost use Rattle.plain_commands.specs.Texts.{told as done};
 ghost use Rattle.cyc_tool.specs.Endings.{found_told};
-ghost use Rattle.cyc_tool.specs.Plans.{comparing};
-ghost use Rattle.cyc_tool.specs.Seen.{IsComparisonLimitOf, end_of, outcome_of};
+ghost use Rattle.plain_commands.specs.Plans.{comparing};
+ghost use Rattle.cyc_tool.specs.Seen.{IsComparisonLimitOf};
+ghost use Rattle.plain_commands.specs.Seen.{end_of, outcome_of};
 
-use crate::outcome::{Outcome, Stop, or_stop};
-use crate::reading::{read_care, read_netlist};
-use crate::status;
-use crate::texts::{on_out, tell_limit};
 use bdd_ops::Diagrams;
 use care_sets::Care;
 use commands::Options;
@@ -21,6 +19,7 @@ use cyc_io::Shelf;
 use equal::{EqualFault, tell_equality};
 use miters::Told;
 use netlist::Netlist;
+use plain_commands::{Outcome, Stop, on_out, or_stop, read_care, read_netlist, status, tell_limit};
 use std::alloc::{AllocError, Global};
 
 // What was found of two netlists.

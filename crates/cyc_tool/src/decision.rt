@@ -18,21 +18,15 @@ ghost use Rattle.rewriting.specs.Graphs.{most_columns};
 ghost use Rattle.rewriting.specs.Rewriting.{rewritten as rewritten_netlist, rewritten_size as rewritten_size_of, IsCountedOnCare, IsRewriting};
 ghost use Rattle.diagram_decision.specs.Judgements.{AreLoose, IsJudgement};
 ghost use Rattle.verdict.specs.Verdicts.{IsAcceptance, IsVerdict};
-ghost use Rattle.cyc_tool.specs.Answer.{told as done};
+ghost use Rattle.plain_commands.specs.Texts.{told as done, count_of_loops};
 ghost use Rattle.cyc_tool.specs.Calls.{IsAccepted, IsDecided};
-ghost use Rattle.cyc_tool.specs.Endings.{count_of_loops, where_outputs};
-ghost use Rattle.cyc_tool.specs.Plans.{Declines, Prints};
-ghost use Rattle.cyc_tool.specs.Seen.{IsLimitOf, IsOutgrown, IsOverfull, IsRefusalTold, IsSaid, IsShown, IsTellable, IsToldOf, IsToldOfGraph, outcome_of};
+ghost use Rattle.cyc_tool.specs.Endings.{where_outputs};
+ghost use Rattle.plain_commands.specs.Plans.{Declines, Prints};
+ghost use Rattle.cyc_tool.specs.Seen.{IsLimitOf, IsOutgrown, IsOverfull, IsRefusalTold, IsSaid, IsTellable, IsToldOf, IsToldOfGraph};
+ghost use Rattle.plain_commands.specs.Seen.{IsShown, outcome_of};
 
 use crate::explained::{tell_explained, tell_loops_explained};
-use crate::outcome::Outcome;
 use crate::split::{tell_graphed_in, tell_rewritten_in};
-use crate::status;
-use crate::storms::tell_storm;
-use crate::texts::{
-    accepted_line, number_of_loops, on_err, on_out, tell_aiger, tell_declined, tell_limit,
-    tell_netlist, tell_refused, tell_too_large,
-};
 use bdd_ops::Diagrams;
 use care_sets::Care;
 use commands::{Cells, Encoding, Making, Purpose, Telling};
@@ -40,6 +34,10 @@ use cyc_io::TextSink;
 use feedback_cuts::find_cut;
 use loops::{LoopedNetlist, find_blocks};
 use netlist::Netlist;
+use plain_commands::{
+    Outcome, accepted_line, number_of_loops, on_err, on_out, status, tell_aiger, tell_declined,
+    tell_limit, tell_netlist, tell_refused, tell_storm, tell_too_large,
+};
 use refusals::{Observe, Refusal};
 use report::put_ring;
 use rewriting::{AigFault, Built, graph, rewrite, rewritten_gates};

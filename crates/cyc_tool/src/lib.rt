@@ -1,6 +1,6 @@
 //! The tool over any shelf and any sinks: from words and files to a status and two texts.
 //!
-//! It stands on what reads files, decides, compares, plays and rewrites. The program uses `run`, whose clause `runs`
+//! It stands on `plain_commands`, and on what decides, compares and rewrites. The program uses `run`, whose clause `runs`
 //! says that the call gives an answer of its words (`specs/Answer.antt`) at what the shelf gave, met the limit of
 //! nodes, wants memory, or that a read or a write failed.
 #![tactic(auto)]
@@ -9,16 +9,10 @@ mod assumed;
 mod compared;
 mod decision;
 mod explained;
-mod outcome;
-mod plays;
-mod reading;
 mod ring;
-mod sim_lines;
 mod split;
-pub mod status;
-mod storms;
-mod texts;
 mod top;
 
+pub use plain_commands::status;
 pub use report::{NO_MEMORY_TEXT, USAGE_TEXT};
 pub use top::run;

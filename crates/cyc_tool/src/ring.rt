@@ -1,5 +1,5 @@
 // The ring arbiter of so many cells, decided as a file is.
-ghost use Rattle.std.specs.Prelude.{◌≡◌, ◌≤◌, Ok, IfOk, IfErr, length};
+ghost use Rattle.std.specs.Prelude.{◌≡◌, ◌≤◌, Ok, IfOk, IfErr};
 ghost use Rattle.care_sets.specs.Binding.{IsCareOf};
 ghost use Rattle.commands.specs.Seen.{cells_seen};
 ghost use Rattle.parsed_files.specs.CareFiles.{care_of as care_meant};
@@ -8,13 +8,12 @@ ghost use Rattle.maker.specs.Faults.{AreTexts};
 ghost use Rattle.maker.specs.Ring.{ring_text, care_text};
 ghost use Rattle.netlist.specs.Netlists.{IsNetlist, columns};
 ghost use Rattle.rewriting.specs.Graphs.{most_columns};
-ghost use Rattle.cyc_tool.specs.Plans.{ring_care_file, ring_deciding, ring_deciding_on, ring_file};
-ghost use Rattle.cyc_tool.specs.Reading.{FollowsStill, IsStoppedBy};
-ghost use Rattle.cyc_tool.specs.Seen.{end_of, stop_outcome};
+ghost use Rattle.cyc_tool.specs.Calls.{ComesOf};
+ghost use Rattle.plain_commands.specs.Plans.{ring_care_file, ring_deciding, ring_deciding_on, ring_file};
+ghost use Rattle.plain_commands.specs.Reading.{FollowsStill, IsStoppedBy};
+ghost use Rattle.plain_commands.specs.Seen.{end_of, stop_outcome};
 
 use crate::decision::{Task, tell_decision};
-use crate::outcome::{Outcome, Stop, or_stop};
-use crate::reading::stop_at;
 use bdd_ops::Diagrams;
 use care_sets::Care;
 use commands::{Cells, Making, Purpose};
@@ -22,6 +21,7 @@ use cyc_base::{DEFAULT_NODES, Name};
 use maker::ring;
 use netlist::Netlist;
 use parsed_files::{care_of, netlist_of};
+use plain_commands::{Outcome, Stop, or_stop, stop_at};
 use refusals::Observe;
 use std::alloc::{AllocError, Global};
 
@@ -71,7 +71,7 @@ fn decide_ring_on(
     requires valid { IsNetlist net.now }
     requires columns { columns net.now ≤ most_columns }
     requires care { care.now ≡ care_text (cells_seen cells) }
-    ensures { FollowsStill (ring_deciding_on (cells_seen cells) net.now) d.new (end_of result) }
+    ensures { FollowsStill (ComesOf d.new) (ring_deciding_on (cells_seen cells) net.now) (end_of result) }
 {
     let care = ring_care(alloc, net, care)?;
     let task = Task {
@@ -91,7 +91,7 @@ fn decide_ring(
 ) -> Result<Outcome, Stop>
     requires text { text.items ≡ ring_text (cells_seen cells) }
     requires care { care.now ≡ care_text (cells_seen cells) }
-    ensures { FollowsStill (ring_deciding (cells_seen cells)) d.new (end_of result) }
+    ensures { FollowsStill (ComesOf d.new) (ring_deciding (cells_seen cells)) (end_of result) }
 {
     let net = ring_netlist(alloc, text)?;
     decide_ring_on(alloc, cells, &net, care, d)
@@ -99,7 +99,7 @@ fn decide_ring(
 
 // Decides the ring arbiter of so many cells, and prints one line.
 pub(crate) fn demo(alloc: Global, cells: Cells, d: &mut Diagrams) -> Result<Outcome, Stop>
-    ensures { FollowsStill (ring_deciding (cells_seen cells)) d.new (end_of result) }
+    ensures { FollowsStill (ComesOf d.new) (ring_deciding (cells_seen cells)) (end_of result) }
 {
     let (text, care) = ring_texts(alloc, cells)?;
     decide_ring(alloc, cells, text, &care, d)

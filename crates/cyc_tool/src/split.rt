@@ -13,14 +13,14 @@ ghost use Rattle.refusals.specs.declared.observe.Observe.{Observe as Observed};
 ghost use Rattle.rewriting.specs.Graphs.{most_columns};
 ghost use Rattle.rewriting.specs.Rewriting.{IsCountedOnCare, IsLoopFreeForm};
 ghost use Rattle.cyc_tool.specs.Calls.{IsAccepted};
-ghost use Rattle.cyc_tool.specs.Seen.{outcome_of};
+ghost use Rattle.plain_commands.specs.Seen.{outcome_of};
 
 use crate::decision::{tell_graph, tell_graphed, tell_outgrown, tell_rewriting, tell_rewritten};
-use crate::outcome::Outcome;
 use bdd_ops::Diagrams;
 use care_sets::Care;
 use commands::{Cases, Encoding};
 use netlist::Netlist;
+use plain_commands::Outcome;
 use rewriting::{graph, rewrite_by_cases};
 use std::alloc::{AllocError, Global};
 use unroll::CountedLoops;

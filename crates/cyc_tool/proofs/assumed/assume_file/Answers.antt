@@ -1,13 +1,13 @@
-use Rattle.cyc_tool.proofs.Common.{err_from_is_err_and, options_seen, Assumes, with_netlist, end_of, stop_outcome}
-use Rattle.cyc_tool.specs.Plans.{assuming_on, decision, with_care}
+use Rattle.cyc_tool.proofs.Common.{err_from_is_err_and, ComesOf, options_seen, Assumes, with_netlist, end_of, stop_outcome}
+use Rattle.plain_commands.specs.Plans.{assuming_on, decision, with_care}
 use Rattle.cyc_tool.proofs.OptionLemmas.{seeks_by_options}
-use Rattle.cyc_tool.proofs.PlanLemmas.{goes_on}
+use Rattle.plain_commands.proofs.PlanLemmas.{goes_on, stops_whatever}
 use Rattle.cyc_tool.proofs.assumed.assume_file.Goals as goal
 
 pub returns-in_err-net-clause-comes : goal.returns-in_err-net-clause-comes
 returns-in_err-net-clause-comes g c =
     let q = err_from_is_err_and c.from_residual.result c.from_residual.ensures.1 in
-    rw (q.1, q.2) (c.in_err-net.ensures.bad.follows (assuming_on (options_seen c.args.options)) c.args.d.now)
+    rw (q.1, q.2) (stops_whatever (ComesOf c.args.d.now) (with_netlist c.args.netlist.now) (assuming_on (options_seen c.args.options)) _ _ c.in_err-net.ensures.bad)
 
 pub returns-in_err-care-clause-comes : goal.returns-in_err-care-clause-comes
 returns-in_err-care-clause-comes g c =
@@ -15,9 +15,9 @@ returns-in_err-care-clause-comes g c =
     let options = options_seen c.args.options in
     let net = c.in_ok-net.net in
     rw (q.1, q.2)
-    (goes_on (with_netlist c.args.netlist.now) net (assuming_on options)
-    _ _ _ _ _ c.args.d.now (stop_outcome c.in_err-care.field-0.0) c.read_netlist.ensures.same c.in_ok-net.ensures.good
-    (c.in_err-care.ensures.bad.follows (λ care. Assumes (decision net care options)) c.args.d.now))
+    (goes_on (ComesOf c.args.d.now) (with_netlist c.args.netlist.now) net (assuming_on options)
+    _ _ _ _ _ (stop_outcome c.in_err-care.field-0.0) c.read_netlist.ensures.same c.in_ok-net.ensures.good
+    (stops_whatever (ComesOf c.args.d.now) (with_care options.care net) (λ care. Assumes (decision net care options)) _ _ c.in_err-care.ensures.bad))
 
 pub returns-clause-comes : goal.returns-clause-comes
 returns-clause-comes g c =
@@ -28,6 +28,6 @@ returns-clause-comes g c =
     let end = end_of c.or_stop.result in
     let sought = seeks_by_options net care options nodes c.unwrap_or-limit.result c.unwrap_or-observe.result c.tell_sought.result end
     c.unwrap_or-limit.ensures c.unwrap_or-observe.ensures c.in_ok-net.ensures.valid c.or_stop.ensures c.tell_sought.ensures in
-    goes_on (with_netlist c.args.netlist.now) net (assuming_on options) _ _ _ _ _ nodes end c.read_netlist.ensures.same c.in_ok-net.ensures.good
-    (goes_on (with_care options.care net) care (λ set. Assumes (decision net set options)) _ _ _ _ _ nodes end c.read_care.ensures.same c.in_ok-care.ensures.good
+    goes_on (ComesOf nodes) (with_netlist c.args.netlist.now) net (assuming_on options) _ _ _ _ _ end c.read_netlist.ensures.same c.in_ok-net.ensures.good
+    (goes_on (ComesOf nodes) (with_care options.care net) care (λ set. Assumes (decision net set options)) _ _ _ _ _ end c.read_care.ensures.same c.in_ok-care.ensures.good
     (sought.follows (g.S.Shelf.files c.read_care.new.shelf) (g.S.Shelf.faults c.read_care.new.shelf)))

@@ -1,6 +1,6 @@
 use Rattle.cyc_tool.proofs.Common.{IfOk-weaker}
 use Rattle.cyc_tool.proofs.AssumedLemmas.{assumption_fits, found_seeks, limit_seeks}
-use Rattle.cyc_tool.specs.Plans.{Decision}
+use Rattle.plain_commands.specs.Plans.{Decision}
 use Rattle.cyc_tool.proofs.assumed.tell_sought_in.Goals as goal
 
 pub tell_assumption-requires-clause-fits : goal.tell_assumption-requires-clause-fits

@@ -1,5 +1,5 @@
 use Rattle.cyc_tool.proofs.Common.{IfOk-weaker, outcome_of}
-use Rattle.cyc_tool.specs.Plans.{Comparison}
+use Rattle.plain_commands.specs.Plans.{Comparison}
 use Rattle.cyc_tool.proofs.ComparedLemmas.{found_compares, limit_compares}
 use Rattle.cyc_tool.proofs.compared.tell_comparison.Goals as goal
 

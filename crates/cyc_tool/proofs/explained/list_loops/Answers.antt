@@ -2,8 +2,7 @@ use Rattle.std.proofs.Common.{◌≡◌, ◌++◌, false, true≢false, Result, 
 use Rattle.report.specs.Verdicts.{accepted_text}
 use Rattle.accepted_loops.specs.Lines.{told_loops}
 use Rattle.cyc_tool.proofs.Common.{sweeps_needed}
-use Rattle.cyc_tool.specs.Endings.{count_of_loops}
-use Rattle.cyc_tool.specs.Texts.{on_out}
+use Rattle.plain_commands.specs.Texts.{count_of_loops, on_out}
 use Rattle.cyc_tool.proofs.explained.list_loops.Goals as goal
 
 -- what is promised of a call that has not failed

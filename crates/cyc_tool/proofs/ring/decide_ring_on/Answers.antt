@@ -1,6 +1,6 @@
 use Rattle.cyc_tool.proofs.Common.{err_from_is_err_and, cells_seen, IsDecided, Demonstrates, end_of, stop_outcome}
-use Rattle.cyc_tool.specs.Plans.{ring_decision}
-use Rattle.cyc_tool.proofs.PlanLemmas.{ends_or_lacks}
+use Rattle.plain_commands.specs.Plans.{ring_decision}
+use Rattle.plain_commands.proofs.PlanLemmas.{ends_or_lacks}
 use Rattle.cyc_tool.proofs.RingLemmas.{ring_care_stops, ring_ends}
 use Rattle.cyc_tool.proofs.ring.decide_ring_on.Goals as goal
 

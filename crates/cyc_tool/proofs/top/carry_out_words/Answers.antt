@@ -1,8 +1,8 @@
 use Rattle.std.proofs.Common.{◌≡◌, sym, ap, ◌∙◌}
 use Rattle.commands.specs.Words.{command_in}
-use Rattle.cyc_tool.proofs.PlanLemmas.{ends_or_lacks}
+use Rattle.plain_commands.proofs.PlanLemmas.{ends_or_lacks}
 use Rattle.cyc_tool.proofs.RunLemmas.{comes_to_command, comes_to_usage, keeps_still}
-use Rattle.cyc_tool.specs.Texts.{usage}
+use Rattle.plain_commands.specs.Texts.{usage}
 use Rattle.cyc_tool.proofs.top.carry_out_words.Goals as goal
 
 pub returns-in-Some-clause-comes : goal.returns-in-Some-clause-comes

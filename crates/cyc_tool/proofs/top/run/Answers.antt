@@ -3,8 +3,9 @@ use Rattle.cyc_tool.proofs.AnswerLemmas.{gives_answer, is_complete}
 use Rattle.cyc_tool.proofs.CauseLemmas.{Eight, One, Zero, done_cause, fault_cause, help_told, limit_cause, read_cause, usage_cause, usage_told, write_cause}
 use Rattle.cyc_tool.proofs.RunLemmas.{counts_later}
 use Rattle.cyc_tool.proofs.Common.{Runs, end_of}
-use Rattle.cyc_tool.specs.Calls.{shelf_call, sink_call}
-use Rattle.cyc_tool.specs.Requests.{request}
+use Rattle.plain_commands.specs.Shelves.{shelf_call}
+use Rattle.plain_commands.specs.Sinks.{sink_call}
+use Rattle.plain_commands.specs.Requests.{request}
 use Rattle.cyc_tool.proofs.top.run.Given as given
 use Rattle.cyc_tool.proofs.top.run.Goals as goal
 

@@ -1,6 +1,0 @@
-use Rattle.std.proofs.Common.{◌≡◌, take}
-use Rattle.cyc_tool.proofs.Common.{known}
-use Rattle.cyc_tool.proofs.plays.known.Given as goal
-
-abbrev pub invariant-loop-vector : goal.invariant-loop-vector
-invariant-loop-vector l = l.bits.items ≡ known (take l.vector-index l.vectors)

@@ -1,7 +1,0 @@
-use Rattle.std.proofs.Common.{◌≡◌, ◌++◌, map, drop}
-use Rattle.cyc_tool.specs.Simulation.{start_value, start_values}
-use Rattle.cyc_tool.proofs.sim_lines.start.Given as goal
-
--- the values so far, and then those of the latches that are left
-abbrev pub invariant-loop-number : goal.invariant-loop-number
-invariant-loop-number l = l.values.items ++ map (λ latch. start_value latch.init) (drop l.number l.net.latches) ≡ start_values l.net

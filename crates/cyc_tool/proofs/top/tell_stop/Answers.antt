@@ -1,4 +1,0 @@
-use Rattle.cyc_tool.proofs.top.tell_stop.Goals as goal
-
-pub returns-in-Memory-clause-told : goal.returns-in-Memory-clause-told
-returns-in-Memory-clause-told g c = rw c.in-Memory.is c.tell.ensures.told

@@ -1,0 +1,8 @@
+mod Common
+pub mod PlanLemmas
+mod ReadingLemmas
+mod ReplayLemmas
+mod StormLemmas
+pub mod TellLemmas
+mod TickLemmas
+mod HearLemmas
