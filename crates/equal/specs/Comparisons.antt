@@ -10,10 +10,10 @@ use Rattle.cyc_base.specs.Values.{bits}
 use Rattle.dual_rail.specs.WorkingLists.{IsWide}
 use Rattle.netlist.specs.declared.parts.Parts.{Parts}
 use Rattle.loops.specs.Found.{loops_of}
-use Rattle.fixpoint.specs.Working.{IsGatePart, effort}
+use Rattle.fixpoint.specs.Working.{IsGatePart}
 use Rattle.care_sets.specs.Care.{CareSet, state_of, is_care_vector}
 use Rattle.diagram_decision.specs.Causes.{HasCoverOver, IsStoreFor}
-use Rattle.diagram_decision.specs.Costs.{assume_effort, invariant_effort}
+use Rattle.diagram_decision.specs.Costs.{assume_effort, invariant_effort, solving_cost}
 use Rattle.diagram_decision.specs.Enough.{IsOfModel, enough}
 use Rattle.netlist.specs.declared.pair.Pair.{Pair}
 
@@ -37,10 +37,6 @@ pub record IsLaidBy (order : List ℕ) (net : Parts) (care : CareSet) (g : List 
 -- the care vectors: the invariant, the assumption, and both
 abbrev pub care_cost : CareSet → ℕ
 care_cost care = 2 * invariant_effort care + 2 * assume_effort care + 1
-
--- the netlist solved
-abbrev pub solving_cost : Parts → ℕ
-solving_cost net = 10 * (length net.gates + 2) * effort net
 
 -- two functions for each direction of a pair
 abbrev pub pairs_cost : List Pair → ℕ

@@ -7,7 +7,8 @@ use Rattle.fixpoint.specs.Working.{HasLargeCover}
 use Rattle.isolation.proofs.ColumnLemmas.{AreColumns-kept}
 use Rattle.isolation.proofs.SettlingLemmas.{loops-are}
 use Rattle.diagram_decision.proofs.MadeLemmas.{working-wide}
-use Rattle.equal.specs.Comparisons.{AddsInComparison, care_cost, solving_cost}
+use Rattle.diagram_decision.specs.Costs.{solving_cost}
+use Rattle.equal.specs.Comparisons.{AddsInComparison, care_cost}
 use Rattle.equal.proofs.ApartLemmas.{fixed-is}
 use Rattle.equal.proofs.LaidLemmas.{comparison_list, comparison-wide}
 use Rattle.equal.proofs.apart.compare_columns.Goals as goal
