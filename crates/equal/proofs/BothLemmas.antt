@@ -7,7 +7,7 @@ use Rattle.equal.specs.Comparisons.{IsOfComparison, IsLaidBy, IsColumn, SaysCare
 use Rattle.equal.specs.Both.{IsOfBoth, IsLaidForBoth, OfFirst, OfSecond, BothAreWide}
 use Rattle.miters.proofs.JoinLemmas.{first_part, second_part, fix_second, length-joined}
 use Rattle.miters.proofs.MatchLemmas.{Match, matched, length-by_name}
-use Rattle.miters.proofs.PartFunctionLemmas.{WorksAlone, reads_alike, works_alone}
+use Rattle.equal.proofs.PartFunctionLemmas.{WorksAlone, reads_alike, works_alone}
 
 module _ (a b : Parts) (valid_a : IsNetlist a) (valid_b : IsNetlist b) (match_ : Match a b) where
   first_works : (g : List Bool → Bool) (part : IsGatePart (joined a b []) (loops_of (joined a b [])) bits g) → part.gate < length a.gates → WorksAlone (joined a b []) a (λ s. s) g

@@ -1,5 +1,6 @@
 pub mod Common
 pub mod CompareLemmas
+pub mod PartFunctionLemmas
 pub mod BothLemmas
 pub mod BoundLemmas
 mod CaringLemmas

@@ -2,7 +2,7 @@
 //! wires (Kuehlmann and Krohm 1997).
 
 ghost use Rattle.std.specs.Prelude.{◌≡◌, [], IfOk};
-ghost use Rattle.miters.specs.Cases.{ArePaired, TellsIn};
+ghost use Rattle.inner_pairs.specs.Cases.{ArePaired, TellsIn};
 ghost use Rattle.miters.specs.Differences.{difference};
 ghost use Rattle.miters.specs.Joined.{joined};
 ghost use Rattle.miters.specs.Pairs.{least_apart as least_apart_of};
@@ -14,8 +14,9 @@ use crate::whole::are_never_apart;
 use clause_pairs::{Budget, PairSearch};
 use cyc_base::Bits;
 use feedback_cuts::find_cut;
+use inner_pairs::{BUDGET, JoinedPairs, PairsTold, whole_scope};
 use loops::{LoopedNetlist, find_blocks};
-use miters::{BUDGET, JoinedPairs, PairsTold, joined_netlist, steering_columns, whole_scope};
+use miters::{joined_netlist, steering_columns};
 use netlist::Netlist;
 use std::alloc::{AllocError, Global};
 
@@ -86,7 +87,7 @@ impl<'a> AcceptedNetlists<'a> {
     }
 
     /// The least vector on which they differ, as far as it is found by these pairs of their joined netlist.
-    #[tactic(auto, using(miters::proofs::AlikeLemmas::never_least))]
+    #[tactic(auto, using(inner_pairs::proofs::AlikeLemmas::never_least))]
     fn least_by_pairs(&self, alloc: Global, joined: &JoinedPairs<'_>) -> Result<Early, AllocError>
         requires paired { ArePaired joined.now }
         requires least { least_apart_of joined.now.looped.now.net joined.now.care.now joined.now.pairs.now ≡ difference self.now.a self.now.b self.now.care }

@@ -25,7 +25,7 @@ fn all_gates(alloc: Global, net: &Netlist) -> Result<Vec<bool>, AllocError>
 }
 
 /// The scope of all gates.
-#[tactic(auto, using(miters::proofs::ScopeLemmas::all_close))]
+#[tactic(auto, using(inner_pairs::proofs::ScopeLemmas::all_close))]
 fn whole_scope(alloc: Global, looped: &LoopedNetlist<'_>) -> Result<Scope, AllocError>
     ensures scope { IfOk result (IsScopeOf looped.now.net) }
     ensures all { IfOk result (λ scope. (n : ℕ) → n < length looped.now.net.gates → is_marked scope.gates n ≡ true) }
@@ -45,7 +45,7 @@ fn whole_scope(alloc: Global, looped: &LoopedNetlist<'_>) -> Result<Scope, Alloc
 /// said of them.
 ///
 /// The condition is that the care set is the netlist's, and that the wires of each pair and each hint are.
-#[tactic(auto, using(miters::proofs::ScopeLemmas::pairs_in, miters::proofs::ScopeLemmas::hints_in))]
+#[tactic(auto, using(inner_pairs::proofs::ScopeLemmas::pairs_in, inner_pairs::proofs::ScopeLemmas::hints_in))]
 pub fn are_never_apart(
     alloc: Global,
     looped: &LoopedNetlist<'_>,

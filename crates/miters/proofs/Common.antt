@@ -15,9 +15,7 @@ pub use Rattle.cyc_base.specs.declared.sig.Sig.{Sig}
 pub use Rattle.cyc_base.specs.declared.trit.Trit.TheVariants.{One, X, Zero}
 pub use Rattle.cyc_base.specs.declared.trit.Trit.{Trit}
 pub use Rattle.cyc_io.proofs.TakenLemmas.{appended_cut, appended_then}
-pub use Rattle.fixpoint.specs.Working.{IsGatePart}
 pub use Rattle.loops.proofs.Reading.{map_agree, wire_of_gate}
-pub use Rattle.loops.specs.Found.{loops_of}
 pub use Rattle.loops.specs.Sweeps.{first_gate}
 pub use Rattle.miters.specs.Answers.{IsAnswerOf}
 pub use Rattle.miters.specs.Differences.{AreAccepted, HaveOneSource, at_difference, by_name, column_named, columns_by_name, comparison, comparison_of_accepted, difference, differs, differs_at, latch_pairs, model_of, number_or_0, output_pairs, pair_of, signal_named, source_named}

@@ -7,14 +7,9 @@ pub mod JoinLemmas
 pub mod MiterLemmas
 pub mod DifferenceLemmas
 pub mod ComparisonLemmas
-pub mod AlikeLemmas
-pub mod CaseLemmas
-pub mod BeginningLemmas
-pub mod ScopeLemmas
 pub mod PlacedLemmas
 pub mod ValidLemmas
 pub mod LatchlessLemmas
-pub mod PartFunctionLemmas
 pub mod ReboundLemmas
 mod RenamingLemmas
 pub mod RunLemmas

@@ -10,7 +10,5 @@ pub mod Told
 pub mod Runs
 pub mod Shown
 -- The code's own: what its parts say to each other.
-pub mod Cases
-pub mod Beginnings
 pub mod Places
 pub mod Placed

@@ -26,7 +26,7 @@ fn are_different(one: Trit, other: Trit) -> bool
 }
 
 /// The value of a signal, X where there is none.
-pub(crate) fn value_of(values: &[Trit], signal: Sig) -> Trit
+pub fn value_of(values: &[Trit], signal: Sig) -> Trit
     ensures { result ≡ wire values.now signal }
 {
     match values.get(signal.0 as usize) {

@@ -1,0 +1,5 @@
+mod Common
+pub mod AlikeLemmas
+mod CaseLemmas
+mod BeginningLemmas
+pub mod ScopeLemmas

@@ -1,9 +1,0 @@
-use Rattle.std.proofs.Common.{◌≡◌, length}
-use Rattle.miters.specs.Beginnings.{IsLeastBeginning}
-use Rattle.miters.proofs.cases.JoinedPairs.least_values.Given as goal
-
-abbrev pub invariant-loop : goal.invariant-loop
-invariant-loop l = record {
-  width : length l.values.items ≡ l.counter;
-  least : IsLeastBeginning l.self.looped.now.net l.self.care.now l.self.pairs.now l.values.items;
-}

@@ -1,6 +1,0 @@
-use Rattle.std.proofs.Common.{arith}
-use Rattle.miters.proofs.AlikeLemmas.{count_joined}
-use Rattle.miters.proofs.hints.find_hints.Goals as goal
-
-pub alike_hints-requires-clause-prints : goal.alike_hints-requires-clause-prints
-alike_hints-requires-clause-prints c = grind (arith, count_joined c.args.a.now c.args.b.now)
