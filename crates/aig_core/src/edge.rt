@@ -2,7 +2,7 @@ ghost use Rattle.std.specs.Prelude.{◌≡◌};
 ghost use Rattle.aig_core.specs.Graphs.{complement as complement_of};
 
 /// An edge of a graph: twice the number of a variable, and one more for the complement. So 0 is false, and 1 is true.
-#[derive(Clone, Copy, Debug, PartialEq, Eq, Hash)]
+#[derive(Clone, Copy, PartialEq, Eq, Hash)]
 pub struct Edge(pub u32);
 
 impl Edge {
@@ -15,7 +15,7 @@ impl Edge {
 }
 
 /// The AND of two edges.
-#[derive(Clone, Copy, Debug, PartialEq, Eq, Hash)]
+#[derive(Clone, Copy, PartialEq, Eq, Hash)]
 pub struct And {
     pub greater: Edge,
     pub smaller: Edge,

@@ -17,7 +17,7 @@ use std::alloc::{AllocError, Global};
 const FIRST_WAITING: usize = 16;
 
 /// Operands whose answer waits for those of their cofactors.
-#[derive(Clone, Copy, Debug)]
+#[derive(Clone, Copy)]
 pub enum Question {
     /// For the answer at 0. Those at 1 are asked then.
     Low {
@@ -34,7 +34,7 @@ pub enum Question {
 }
 
 /// Operands, the first variable that one of them reads, and the answers to their cofactors at it.
-#[derive(Clone, Copy, Debug)]
+#[derive(Clone, Copy)]
 pub struct Answered {
     pub asked: Operands,
     pub var: u32,
@@ -43,7 +43,7 @@ pub struct Answered {
 }
 
 /// What comes next: a question, or the answer to the last one.
-#[derive(Clone, Copy, Debug)]
+#[derive(Clone, Copy)]
 pub enum Turn {
     Ask(Operands),
     Answer(Node),

@@ -11,7 +11,7 @@ use std::alloc::{AllocError, Global};
 use std::marker::Model;
 
 /// An operation on operands, and its answer.
-#[derive(Clone, Copy, Debug, Drop)]
+#[derive(Clone, Copy, Drop)]
 pub struct Computed {
     pub operation: Operation,
     pub operands: Operands,
@@ -20,7 +20,7 @@ pub struct Computed {
 
 /// A choice, which three operands say all of, and its answer. It takes sixteen bytes: more of them stand in a cache than
 /// of any operation's answers, and none crosses a cache line.
-#[derive(Clone, Copy, Debug, Drop)]
+#[derive(Clone, Copy, Drop)]
 pub struct Chosen {
     pub a: Node,
     pub b: Node,

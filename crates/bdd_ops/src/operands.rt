@@ -5,7 +5,7 @@ ghost use Rattle.bdd_ops.specs.Apply.{AreNodesOf, SomeBranching, IsCofactor, Are
 use bdd_store::{Node, Store};
 
 /// What an operation makes of the values of its operands.
-#[derive(Clone, Copy, Debug, PartialEq, Eq)]
+#[derive(Clone, Copy, PartialEq, Eq)]
 pub enum Operation {
     /// `b` where `a` is true, and `c` elsewhere. It leaves `d` unread.
     Ite,
@@ -14,7 +14,7 @@ pub enum Operation {
 }
 
 /// The nodes that an operation is applied to.
-#[derive(Clone, Copy, Debug, PartialEq, Eq, Hash)]
+#[derive(Clone, Copy, PartialEq, Eq, Hash)]
 pub struct Operands {
     pub a: Node,
     pub b: Node,
@@ -38,7 +38,7 @@ impl Operands {
 
 /// A node, the variable that it reads first, and its cofactors there. A constant reads none: in place of the variable
 /// it has the number of all.
-#[derive(Clone, Copy, Debug)]
+#[derive(Clone, Copy)]
 pub struct Branches {
     pub node: Node,
     pub var: u32,

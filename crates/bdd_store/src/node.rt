@@ -5,7 +5,7 @@ ghost use Rattle.bdd_store.specs.Arena.{Arena, index, is_marked, complemented, c
 /// negates the function. The number is twice the index, and one more where there is no mark, as literals are
 /// written in AIGER: its last bit is the function's value where all bits are 1. Nodes fill the tables, and this
 /// halves them.
-#[derive(Clone, Copy, Debug, PartialEq, Eq, Hash)]
+#[derive(Clone, Copy, PartialEq, Eq, Hash)]
 pub struct Node {
     pub(crate) number: u32,
 }
@@ -78,7 +78,7 @@ impl Node {
 }
 
 /// A choice between two nodes: `b` where `a` is true, and `c` elsewhere.
-#[derive(Clone, Copy, Debug, PartialEq, Eq, Hash)]
+#[derive(Clone, Copy, PartialEq, Eq, Hash)]
 pub struct Choice {
     pub a: Node,
     pub b: Node,
@@ -86,7 +86,7 @@ pub struct Choice {
 }
 
 /// A variable, and the nodes for its bit at 0 and at 1. The one at 1 has no mark.
-#[derive(Clone, Copy, Debug, PartialEq, Eq, Hash)]
+#[derive(Clone, Copy, PartialEq, Eq, Hash)]
 pub struct Entry {
     pub(crate) var: u32,
     pub(crate) lo: Node,

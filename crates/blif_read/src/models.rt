@@ -7,13 +7,12 @@ use cyc_base::{Items, Name};
 use netlist::{Clock, Init};
 
 /// The models of a BLIF text, in the order of the text.
-#[derive(Debug, Drop)]
+#[derive(Drop)]
 pub struct Models {
     pub list: Items<BlifModel>,
 }
 
 /// A model: its `.inputs`, `.outputs` and `.clock` names in order, and what its other lines say.
-#[derive(Debug)]
 pub struct BlifModel {
     pub name: Name,
     pub inputs: Items<Name>,
@@ -36,7 +35,7 @@ impl Drop for BlifModel {
 }
 
 /// A gate, a latch or an instance of a model.
-#[derive(Debug, Drop)]
+#[derive(Drop)]
 pub enum Item {
     Gate(GateLine),
     Latch(LatchLine),
@@ -44,7 +43,6 @@ pub enum Item {
 }
 
 /// A `.names` line with its rows: pin number `i` of the cover reads the wire `pins[i]`.
-#[derive(Debug)]
 pub struct GateLine {
     pub pins: Items<Name>,
     pub output: Name,
@@ -76,7 +74,6 @@ impl GateLine {
 }
 
 /// A `.latch` line. Without a control it belongs to the one global clock.
-#[derive(Debug)]
 pub struct LatchLine {
     pub from: Name,
     pub output: Name,
@@ -96,7 +93,6 @@ impl Drop for LatchLine {
 }
 
 /// A `.subckt` line: an instance of a model, with pairs of a formal and its actual, formal first.
-#[derive(Debug)]
 pub struct PartLine {
     pub model: Name,
     pub pairs: Items<(Name, Name)>,

@@ -13,7 +13,7 @@ use netlist::Netlist;
 use std::alloc::{AllocError, Global};
 
 /// A column that has a value.
-#[derive(Clone, Copy, Debug, PartialEq, Eq)]
+#[derive(Clone, Copy, PartialEq, Eq)]
 pub struct ColumnValue {
     pub column: u32,
     pub value: bool,

@@ -7,7 +7,7 @@ use cyc_base::{Sig, Trit};
 use std::alloc::{AllocError, Global};
 
 /// What stands for a signal in a case.
-#[derive(Clone, Copy, Debug, PartialEq, Eq)]
+#[derive(Clone, Copy, PartialEq, Eq)]
 pub(crate) enum Operand {
     /// The case determines it.
     Constant(bool),

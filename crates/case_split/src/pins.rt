@@ -14,7 +14,7 @@ use cyc_base::{Items, Sig};
 use std::alloc::{AllocError, Global};
 
 /// What a pin of a selection reads.
-#[derive(Clone, Copy, Debug, PartialEq, Eq)]
+#[derive(Clone, Copy, PartialEq, Eq)]
 pub(crate) enum Pin {
     /// A column.
     Column(u32),

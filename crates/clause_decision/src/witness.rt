@@ -22,7 +22,7 @@ use std::alloc::{AllocError, Global};
 use ternary_clauses::{ClausesFault, value_of};
 
 /// What comes of a search for a care vector at which one of some gates is unknown.
-#[derive(Debug, Drop)]
+#[derive(Drop)]
 pub enum Witness {
     /// A care vector, and the place of a gate that is unknown at it.
     Found { vector: Vec<bool>, place: usize },

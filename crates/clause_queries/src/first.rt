@@ -11,7 +11,7 @@ use std::alloc::{AllocError, Global};
 use ternary_clauses::value_of;
 
 /// What comes of a search for the first literal that can be true.
-#[derive(Clone, Copy, Debug)]
+#[derive(Clone, Copy)]
 pub enum First {
     At(usize),
     Nowhere,

@@ -12,7 +12,6 @@ use std::alloc::{AllocError, Global};
 use ternary_clauses::{negation, value_of};
 
 /// What comes of a search for the least vector.
-#[derive(Debug)]
 pub enum Found {
     Least(Vec<bool>),
     /// There is no model.

@@ -39,7 +39,6 @@ impl From<AllocError> for QueryFault {
 }
 
 /// What comes of a question.
-#[derive(Debug)]
 pub enum Reply {
     /// The values of the formula's variables.
     Model(Vec<bool>),

@@ -1,5 +1,5 @@
 /// The forms of AIGER in which a graph is written.
-#[derive(Clone, Copy, Debug, PartialEq, Eq, Drop)]
+#[derive(Clone, Copy, PartialEq, Eq, Drop)]
 pub enum Encoding {
     /// Lines of decimal numbers, `aag`.
     Ascii,

@@ -1,5 +1,5 @@
 /// How loops and explanations are told.
-#[derive(Clone, Copy, Debug, PartialEq, Eq, Drop)]
+#[derive(Clone, Copy, PartialEq, Eq, Drop)]
 pub enum Form {
     /// As lines.
     Lines,

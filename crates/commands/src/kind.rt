@@ -1,5 +1,5 @@
 /// What a probe makes of the changes that it is told.
-#[derive(Clone, Copy, Debug, PartialEq, Eq)]
+#[derive(Clone, Copy, PartialEq, Eq)]
 pub enum Kind {
     /// Each change, one to a line.
     Trace,

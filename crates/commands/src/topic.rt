@@ -1,5 +1,5 @@
 /// A command that `help` tells of.
-#[derive(Clone, Copy, Debug, PartialEq, Eq, Drop)]
+#[derive(Clone, Copy, PartialEq, Eq, Drop)]
 pub enum Topic {
     Check,
     Rewrite,

@@ -7,7 +7,7 @@ use cyc_base::Items;
 use std::alloc::{AllocError, Global};
 
 /// The strongly connected components of a graph, by number.
-#[derive(Debug, Drop)]
+#[derive(Drop)]
 pub struct Components {
     /// How many there are.
     pub count: u32,

@@ -17,7 +17,6 @@ use thiserror::Error;
 ///
 /// It has at most 1,024 pins, each row has a literal for each pin, and a cover without rows is an
 /// on-plane.
-#[derive(Debug)]
 pub struct Cover {
     pins: usize,
     plane: bool,

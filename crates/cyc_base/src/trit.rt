@@ -2,7 +2,7 @@ ghost use Rattle.std.specs.Prelude.{◌≡◌, ◌↔◌, IsTrue};
 ghost use Rattle.cyc_base.specs.Values.{bit, known_bit, Below};
 
 /// The three values of ternary simulation: 0, 1 and X, which is unknown.
-#[derive(Clone, Copy, Debug, PartialEq, Eq)]
+#[derive(Clone, Copy, PartialEq, Eq)]
 pub enum Trit {
     Zero,
     One,

@@ -1,5 +1,5 @@
 /// The value that a signal has from a moment on, up to its next entry. Moments are numbered from 1.
-#[derive(Clone, Copy, Debug)]
+#[derive(Clone, Copy)]
 pub struct TimelineEntry {
     pub moment: usize,
     pub value: bool,

@@ -10,7 +10,7 @@ use std::marker::Model;
 const MAX_AGES: usize = 4_294_967_295;
 
 /// An event: its line, its gate, and where its ages end among those of the round.
-#[derive(Clone, Copy, Debug)]
+#[derive(Clone, Copy)]
 pub struct Head {
     pub line: u64,
     pub gate: u32,
@@ -20,7 +20,6 @@ pub struct Head {
 /// The events of a round, in the order in which they come. Contracts see a list of `PlannedEvent`.
 ///
 /// The ages of all stand in one list, so that an event takes 16 bytes and 4 for each of its pins.
-#[derive(Debug)]
 pub struct Events {
     heads: Vec<Head>,
     ages: Vec<u32>,

@@ -3,7 +3,6 @@ use cyc_base::{Bits, Items};
 use schedules::Event;
 
 /// An event, and the line of the file that has it.
-#[derive(Debug)]
 pub struct PlannedEvent {
     pub line: u64,
     pub event: Event,
@@ -16,7 +15,6 @@ impl Drop for PlannedEvent {
 }
 
 /// A round: its line, and its events in the order in which they come.
-#[derive(Debug)]
 pub struct RoundPlan {
     pub line: u64,
     pub events: Events,
@@ -32,7 +30,6 @@ impl Drop for RoundPlan {
 pub type TickPlan = Items<RoundPlan>;
 
 /// A recorded schedule.
-#[derive(Debug)]
 pub struct Schedule {
     /// Pins may read values that are up to so many rounds older.
     pub window: u32,
@@ -61,7 +58,6 @@ impl Drop for Schedule {
 }
 
 /// How a tick ended.
-#[derive(Debug)]
 pub struct TickEnd {
     /// How many rounds it had.
     pub rounds: u64,

@@ -10,7 +10,7 @@ use cyc_base::Items;
 use std::alloc::{AllocError, Global};
 
 /// Of the rows in one class at the next pin, the first one with each literal at this pin.
-#[derive(Clone, Copy, Debug)]
+#[derive(Clone, Copy)]
 pub struct Firsts {
     pub zero: Option<usize>,
     pub one: Option<usize>,
@@ -107,7 +107,7 @@ fn classes_before(
 
 /// For each pin, and behind the last one, the class of each row: rows that agree from there on have one number,
 /// which is that of the first of them. And for each row where it ends.
-#[derive(Debug, Drop)]
+#[derive(Drop)]
 pub struct Classes {
     pub at_pins: Vec<Items<usize>>,
     pub ends: Items<usize>,

@@ -16,7 +16,7 @@ use bdd_store::{Node, StoreFault};
 use std::alloc::Global;
 
 /// What the rails of a node are selected from: those of its pin, and those of its branches.
-#[derive(Clone, Copy, Debug)]
+#[derive(Clone, Copy)]
 pub struct Fork {
     pub pin: Rails,
     pub hi: Rails,

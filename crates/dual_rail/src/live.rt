@@ -11,7 +11,7 @@ use cover_logic::Row;
 use std::alloc::{AllocError, Global};
 
 /// Rows that are left to be matched from a pin on, by their numbers.
-#[derive(Debug, PartialEq, Eq, Hash)]
+#[derive(PartialEq, Eq, Hash)]
 pub struct Live {
     pub pin: usize,
     pub rows: Vec<usize>,

@@ -10,7 +10,7 @@ use bdd_store::{Node, StoreFault};
 
 /// Where a value is surely 1, and where it is surely 0. It is X where neither is true. Rails are proper where
 /// no vector makes both true.
-#[derive(Clone, Copy, Debug, PartialEq, Eq)]
+#[derive(Clone, Copy, PartialEq, Eq)]
 pub struct Rails {
     pub one: Node,
     pub zero: Node,

@@ -48,7 +48,7 @@ pub(crate) const FEW_CONFLICTS: u64 = 4_000;
 const FEW_NODES: u32 = 200_000;
 
 /// What is found within a budget.
-#[derive(Debug, Drop)]
+#[derive(Drop)]
 pub(crate) enum Early {
     /// The least vector on which they differ, if there is one.
     Found(Option<Bits>),

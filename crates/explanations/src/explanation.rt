@@ -16,7 +16,6 @@ use std::alloc::{AllocError, Global};
 use ternary_run::settle_at;
 
 /// Why a wire is undetermined at a vector.
-#[derive(Debug)]
 pub struct Explanation {
     /// Unknown gates, of which a flip of each may flip the next, and of the last the first.
     pub cycle: Items<u32>,

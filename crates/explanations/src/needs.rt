@@ -18,7 +18,6 @@ use std::alloc::{AllocError, Global};
 use ternary_run::{Fanout, trits_of};
 
 /// Values of some columns, and the greatest set of gates that they hold open.
-#[derive(Debug)]
 pub(crate) struct Holding {
     /// One for each column, X where it has none.
     pub given: Vec<Trit>,
@@ -231,7 +230,7 @@ fn leave_out(
 }
 
 /// Some columns in a row, which are tried together.
-#[derive(Clone, Copy, Debug)]
+#[derive(Clone, Copy)]
 pub(crate) struct Run {
     pub first: usize,
     pub count: usize,

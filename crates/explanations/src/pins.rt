@@ -13,7 +13,7 @@ use cyc_base::Trit;
 use std::alloc::{AllocError, Global};
 
 /// What a gate may see on a pin.
-#[derive(Clone, Copy, Debug, PartialEq, Eq)]
+#[derive(Clone, Copy, PartialEq, Eq)]
 pub enum Pin {
     /// This value, which is determined.
     Known(bool),

@@ -8,7 +8,7 @@ use components::Graph;
 use std::alloc::{AllocError, Global};
 
 /// How a search came to a node.
-#[derive(Clone, Copy, Debug, PartialEq, Eq)]
+#[derive(Clone, Copy, PartialEq, Eq)]
 pub(crate) struct SearchStep {
     /// The node before it. For the root it is the root itself.
     pub from: u32,

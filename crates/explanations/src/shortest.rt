@@ -12,7 +12,6 @@ use std::alloc::{AllocError, Global};
 
 /// A cycle, and a way from it to the node that was asked for. An edge leads from each node to the one before
 /// it, from the cycle's first node to its last, and from the way's first node to a node of the cycle.
-#[derive(Debug)]
 pub(crate) struct ShortCycle {
     pub cycle: Items<u32>,
     /// From behind the cycle to the node that was asked for: nothing where it is on the cycle.

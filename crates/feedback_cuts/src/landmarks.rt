@@ -16,7 +16,6 @@ use std::alloc::{AllocError, Global};
 const MOST: usize = 32;
 
 /// A gate, and two searches from it that go on as gates are entered.
-#[derive(Debug)]
 pub(crate) struct Landmark {
     pub gate: u32,
     /// It has marked gates to which the landmark leads.
@@ -36,7 +35,7 @@ impl Drop for Landmark {
 }
 
 /// The landmarks, the oldest of which make place for others.
-#[derive(Debug, Drop)]
+#[derive(Drop)]
 pub(crate) struct Landmarks {
     pub list: Vec<Landmark>,
     /// The place of the next one.

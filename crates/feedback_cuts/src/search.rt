@@ -9,7 +9,6 @@ use loops::GateList;
 use std::alloc::{AllocError, Global};
 
 /// What a search found.
-#[derive(Debug)]
 pub(crate) struct Search {
     /// For each gate one more than the goal of the last search that found it, or 0.
     pub marks: Vec<u32>,

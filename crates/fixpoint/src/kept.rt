@@ -11,7 +11,6 @@ use dual_rail::Rails;
 use std::alloc::{AllocError, Global};
 
 /// Rails whose two nodes are roots. One that is dropped leaves its keys in the map.
-#[derive(Debug)]
 pub struct KeptRails {
     /// The root of the node that is true where the value is surely 1.
     pub one: Root,

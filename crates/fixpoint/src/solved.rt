@@ -3,7 +3,6 @@ use cyc_base::Items;
 use dual_rail::Rails;
 
 /// The cut wires of a loop, sweep by sweep.
-#[derive(Debug)]
 pub struct LoopSteps {
     /// The place of the loop among the blocks.
     pub block: u32,
@@ -24,7 +23,6 @@ impl Drop for LoopSteps {
 }
 
 /// The fixpoint of a netlist at every vector.
-#[derive(Debug)]
 pub struct Solved {
     /// One for each signal.
     pub rails: Items<KeptRails>,
@@ -39,7 +37,7 @@ impl Drop for Solved {
 }
 
 /// A loop that was just solved: its cut wires, sweep by sweep, as nodes that are not kept yet.
-#[derive(Debug, Drop)]
+#[derive(Drop)]
 pub struct SweptLoop {
     pub(crate) block: u32,
     pub(crate) cuts: Items<u32>,

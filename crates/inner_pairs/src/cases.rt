@@ -22,7 +22,7 @@ pub const BUDGET: Budget = Budget {
 };
 
 /// What is told of pairs of wires on some vectors.
-#[derive(Clone, Copy, Debug, PartialEq, Eq)]
+#[derive(Clone, Copy, PartialEq, Eq)]
 pub enum PairsTold {
     /// None is apart on any.
     Never,

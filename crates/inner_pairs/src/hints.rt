@@ -40,7 +40,7 @@ fn first_with(firsts: &IndexMap<u64, u32>, print: u64) -> Option<u32>
 }
 
 /// A wire of the first netlist that a gate of the second may well equal, or else, where it is opposite, complement.
-#[derive(Clone, Copy, Debug, PartialEq, Eq)]
+#[derive(Clone, Copy, PartialEq, Eq)]
 struct Alike {
     wire: Sig,
     opposite: bool,

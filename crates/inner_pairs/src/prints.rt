@@ -211,7 +211,7 @@ impl<'a> SimulatedCare<'a> {
 }
 
 /// The fingerprints of a wire and of its complement.
-#[derive(Clone, Copy, Debug, PartialEq, Eq)]
+#[derive(Clone, Copy, PartialEq, Eq)]
 pub(crate) struct Print {
     pub own: u64,
     pub opposite: u64,

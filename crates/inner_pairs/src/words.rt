@@ -6,7 +6,7 @@ use netlist::Gate;
 
 /// The values of a wire at 64 vectors, a bit of each number for each: where it is 1, and where it is 0. Where it is neither
 /// it is unknown.
-#[derive(Clone, Copy, Debug, PartialEq, Eq)]
+#[derive(Clone, Copy, PartialEq, Eq)]
 pub(crate) struct Word {
     pub ones: u64,
     pub zeros: u64,

@@ -1,7 +1,6 @@
 use cyc_base::{Bits, Items};
 
 /// Gates that reach each other along pins, or one gate: a strongly connected component.
-#[derive(Debug)]
 pub struct Block {
     /// The numbers of its gates, in flat order.
     pub gates: Items<u32>,
@@ -19,7 +18,6 @@ impl Drop for Block {
 }
 
 /// The blocks of a netlist. Each gate is in one of them.
-#[derive(Debug)]
 pub struct Blocks {
     /// A block stands after the blocks that it reads.
     pub list: Items<Block>,
@@ -34,14 +32,14 @@ impl Drop for Blocks {
 }
 
 /// Which gates are cut wires. Without them no loop is left, and none of them can be left out.
-#[derive(Debug, Drop)]
+#[derive(Drop)]
 pub struct Cut {
     /// One entry for each gate.
     pub wires: Bits,
 }
 
 /// How many sweeps loops need.
-#[derive(Debug, Drop)]
+#[derive(Drop)]
 pub struct SweepCounts {
     /// One for each block, and 0 for a block that is no loop.
     pub per_block: Items<u32>,

@@ -2,7 +2,6 @@ use cyc_base::{Bits, Name};
 use refusals::Refusal;
 
 /// What a comparison of two netlists finds.
-#[derive(Debug)]
 pub enum Answer {
     /// Both are accepted, and agree on each care vector.
     Equal,

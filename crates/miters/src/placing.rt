@@ -124,7 +124,7 @@ fn first_latch(
 }
 
 /// An output or a latch, by its place.
-#[derive(Clone, Copy, Debug, PartialEq, Eq)]
+#[derive(Clone, Copy, PartialEq, Eq)]
 pub(crate) enum Place {
     Output(u32),
     Latch(u32),

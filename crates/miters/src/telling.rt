@@ -12,7 +12,7 @@ use netlist::Netlist;
 use std::alloc::{AllocError, Global};
 
 /// What is told of two netlists.
-#[derive(Debug, Drop)]
+#[derive(Drop)]
 pub struct Told {
     /// Whether they are equal.
     pub equal: bool,

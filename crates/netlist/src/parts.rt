@@ -2,7 +2,7 @@ use cover_logic::Cover;
 use cyc_base::{Items, Name, Sig};
 
 /// The values that a latch may start with. The inits 2 and 3 of BLIF are `Either`.
-#[derive(Clone, Copy, Debug, PartialEq, Eq)]
+#[derive(Clone, Copy, PartialEq, Eq)]
 pub enum Init {
     Zero,
     One,
@@ -10,14 +10,13 @@ pub enum Init {
 }
 
 /// The edge of the clock at which latches load.
-#[derive(Clone, Copy, Debug, PartialEq, Eq)]
+#[derive(Clone, Copy, PartialEq, Eq)]
 pub enum Edge {
     Rise,
     Fall,
 }
 
 /// The one clock of a netlist, which is no signal.
-#[derive(Debug)]
 pub struct Clock {
     pub edge: Edge,
     pub name: Name,
@@ -30,7 +29,6 @@ impl Drop for Clock {
 }
 
 /// A latch: at a tick's end it loads the value of the signal `from`.
-#[derive(Debug)]
 pub struct Latch {
     pub name: Name,
     pub from: Sig,
@@ -51,7 +49,6 @@ impl Drop for Latch {
 }
 
 /// A gate: its cover's pin number `i` reads the signal `pins[i]`.
-#[derive(Debug)]
 pub struct Gate {
     pub name: Name,
     pub pins: Items<Sig>,
@@ -70,7 +67,6 @@ impl Drop for Gate {
 
 /// What a netlist is made of. Signals are numbered: first the inputs, then the latches, then the gates,
 /// each in their order here.
-#[derive(Debug)]
 pub struct Parts {
     /// The model's name.
     pub name: Name,
@@ -95,7 +91,7 @@ impl Drop for Parts {
 }
 
 /// Why parts make no netlist. They are looked for in this order, but want of memory may come at any time.
-#[derive(Clone, Copy, Debug, PartialEq, Eq)]
+#[derive(Clone, Copy, PartialEq, Eq)]
 pub enum PartsFault {
     /// There are over 4,294,967,295 signals.
     TooMany,

@@ -1,5 +1,5 @@
 /// Which signals a user looks at.
-#[derive(Clone, Copy, Debug, PartialEq, Eq)]
+#[derive(Clone, Copy, PartialEq, Eq)]
 pub enum Observe {
     /// Each gate.
     All,

@@ -2,7 +2,6 @@ use cyc_base::{Bits, Sig};
 
 /// Why a netlist is refused on a care set. The columns of a vector are the netlist's inputs, and then its
 /// latches.
-#[derive(Debug)]
 pub enum Refusal {
     /// The inits permit this state, and it isn't in the invariant.
     Initial { state: Bits },

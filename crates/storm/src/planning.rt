@@ -12,7 +12,6 @@ use std::alloc::{AllocError, Global};
 use ternary_run::settle_at;
 
 /// What a storm needs of a vector. Each list has an entry for each gate, in flat order.
-#[derive(Debug)]
 pub struct StormPlan {
     /// The gates that the fixpoint of the vector leaves unknown.
     pub shaking: Bits,

@@ -11,14 +11,14 @@ use std::collections::VecDeque;
 use std::marker::Model;
 
 /// A pin of this gate reads this signal.
-#[derive(Clone, Copy, Debug, PartialEq, Eq)]
+#[derive(Clone, Copy, PartialEq, Eq)]
 pub struct Read {
     pub signal: Sig,
     pub gate: u32,
 }
 
 /// The pins of all gates of a netlist, in the order of the signals that they read.
-#[derive(Debug, Drop)]
+#[derive(Drop)]
 pub struct Fanout {
     reads: Vec<Read>,
 }

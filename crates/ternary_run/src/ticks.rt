@@ -13,7 +13,6 @@ use netlist::Netlist;
 use std::alloc::{AllocError, Global};
 
 /// The values of one tick at the least fixpoint.
-#[derive(Debug)]
 pub struct TickValues {
     /// One for each signal.
     pub wires: Trits,

@@ -13,7 +13,7 @@ use netlist::Netlist;
 use std::alloc::{AllocError, Global};
 
 /// The signals of copies, one for each gate. The gates themselves stand behind the last copies.
-#[derive(Debug, Drop)]
+#[derive(Drop)]
 pub(crate) struct Tables {
     /// Of the copies before those that are made, and of the last copies of gates that have no more.
     pub(crate) earlier: Vec<u32>,

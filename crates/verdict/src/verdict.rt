@@ -2,7 +2,7 @@ use fixpoint::SweepCounts;
 use refusals::Refusal;
 
 /// What a netlist is on a care set.
-#[derive(Debug, Drop)]
+#[derive(Drop)]
 pub enum Verdict {
     /// It is accepted. `sweeps` are those that its loops need on the care set, and `loose` is the number of gates
     /// that are unknown on some care vector. There is none where all gates are observed.
