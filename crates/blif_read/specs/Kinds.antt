@@ -32,23 +32,33 @@ is_left_out word =
     || bytes_eq word (codes ".conn")
     || bytes_eq word (codes ".barbuf")
 
+-- the directives that tell of arrivals, drives and loads at a port
+abbrev pub is_port_timing : List ℕ → Bool
+is_port_timing word =
+    bytes_eq word (codes ".input_arrival")
+    || bytes_eq word (codes ".output_required")
+    || bytes_eq word (codes ".input_drive")
+    || bytes_eq word (codes ".max_input_load")
+    || bytes_eq word (codes ".output_load")
+
+-- the same for all ports
+abbrev pub is_default_timing : List ℕ → Bool
+is_default_timing word =
+    bytes_eq word (codes ".default_input_arrival")
+    || bytes_eq word (codes ".default_output_required")
+    || bytes_eq word (codes ".default_input_drive")
+    || bytes_eq word (codes ".default_max_input_load")
+    || bytes_eq word (codes ".default_output_load")
+
 -- the directives that are read over with all their words
 abbrev pub is_read_over : List ℕ → Bool
 is_read_over word =
-    bytes_eq word (codes ".area")
+    is_port_timing word
+    || is_default_timing word
+    || bytes_eq word (codes ".area")
     || bytes_eq word (codes ".delay")
     || bytes_eq word (codes ".wire_load_slope")
     || bytes_eq word (codes ".wire")
-    || bytes_eq word (codes ".input_arrival")
-    || bytes_eq word (codes ".default_input_arrival")
-    || bytes_eq word (codes ".output_required")
-    || bytes_eq word (codes ".default_output_required")
-    || bytes_eq word (codes ".input_drive")
-    || bytes_eq word (codes ".default_input_drive")
-    || bytes_eq word (codes ".max_input_load")
-    || bytes_eq word (codes ".default_max_input_load")
-    || bytes_eq word (codes ".output_load")
-    || bytes_eq word (codes ".default_output_load")
     || bytes_eq word (codes ".attr")
     || bytes_eq word (codes ".param")
     || bytes_eq word (codes ".cname")

@@ -4,13 +4,13 @@ ghost use Rattle.blif_read.specs.TextFaults.{of_text};
 
 use blif_text::TextFault;
 use std::alloc::{AllocError, AllocFailed};
+use std::fmt;
 use thiserror::Error;
 
 /// Why a BLIF text has no models. A bad byte anywhere comes before all others; then the first line with a
 /// fault decides, and on one line the first that its variant names. Lines are counted from 1, and the line
 /// of a fault is the first physical line of its logical line.
 #[derive(Clone, Copy, Debug, Error)]
-#[error("the text has no models")]
 pub enum BlifFault {
     /// A byte outside comments is neither blank, tab nor a printed character.
     BadByte { line: u64 },
@@ -43,6 +43,12 @@ pub enum BlifFault {
     /// The text has no `.model` line.
     NoModel,
     Memory,
+}
+
+impl fmt::Display for BlifFault {
+    fn fmt<W: fmt::Write>(&self, f: &mut fmt::Formatter<W>) -> fmt::Result {
+        f.write_str("the text has no models")
+    }
 }
 
 impl From<AllocError> for BlifFault {

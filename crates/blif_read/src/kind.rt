@@ -1,5 +1,5 @@
 ghost use Rattle.std.specs.Prelude.{◌≡◌, ◌<◌, length};
-ghost use Rattle.blif_read.specs.Kinds.{begins_with_dot, is_left_out, is_read_over, directive_of, kind_of, kind};
+ghost use Rattle.blif_read.specs.Kinds.{begins_with_dot, is_left_out, is_port_timing, is_default_timing, is_read_over, directive_of, kind_of, kind};
 
 use crate::words::is;
 use blif_text::TextLine;
@@ -49,24 +49,38 @@ fn is_left_out(word: &[u8]) -> bool
         || is(word, b".barbuf")
 }
 
+// Whether the directive tells of arrivals, drives and loads at a port.
+fn is_port_timing(word: &[u8]) -> bool
+    ensures { result ≡ is_port_timing word.now }
+{
+    is(word, b".input_arrival")
+        || is(word, b".output_required")
+        || is(word, b".input_drive")
+        || is(word, b".max_input_load")
+        || is(word, b".output_load")
+}
+
+// Whether the directive tells of them for all ports.
+fn is_default_timing(word: &[u8]) -> bool
+    ensures { result ≡ is_default_timing word.now }
+{
+    is(word, b".default_input_arrival")
+        || is(word, b".default_output_required")
+        || is(word, b".default_input_drive")
+        || is(word, b".default_max_input_load")
+        || is(word, b".default_output_load")
+}
+
 // Whether the directive is read over with all its words.
 fn is_read_over(word: &[u8]) -> bool
     ensures { result ≡ is_read_over word.now }
 {
-    is(word, b".area")
+    is_port_timing(word)
+        || is_default_timing(word)
+        || is(word, b".area")
         || is(word, b".delay")
         || is(word, b".wire_load_slope")
         || is(word, b".wire")
-        || is(word, b".input_arrival")
-        || is(word, b".default_input_arrival")
-        || is(word, b".output_required")
-        || is(word, b".default_output_required")
-        || is(word, b".input_drive")
-        || is(word, b".default_input_drive")
-        || is(word, b".max_input_load")
-        || is(word, b".default_max_input_load")
-        || is(word, b".output_load")
-        || is(word, b".default_output_load")
         || is(word, b".attr")
         || is(word, b".param")
         || is(word, b".cname")
