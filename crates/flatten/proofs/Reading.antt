@@ -1,5 +1,5 @@
 -- Wires are read one after another: what was found in some of them, and in those that are left.
-use Rattle.std.proofs.Common.{◌≡◌, ℕ, List, [], ◌++◌, refl, sym, ap, ◌∙◌, Some, None, arith}
+use Rattle.std.proofs.Common.{◌≡◌, ℕ, List, [], ◌++◌, sym, ap, ◌∙◌, Some, None, arith}
 use Rattle.std.proofs.lemmas.List.Folds.{find-append}
 use Rattle.cyc_base.proofs.ListLemmas.{option_or-None, option_map-or}
 use Rattle.flatten.proofs.Common.{find, option_or, Option, FlatFault, undriven_among, AreRead}
@@ -33,10 +33,7 @@ module _ (table : DriverTable) where
   pub read_both : (xs ys : List (List ℕ)) (before m after : Option (List ℕ)) → AreRead table xs before m → AreRead table ys m after → AreRead table (xs ++ ys) before after
   read_both xs ys before m after front behind = grind (arith, undriven_behind xs ys front.driven, clock_behind xs ys before m front.clock)
 
-  -- in a loop: at first, behind some more, at the first fault, and in the end
-  pub all_left : (all : List (List ℕ)) (before : Option (List ℕ)) → IsLeft table all all before before
-  all_left all before = record { driven = refl; clock = refl }
-
+  -- in a loop: behind some more, at the first fault, and in the end
   pub fewer_left : (all here xs left : List (List ℕ)) (before m n : Option (List ℕ)) → here ≡ xs ++ left → IsLeft table all here before m → AreRead table xs m n → IsLeft table all left before n
   fewer_left all here xs left before m n is old read = grind (arith, undriven_behind xs left read.driven, clock_behind xs left m n read.clock)
 

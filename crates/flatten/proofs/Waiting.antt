@@ -1,6 +1,6 @@
 -- The levels that are open, and what the walk comes to at their next items.
-use Rattle.std.proofs.Common.{◌≡◌, ℕ, suc, ◌-◌, ◌<◌, nat_le, Bool, false, List, [], ◌∷◌, ◌++◌, length, map, drop, refl, ap, ◌∙◌, arith, append_assoc, Some, Ok, Err, add-one, All, option_map, ◌⊎◌}
-use Rattle.flatten.proofs.Common.{or-false, common_steps, append-nil, All-nil, All-cons, list_any, bytes_eq, Option, Clock, BlifModel, GateLine, LatchLine, PartLine, Item, Gate, Latch, Part, FlatFault, Level, Instance, name_at, gate_at, latch_at, clock_at, model_at, is_open, entry, entered, Event, gate, latch, opens, fails, events, resolved, gate_by, latch_by, passed_line, passed_part}
+use Rattle.std.proofs.Common.{◌≡◌, ℕ, suc, ◌-◌, ◌<◌, Bool, false, List, [], ◌∷◌, ◌++◌, length, map, drop, refl, ap, ◌∙◌, arith, append_assoc, Some, Ok, Err, add-one, All, option_map, ◌⊎◌}
+use Rattle.flatten.proofs.Common.{or-false, append-nil, All-nil, All-cons, list_any, bytes_eq, Option, Clock, BlifModel, GateLine, LatchLine, PartLine, Item, Gate, Latch, Part, FlatFault, Level, Instance, name_at, gate_at, latch_at, clock_at, model_at, is_open, entry, entered, Event, gate, latch, opens, fails, events, resolved, gate_by, latch_by, passed_line, passed_part}
 use Rattle.flatten.specs.Laws.{prefix_of, table_of}
 use Rattle.flatten.specs.Levels.{clock_by, IsInner, IsAt, remaining, Waits}
 use Rattle.flatten.proofs.Climbing.{resolved_is_climbed}
@@ -43,9 +43,6 @@ StandsAt models level x = drop level.next (model_at models level.model).body ≡
 -- an instance is entered only where its model is found and that isn't too deep
 pub entry_ok : (name : List ℕ) (a b : Bool) (f : ℕ → Option FlatFault) (x : Option ℕ) (i : ℕ) → entry name a b f x ≡ Ok i → (b ≡ false) × (x ≡ Some i)
 entry_ok name a b f x i e = grind arith
-
-pub shallow : (a b : ℕ) → nat_le a b ≡ false → b < a
-shallow a b h = grind (arith, common_steps)
 
 -- what the walk comes to at its first item
 module _ (depth : ℕ) (models : List BlifModel) (top m : List ℕ) where
