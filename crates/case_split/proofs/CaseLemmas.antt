@@ -1,10 +1,10 @@
 -- The tables of cases, what is chosen among them, and the heads.
-use Rattle.std.proofs.Common.{◌≡◌, ◌⊎◌, inl, inr, ℕ, zero, suc, ◌+◌, ◌-◌, ◌*◌, ◌<◌, ◌≤◌, Bool, true, false, not, List, [], ◌∷◌, ◌++◌, length, map, get_or, set, take, replicate, Option, Some, None, All, Contains, refl, sym, ap, ◌∙◌, subst, arith}
+use Rattle.std.proofs.Common.{◌≡◌, ◌⊎◌, inl, inr, ℕ, suc, ◌+◌, ◌-◌, ◌*◌, ◌<◌, ◌≤◌, Bool, true, false, List, [], ◌∷◌, ◌++◌, length, get_or, set, take, replicate, Option, Some, None, All, Contains, refl, sym, ap, ◌∙◌, subst, arith}
 use Rattle.std.specs.List.{range_with_len}
 use Rattle.std.specs.List.Sorted.{IsPermutation}
 use Rattle.std.proofs.lemmas.Bool.{cases_eq, cases_lt}
-use Rattle.std.proofs.lemmas.List.{get_or-append_right, get_or-map, get_or-set_other, get_or-set_same, get_or_append_left, get_or_default, length-append, length-map, length-replicate, length-set, take_more}
-use Rattle.std.proofs.lemmas.List.Elements.{All-append, All-cons, All-contains, All-from_recursion, All-get_or, All-map, All-nil, All-push, All-replicate, All-same, recursion_from_All}
+use Rattle.std.proofs.lemmas.List.{get_or-append_right, get_or-map, get_or-set_other, get_or-set_same, get_or_append_left, get_or_default, length-append, length-replicate, length-set, take_more}
+use Rattle.std.proofs.lemmas.List.Elements.{All-append, All-cons, All-contains, All-from_recursion, All-map, All-nil, All-push, All-replicate, All-same, recursion_from_All}
 use Rattle.std.proofs.lemmas.List.FromFn.{get_or-range_with_len, length-range_with_len}
 use Rattle.std.proofs.lemmas.List.Sorted.{Contains-permutation, length_permutation}
 use Rattle.cyc_base.proofs.ListLemmas.{Contains-filter, Contains-range}
@@ -18,17 +18,16 @@ use Rattle.netlist.specs.declared.parts.Parts.{Parts}
 use Rattle.netlist.specs.Fixpoint.{wire, fix}
 use Rattle.netlist.specs.Netlists.{count, gate_sig, no_gate, signal, is_marked}
 use Rattle.netlist.proofs.FixpointLemmas.{unknown_below_state}
-use Rattle.loops.specs.Sweeps.{first_gate}
 use Rattle.case_split.specs.declared.cases.Case.{Case}
 use Rattle.case_split.specs.declared.cases.ColumnValue.{ColumnValue}
 use Rattle.case_split.specs.declared.operands.Operand.{Operand}
 use Rattle.case_split.specs.declared.operands.Operand.TheVariants.{Constant, Wire}
-use Rattle.case_split.specs.Cases.{Holds, IsInCase}
+use Rattle.case_split.specs.Cases.{Holds}
 use Rattle.case_split.specs.Operands.{value_by, IsWithin}
 use Rattle.case_split.specs.Added.{AreNew, IsMore}
 use Rattle.case_split.specs.Sizes.{copied_gates}
 use Rattle.case_split.specs.Tables.{operand_at, plain_of, ArePlain, IsPlain, IsMade, IsTable, AreStanding, AreCopySteps}
-use Rattle.case_split.specs.CaseTables.{IsBelowCase, IsPossible, IsImpossible, IsCaseTable, IsTableStep, IsEntry, AreTables}
+use Rattle.case_split.specs.CaseTables.{IsBelowCase, IsCaseTable, IsTableStep, IsEntry, AreTables}
 use Rattle.case_split.specs.Cubes.{IsCube}
 use Rattle.case_split.specs.Choices.{AreLeavesOf, IsChosen}
 use Rattle.case_split.specs.Heads.{leaves_of, AreStandingIn, IsWithinAny, IsRoot, IsRootStep, AreRoots, IsHead, AreHeads}
@@ -141,16 +140,6 @@ case_more net marks case a b m table h (inl is) = inl (record {
 })
 case_more net marks case a b m table h (inr is) = inr is
 
-pub tables_none : (net : Parts) (marks : List Bool) (cases : List Case) (gates : List Gate) → AreNew net gates → AreTables net marks cases 0 gates gates []
-tables_none net marks cases gates are = record {
-  width = refl;
-  each = λ i c d l. absurd (omega arith);
-  wide = All-nil (λ table. length table ≡ count net);
-  within = All-nil (All (IsWithin (count net + length gates)));
-  more = more_weaker gates gates 0 (0 * length (copied_gates net marks)) (omega arith) (more_none gates);
-  are = are;
-}
-
 pub tables_next : (net : Parts) (marks : List Bool) (cases : List Case) (n : ℕ) (case : Case) (old mid new : List Gate) (tables : List (List Operand)) (table : List Operand) → AreTables net marks cases n old mid tables → n < length cases → case ≡ get_or cases n case → IsEntry net marks case mid new table → AreTables net marks cases (n + 1) old new (tables ++ table ∷ [])
 tables_next net marks cases n case old mid new tables table h inside is entry =
     let width = h.width in
@@ -225,15 +214,6 @@ root_more net cases tables a b m n root h is = record {
   operand = is.operand;
   is = is.is;
   under = λ f agree. is.under f (agrees_before f (count net) a b m h agree);
-}
-
-pub roots_none : (net : Parts) (cases : List Case) (tables : List (List Operand)) (gates : List Gate) (roots : List (Option Operand)) (many : ℕ) → many ≡ length net.gates → roots ≡ replicate many None → AreNew net gates → AreRoots net cases tables [] gates gates roots
-roots_none net cases tables gates roots many e is are = record {
-  width = (let none : Option Operand = None in ap length is ∙ length-replicate many none ∙ e);
-  each = All-nil (λ n. IsRoot net cases tables gates n (get_or roots n None));
-  within = All-same (IsWithinAny (count net + length gates)) roots (replicate many None) is (All-replicate (IsWithinAny (count net + length gates)) many None tt);
-  more = more_weaker gates gates 0 (0 * length cases) (omega arith) (more_none gates);
-  are = are;
 }
 
 pub roots_next : (net : Parts) (cases : List Case) (tables : List (List Operand)) (list : List ℕ) (j n : ℕ) (old mid new : List Gate) (roots : List (Option Operand)) (operand : Operand) → AreRoots net cases tables (take j list) old mid roots → All (λ m. m < length net.gates) list → j < length list → get_or list j 0 ≡ n →

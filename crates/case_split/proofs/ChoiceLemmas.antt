@@ -192,24 +192,6 @@ common_chosen net cases leaves gates operand h wide within are = record {
   within = All-contains (IsWithin (count net + length gates)) leaves operand within h.among;
 }
 
-pub upto_none : (net : Parts) (cases : List Case) (leaves : List Operand) (gates : List Gate) → AreNew net gates → IsChosenUpTo net cases leaves 0 gates gates (Constant false)
-upto_none net cases leaves gates are = record {
-  inside = omega arith;
-  here = λ f agree i d l only. absurd (omega arith);
-  later = λ f agree i l only. refl;
-  more = more_none gates;
-  are = are;
-  within = tt;
-}
-
-pub upto_all : (net : Parts) (cases : List Case) (leaves : List Operand) (n : ℕ) (old new : List Gate) (chosen : Operand) → IsChosenUpTo net cases leaves n old new chosen → length cases ≤ n → IsChosen net cases leaves old new chosen
-upto_all net cases leaves n old new chosen h l = record {
-  under = λ f agree i d k only. h.here f agree i d (omega arith) only;
-  more = more_weaker old new n (length cases) (let i = h.inside in omega arith) h.more;
-  are = h.are;
-  within = h.within;
-}
-
 -- a part of the cases, from number n on
 pub record IsPart (cases part : List Case) (n : ℕ) : Type 0 where
   pub inside : n + length part ≤ length cases

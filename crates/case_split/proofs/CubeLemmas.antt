@@ -1,5 +1,5 @@
 -- What cubes ask.
-use Rattle.std.proofs.Common.{◌≡◌, ◌==◌, ◌≢◌, inl, inr, ℕ, zero, suc, ◌+◌, ◌<◌, ◌≤◌, Bool, true, false, not, if◌then◌else◌, List, [], ◌∷◌, ◌++◌, length, get_or, drop, All, Contains, refl, sym, ap, ◌∙◌, subst, arith}
+use Rattle.std.proofs.Common.{◌≡◌, inl, inr, ℕ, zero, suc, ◌+◌, ◌<◌, Bool, true, false, not, if◌then◌else◌, List, [], ◌∷◌, ◌++◌, length, get_or, All, Contains, refl, sym, ap, ◌∙◌, subst, arith}
 use Rattle.std.proofs.lemmas.Bool.{cases_eq, eq-eqb, ne_eqb}
 use Rattle.std.proofs.lemmas.List.{get_or-append-add, get_or_append_left, length-append}
 use Rattle.std.proofs.lemmas.List.Elements.{All-contains, All-head, All-tail}
@@ -10,28 +10,6 @@ use Rattle.case_split.specs.declared.cases.ColumnValue.{ColumnValue}
 use Rattle.case_split.specs.Cubes.{asked_of, literal_of, IsCube}
 
 -- ---- what a cube asks, from a place on
-
-pub asked_from : (cube : List ColumnValue) (i column : ℕ) (d : ColumnValue) → i < length cube → asked_of (drop i cube) column ≡ (if (get_or cube i d).column == column then literal_of (get_or cube i d).value else asked_of (drop (suc i) cube) column)
-asked_from [] i column d l = absurd (omega arith)
-asked_from (x ∷ cube) zero column d l = refl
-asked_from (x ∷ cube) (suc i) column d l = asked_from cube i column d (omega arith)
-
-pub asked_here : (cube : List ColumnValue) (i column : ℕ) (d : ColumnValue) → i < length cube → (get_or cube i d).column ≡ column → asked_of (drop i cube) column ≡ literal_of (get_or cube i d).value
-asked_here cube i column d l e =
-    asked_from cube i column d l
-    ∙ ap (λ (t : Bool). if t then literal_of (get_or cube i d).value else asked_of (drop (suc i) cube) column) (eq-eqb (get_or cube i d).column column e)
-
-pub asked_later : (cube : List ColumnValue) (i column : ℕ) (d : ColumnValue) → i < length cube → (get_or cube i d).column ≢ column → asked_of (drop i cube) column ≡ asked_of (drop (i + 1) cube) column
-asked_later cube i column d l e =
-    asked_from cube i column d l
-    ∙ ap (λ (t : Bool). if t then literal_of (get_or cube i d).value else asked_of (drop (suc i) cube) column) (ne_eqb (get_or cube i d).column column e)
-    ∙ ap (λ (k : ℕ). asked_of (drop k cube) column) (let s : suc i ≡ i + 1 = omega arith in s)
-
-pub asked_past : (cube : List ColumnValue) (i column : ℕ) → length cube ≤ i → asked_of (drop i cube) column ≡ asked_of [] column
-asked_past [] zero column l = refl
-asked_past [] (suc i) column l = refl
-asked_past (x ∷ cube) zero column l = absurd (omega arith)
-asked_past (x ∷ cube) (suc i) column l = asked_past cube i column (omega arith)
 
 -- ---- a cube that holds asks of no column both values
 

@@ -4,7 +4,7 @@ use Rattle.std.specs.List.{range_with_len}
 use Rattle.std.specs.List.Sorted.{IsPermutation}
 use Rattle.std.proofs.lemmas.Bool.{cases_eq, cases_lt, eq-eqb, ne_eqb}
 use Rattle.std.proofs.lemmas.List.{get_or-append-add, get_or_append_left, get_or_default, get_or-map, get_or_past, length-append, length-map, map-append, take_more}
-use Rattle.std.proofs.lemmas.List.Elements.{All-append, All-cons, All-contains, All-head, All-map, All-nil, All-push, All-tail, All-weaker, Contains-append_left, Contains-get_or, Contains-push}
+use Rattle.std.proofs.lemmas.List.Elements.{All-append, All-cons, All-contains, All-head, All-map, All-nil, All-push, All-tail, All-weaker, Contains-get_or}
 use Rattle.std.proofs.lemmas.List.FromFn.{get_or-range_with_len, length-range_with_len}
 use Rattle.std.proofs.lemmas.List.Sorted.{All-permutation, Contains-permutation, length_permutation}
 use Rattle.cyc_base.specs.declared.sig.Sig.{Sig}
@@ -26,57 +26,13 @@ use Rattle.case_split.specs.declared.pins.Pin.TheVariants.{Column, Leaf}
 use Rattle.case_split.specs.Choices.{AreNarrow, HoldsBy}
 use Rattle.case_split.specs.Cubes.{asked_of, literal_of}
 use Rattle.case_split.specs.Operands.{value_by, IsWithin}
-use Rattle.case_split.specs.Pins.{asked_at, column_pins, operand_on, pins_for, AddsPins, AreFirstsUpTo, ArePinsAt, ArePinsOf, AreRows, AreRowsOf, IsPinWithin}
+use Rattle.case_split.specs.Pins.{asked_at, column_pins, operand_on, pins_for, AddsPins, ArePinsAt, ArePinsOf, AreRows, AreRowsOf, IsPinWithin}
 use Rattle.case_split.proofs.CofactorLemmas.{no_fault}
 use Rattle.case_split.proofs.CubeLemmas.{all_back, all_front, asked_must, may_not}
 
 -- ---- the first places of leaves
 
-pub firsts_none : (leaves : List Operand) → AreFirstsUpTo leaves 0 []
-firsts_none leaves = record { width = refl; same = λ i d l. absurd (omega arith) }
-
-pub firsts_next : (leaves : List Operand) (n first : ℕ) (firsts : List ℕ) → AreFirstsUpTo leaves n firsts → ((d : Operand) → get_or leaves first d ≡ get_or leaves n d) → AreFirstsUpTo leaves (n + 1) (firsts ++ first ∷ [])
-firsts_next leaves n first firsts h is = record {
-  width = length-append firsts (first ∷ []) ∙ ap (λ (k : ℕ). k + 1) h.width;
-  same = λ i d l. elim (cases_lt i n) [
-    | inl less ↦ ap (λ (k : ℕ). get_or leaves k d) (get_or_append_left firsts (first ∷ []) 0 i (let w = h.width in omega arith)) ∙ h.same i d less
-    | inr most ↦
-        let w = h.width in
-        let last : i ≡ length firsts + 0 = omega (arith, most, l, w) in
-        let here : i ≡ n = omega (arith, most, l) in
-        ap (λ (k : ℕ). get_or leaves k d) (ap (λ (k : ℕ). get_or (firsts ++ first ∷ []) k 0) last ∙ get_or-append-add firsts (first ∷ []) 0 0)
-        ∙ is d
-        ∙ ap (λ (k : ℕ). get_or leaves k d) (sym here)
-  ];
-}
-
 -- ---- pins that are added
-
-pub adds_none : (old : List Pin) → AddsPins [] old old
-adds_none old = record {
-  keeps = λ pin h. h;
-  each = All-nil (Contains old);
-  within = λ bound h k. h;
-  few = omega arith;
-}
-
-pub adds_known : (pin : Pin) (old : List Pin) → Contains old pin → AddsPins (pin ∷ []) old old
-adds_known pin old h = record {
-  keeps = λ p k. k;
-  each = All-cons (Contains old) pin [] h (All-nil (Contains old));
-  within = λ bound k all. k;
-  few = omega arith;
-}
-
-pub adds_new : (pin : Pin) (old : List Pin) → AddsPins (pin ∷ []) old (old ++ pin ∷ [])
-adds_new pin old =
-    let new = old ++ pin ∷ [] in
-    record {
-      keeps = λ p k. Contains-append_left old (pin ∷ []) p k;
-      each = All-cons (Contains new) pin [] (Contains-push old pin) (All-nil (Contains new));
-      within = λ bound k all. All-push (IsPinWithin bound) old pin k (All-head (IsPinWithin bound) pin [] all);
-      few = (let g = length-append old (pin ∷ []) in omega arith);
-    }
 
 pub adds_both : (pin : Pin) (more old mid new : List Pin) → AddsPins (pin ∷ []) old mid → AddsPins more mid new → AddsPins (pin ∷ more) old new
 adds_both pin more old mid new first second = record {
@@ -110,13 +66,6 @@ columns_next cube i d old mid new h l is =
     (adds_last (column_pins (take i cube)) (Column x.column) old mid new h is)
 
 -- ---- pins for cases
-
-pub at_none : (cases : List Case) (firsts : List ℕ) → ArePinsAt cases firsts [] []
-at_none cases firsts = record {
-  each = λ k d less. absurd (omega arith);
-  within = λ bound h. All-nil (IsPinWithin bound);
-  few = λ most h. omega arith;
-}
 
 module _ (cases : List Case) (firsts : List ℕ) where
   abbrev HasPins : List Pin → ℕ → Type 0
@@ -190,9 +139,6 @@ operands_within bound more cases firsts pins leaves are low within =
 
 abbrev row_asks : List Case → List ℕ → List Pin → ℕ → Case → List Lit
 row_asks cases firsts pins i c = map (asked_at (get_or cases i c).cube.items (get_or firsts i 0)) pins
-
-pub rows_none : (cases : List Case) (firsts : List ℕ) (pins : List Pin) → AreRowsOf cases firsts pins 0 []
-rows_none cases firsts pins = record { inside = omega arith; width = refl; each = λ i c d l. absurd (omega arith) }
 
 row_last : (rows : List Row) (row : Row) (n : ℕ) (d : Row) → length rows ≡ n → get_or (rows ++ row ∷ []) n d ≡ row
 row_last rows row n d wide = ap (λ (i : ℕ). get_or (rows ++ row ∷ []) i d) (let e : n ≡ length rows + 0 = omega (arith, wide) in e) ∙ get_or-append-add rows (row ∷ []) 0 d

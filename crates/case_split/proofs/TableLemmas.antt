@@ -180,16 +180,6 @@ gate_name_fits net n valid l =
 
 -- ---- gates one after another
 
-pub none_copied : (net : Parts) (gates : List Gate) (table : List Operand) → AreNew net gates → length table ≡ count net → All (IsWithin (count net + length gates)) table → AreCopySteps net [] gates gates table table
-none_copied net gates table are width within = record {
-  more = more_none gates;
-  are = are;
-  width = width;
-  within = within;
-  stand = λ values stand. stand;
-  made = λ values stand. All-nil (IsMade net values (count net) gates table);
-}
-
 pub next_copied : (net : Parts) (list : List ℕ) (j n : ℕ) (old mid new : List Gate) (before between after : List Operand) → AreCopySteps net (take j list) old mid before between → All (λ m. m < length net.gates) list → j < length list → get_or list j 0 ≡ n →
     IsCopyStep net n mid new between after → AreCopySteps net (take (j + 1) list) old new before after
 next_copied net list j n old mid new before between after steps all l at step =

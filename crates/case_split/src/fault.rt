@@ -5,7 +5,7 @@ use std::alloc::AllocError;
 use thiserror::Error;
 
 /// Why a netlist isn't split by cases.
-#[derive(Clone, Copy, Debug, PartialEq, Eq, Error)]
+#[derive(Clone, Copy, Debug, Error)]
 pub enum SplitFault {
     /// With two gates for each gate of a loop in each case there may be this many gates and latches, over
     /// 4,000,000.

@@ -18,7 +18,7 @@ use crate::operands::Operand;
 use crate::tables::operand_of;
 use cover_logic::{Cover, Lit, Row};
 use cyc_base::{Items, Name, Sig};
-use netlist::Gate;
+use netlist::{Gate, copy_gate};
 use std::alloc::{AllocError, Global};
 
 /// What stands for a signal in each case.
@@ -144,16 +144,6 @@ fn shown(alloc: Global, name: Name, root: Option<Operand>) -> Result<Gate, Alloc
         Some(Operand::Constant(value)) => constant(alloc, name, value),
         None => constant(alloc, name, false),
     }
-}
-
-/// An equal gate.
-fn copy_gate(alloc: Global, gate: &Gate) -> Result<Gate, AllocError>
-    ensures { IfOk result (λ copy. copy ≡ gate.now) }
-{
-    let name = gate.name.copy()?;
-    let pins = Items::of(gate.pins.items().to_vec(alloc)?);
-    let cover = gate.cover.copy()?;
-    Ok(Gate { name, pins, cover })
 }
 
 fn head_of(

@@ -16,7 +16,7 @@ use ternary_run::Fanout;
 
 /// How many gates are left in loops, how many pins within them, and how many gates the longest path has. Fewer gates count
 /// before fewer pins, and these before a shorter path.
-#[derive(Clone, Copy, PartialEq, Eq, PartialOrd, Ord)]
+#[derive(Clone, Copy, PartialEq, Eq, PartialOrd)]
 pub struct LeftOver {
     pub gates: u64,
     pub pins: u64,
