@@ -18,12 +18,6 @@ used-kept old new s keeps used l = let w = keeps.width in keeps.keeps s.0 (used 
 pub wires-kept : (old new : List Bool) (row : Row) → KeepsMarks old new → All (λ e. IsUsed old e.wire) row.values → All (λ e. IsUsed new e.wire) row.values
 wires-kept old new row keeps used k d l = used-kept old new (get_or row.values k d).wire keeps (used k d l)
 
-pub rows-kept : (old new : List Bool) (rows : List Row) → KeepsMarks old new → All (λ row. All (λ e. IsUsed old e.wire) row.values) rows → All (λ row. All (λ e. IsUsed new e.wire) row.values) rows
-rows-kept old new rows keeps used k d l = wires-kept old new (get_or rows k d) keeps (used k d l)
-
-pub columns-kept : (old new : List Bool) (columns : List ℕ) → KeepsMarks old new → All (λ column. is_marked old column ≡ true) columns → All (λ column. is_marked new column ≡ true) columns
-columns-kept old new columns keeps used k d l = keeps.keeps (get_or columns k d) (used k d l)
-
 -- the first i of a list are marked, each in the sense of P, which marks that are kept keep
 pub record MarkedSoFar {A : Type 0} (P : List Bool → A → Type 0) (xs : List A) (first : List Bool) (i : ℕ) (marks : List Bool) : Type 0 where
   pub keeps : KeepsMarks first marks

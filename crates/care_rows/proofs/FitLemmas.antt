@@ -1,7 +1,7 @@
 -- What is kept for rows whose wires no loop takes part in fits.
 use Rattle.std.proofs.Common.{◌≡◌, ◌⊎◌, inl, inr, ℕ, zero, suc, ◌+◌, ◌-◌, ◌<◌, Bool, true, List, [], ◌∷◌, ◌++◌, length, map, get_or, All, Contains, Option, Some, None, refl, sym, ap, ◌∙◌, subst, arith}
 use Rattle.std.specs.Prelude.{IfSome, option_map}
-use Rattle.care_rows.proofs.Common.{AllByRecursion, AreSteadyRows, AreUsed, AnyGate, CareModel, Contains-get_or, count, CareSet, IsBoundTo, IsCare, IsCareModel, IsCareOf, IsConeOf, IsNetlist, IsSteadySignal, IsUpstream, Leads, Parts, Plan, Row, Sig, WireValue, assumed_columns, cases_lt, columns, gate_at, gate_sig, gates_of_rows, get_or-append_right, get_or-map, get_or_append_left, is_marked, length-append, length-map, no_gate, plan_by, recursion_from_All, signal, option_map_or}
+use Rattle.care_rows.proofs.Common.{AllByRecursion, AreSteadyRows, AreUsed, AnyGate, CareModel, Contains-get_or, CareSet, IsBoundTo, IsCare, IsCareModel, IsCareOf, IsConeOf, IsNetlist, IsSteadySignal, IsUpstream, Leads, Parts, Plan, Row, Sig, WireValue, assumed_columns, cases_lt, columns, gate_at, gate_sig, gates_of_rows, get_or-append_right, get_or-map, get_or_append_left, is_marked, length-append, length-map, no_gate, plan_by, recursion_from_All, signal, option_map_or}
 use Rattle.std.proofs.lemmas.List.Elements.{Contains-append_left, Contains-append_right}
 use Rattle.care_sets.proofs.BindingLemmas.{columns_within}
 use Rattle.loops.proofs.UpstreamLemmas.{upstream-trans}
@@ -52,10 +52,6 @@ assumed_within net care bound = by care.assume bound.assume
     by : (a : Option CareModel) → IfSome a (IsBoundTo net 0) → All (λ column. column < columns net) (option_map_or (λ (m : CareModel). m.columns) a [])
     by None b = λ k d l. absurd (omega (arith, l))
     by (Some m) b = λ k d l. columns_within net m.net.inputs m.columns k d b.names l
-
--- the wires of steady rows are signals
-pub rows_within : (net : Parts) (rows : List Row) (long : ℕ) → AreSteadyRows net rows → long ≡ count net → All (λ row. All (λ e. e.wire.0 < long) row.values) rows
-rows_within net rows long steady is k d l i e inside = let known = (steady k d l i e inside).within in omega (arith, known, is)
 
 -- the gate that drives a wire of a row is one of these
 drives : (net : Parts) (rows : List Row) (k : ℕ) (d : Row) → k < length rows → (i : ℕ) (e : WireValue) → i < length (get_or rows k d).values → (g : ℕ) → (get_or (get_or rows k d).values i e).wire ≡ gate_sig net g → Contains (gates_of_rows net rows) g

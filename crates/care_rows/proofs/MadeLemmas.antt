@@ -1,13 +1,11 @@
 -- What is made is the model.
-use Rattle.std.proofs.Common.{◌≡◌, ◌⊎◌, inl, inr, ◌+◌, ◌≤◌, ℕ, List, Option, length, sym, ap, subst, arith}
+use Rattle.std.proofs.Common.{◌≡◌, ◌+◌, ◌≤◌, ℕ, List, Option, length, sym, ap, subst, arith}
 use Rattle.std.specs.Prelude.{IfSome, option_map}
 use Rattle.cyc_base.specs.declared.limits.TheConstants.{MAX_FLAT_ITEMS}
-use Rattle.care_rows.proofs.Common.{AreSteadyRows, CareModel, CareSet, IsCare, IsCareOf, IsKept, IsModelSize, IsNetlist, IsOver, IsRestricted, IsTooLarge, Kept, Parts, Plan, Row, all_marked, assumed_columns, assumed_size, base_of, model_of, option_map_or, plan_of, size_of, telling_gates, telling_of_rows, total_of}
-use Rattle.care_rows.specs.declared.fault.RestrictFault.{RestrictFault}
-use Rattle.care_rows.specs.declared.fault.RestrictFault.TheVariants.{Memory}
+use Rattle.care_rows.proofs.Common.{AreSteadyRows, CareModel, CareSet, IsCare, IsCareOf, IsKept, IsModelSize, IsNetlist, IsRestricted, Kept, Parts, Plan, Row, all_marked, assumed_columns, assumed_size, base_of, model_of, option_map_or, plan_of, size_of, telling_gates, telling_of_rows, total_of}
 use Rattle.unroll.specs.Marks.{mark}
 use Rattle.care_rows.proofs.LayoutLemmas.{length-model}
-use Rattle.care_rows.proofs.RestrictLemmas.{model_size, restricted_is, restricted_valid, too_large}
+use Rattle.care_rows.proofs.RestrictLemmas.{model_size, restricted_is, restricted_valid}
 
 pub record IsMade (net : Parts) (care : CareSet) (rows : List Row) (parts : Parts) : Type 0 where
   pub valid : IsNetlist parts
@@ -45,7 +43,3 @@ module _ (net : Parts) (care : CareSet) (rows : List Row) (kept : Kept) (old : O
         size = model_size net care rows kept.columns.items kept.gates.items is.cone_is (mark net);
         small = let l = length-model plan (mark net) in let s = size_plan in omega (arith, l, s, n_is, small);
       })
-
-  pub fault_is : (fault : RestrictFault) → (fault ≡ Memory) ⊎ IsOver size fault → (fault ≡ Memory) ⊎ IsTooLarge net care rows fault
-  fault_is fault (inl e) = inl e
-  fault_is fault (inr over) = inr (too_large net care rows kept.columns.items kept.gates.items is.cone_is size fault size_plan over)

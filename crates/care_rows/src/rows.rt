@@ -1,14 +1,13 @@
 use cyc_base::{Items, Sig};
 
 /// A wire with the value that a row asks of it.
-#[derive(Clone, Copy, Debug, PartialEq, Eq)]
+#[derive(Clone, Copy)]
 pub struct WireValue {
     pub wire: Sig,
     pub value: bool,
 }
 
 /// Values of wires, together. A row without values asks nothing, so each vector is in it.
-#[derive(Debug)]
 pub struct Row {
     pub values: Items<WireValue>,
 }
