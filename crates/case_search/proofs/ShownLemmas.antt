@@ -1,11 +1,10 @@
 -- Cases that are shown to be cases on care.
-use Rattle.std.proofs.Common.{◌≡◌, ◌≢◌, ◌⊎◌, inl, inr, ℕ, zero, suc, ◌+◌, ◌<◌, Bool, true, false, not, List, [], ◌∷◌, ◌++◌, length, map, take, get_or, refl, sym, ap, subst, ◌∙◌, arith}
-use Rattle.std.specs.Prelude.{Any, Contains}
+use Rattle.std.proofs.Common.{◌≡◌, ◌≢◌, ◌⊎◌, inl, inr, ℕ, suc, ◌+◌, ◌<◌, Bool, true, false, not, List, [], ◌∷◌, ◌++◌, length, map, take, get_or, refl, sym, ap, subst, ◌∙◌, arith}
+use Rattle.std.specs.Prelude.{Any}
 use Rattle.std.specs.List.{All}
 use Rattle.std.proofs.lemmas.Bool.{cases_lt}
 use Rattle.std.proofs.lemmas.List.{get_or_default, get_or-map, get_or-take, length-map, length-take-le, take_more}
 use Rattle.std.proofs.lemmas.List.Elements.{All-append, All-cons, All-map, All-nil, All-push}
-use Rattle.cyc_base.specs.declared.trit.Trit.{Trit}
 use Rattle.cyc_base.specs.declared.trit.Trit.TheVariants.{X}
 use Rattle.cyc_base.specs.Values.{bit, bits}
 use Rattle.netlist.specs.Netlists.{columns}
@@ -14,7 +13,7 @@ use Rattle.loops.specs.Sweeps.{first_gate}
 use Rattle.care_sets.specs.Care.{CareSet, IsCareVector}
 use Rattle.case_split.specs.declared.cases.Case.{Case}
 use Rattle.case_split.specs.declared.cases.ColumnValue.{ColumnValue}
-use Rattle.case_split.specs.Cases.{AreOfColumns, Holds, IsContradicted, IsInCase, IsInOneCase, IsRuledOut, IsUsable}
+use Rattle.case_split.specs.Cases.{AreOfColumns, Holds, IsContradicted, IsInOneCase, IsRuledOut, IsUsable}
 use Rattle.clause_pairs.specs.declared.cubes.Cube.{Cube}
 use Rattle.clause_pairs.specs.declared.pairs.Fixed.{Fixed}
 use Rattle.clause_pairs.specs.Apart.{HasFixed, IsCubeOf, IsInCube}
@@ -41,27 +40,11 @@ have-none q values cube is out = λ net care asks v counts has. out net care ask
 pub apart-both : (q : AskedCare) (cube other both : List ColumnValue) → both ≡ cube ++ other → ToldBy q (λ net care. HaveNone net care both) → ToldBy q (λ net care. AreApart net care cube other)
 apart-both q cube other both is none = λ net care asks v counts here there. none net care asks v counts (subst (HasAll v) (sym is) (All-append (Has v) cube other here there))
 
-pub apart-contrary : (q : AskedCare) (cube other : List ColumnValue) → ((v : List Bool) → HasAll v cube → ¬ HasAll v other) → ToldBy q (λ net care. AreApart net care cube other)
-apart-contrary q cube other contrary = λ net care asks v counts. contrary v
-
 same-or-other : (a b : Bool) → (a ≡ b) ⊎ (a ≡ not b)
 same-or-other true true = inl refl
 same-or-other true false = inr refl
 same-or-other false true = inr refl
 same-or-other false false = inl refl
-
-not-both : (a b : Bool) → a ≡ b → ¬ (a ≡ not b)
-not-both true true e f = absurd cc
-not-both true false e f = absurd cc
-not-both false true e f = absurd cc
-not-both false false e f = absurd cc
-
-pub contrary-found : (v : List Bool) (cube other : List ColumnValue) (value : ColumnValue) → Contains cube value → Contains other (opposite_of value) → HasAll v cube → ¬ HasAll v other
-contrary-found v cube other value in_cube in_other here there =
-    not-both (get_or v value.column false) value.value (at cube value in_cube here) (at other (opposite_of value) in_other there)
-  where
-    at : (values : List ColumnValue) (e : ColumnValue) → Contains values e → HasAll v values → Has v e
-    at values e among all = subst (Has v) among.2 (all among.0 e among.1)
 
 pub forced-value : (q : AskedCare) (cube contrary : List ColumnValue) (value : ColumnValue) → contrary ≡ cube ++ opposite_of value ∷ [] → ToldBy q (λ net care. HaveNone net care contrary) →
     ToldBy q (λ net care. ForcesKnown net care cube (value ∷ []))

@@ -1,5 +1,5 @@
 -- Netlists that are split by cases.
-use Rattle.std.proofs.Common.{◌≡◌, ◌≤◌, ℕ, Bool, List, length, subst, ◌∙◌}
+use Rattle.std.proofs.Common.{◌≡◌, Bool, List, length, subst, ◌∙◌}
 use Rattle.std.specs.Prelude.{IfOk, IfSome, Ok, Err, Some, None}
 use Rattle.std.specs.declared.option.Option.{Option}
 use Rattle.std.specs.declared.result.Result.{Result}
@@ -50,16 +50,9 @@ is_split net split care cases in_one valid interface tells = record {
 
 -- ---- region by region
 
-pub inputs_kept : (net split : Parts) (care : CareSet) → IsSplitOf net care split → length net.inputs ≤ 4000000000 → length split.inputs ≤ 4000000000
-inputs_kept net split care is few = subst (λ (inputs : List (List ℕ)). length inputs ≤ 4000000000) is.interface.inputs few
-
 pub split_through : (net mid other : Parts) (care : CareSet) → IsSplitOf net care mid → IsSplitOf mid care other → IsSplitOf net care other
 split_through net mid other care first last = record {
   valid = last.valid;
   interface = keeps_through net mid other first.interface last.interface;
   tells = tells_through net mid first.interface other care first.tells last.tells;
 }
-
-pub some_through : (net mid : Parts) (care : CareSet) (o : Option Parts) → IsSplitOf net care mid → IfSome o (IsSplitOf mid care) → IfSome o (IsSplitOf net care)
-some_through net mid care None first last = tt
-some_through net mid care (Some other) first last = split_through net mid other care first last
