@@ -183,9 +183,6 @@ both_fit needs also fits = let less = zipped needs also in omega arith
 gate_back : (net : Parts) (s : Sig) → IsGate net s → gate_sig net (s.0 - columns net) ≡ s
 gate_back net s gate = let behind = gate.behind in ap signal (omega arith)
 
-pub gate_there : (net : Parts) (s : Sig) → IsGate net s → s.0 - columns net < length net.gates
-gate_there net s gate = let behind = gate.behind in let within = gate.within in omega arith
-
 -- what an explanation of the gate of a signal is
 module _ (net : Parts) (v : List Bool) (s : Sig) (found : Option Explanation) (why : Explanation) (some : IfSome found (Explains net v (s.0 - columns net))) (is : found ≡ Some why) where
   explains : Explains net v (s.0 - columns net) why

@@ -1,5 +1,5 @@
 -- Cubes in the models of a care set's clauses.
-use Rattle.std.proofs.Common.{◌≡◌, ◌⊎◌, inl, inr, ℕ, suc, ◌<◌, ◌+◌, ◌*◌, ◌||◌, ◌&&◌, Bool, true, false, not, Option, Some, None, List, [], ◌∷◌, ◌++◌, length, map, get_or, refl, sym, ap, subst, ◌∙◌, arith, true≢false}
+use Rattle.std.proofs.Common.{◌≡◌, ◌⊎◌, inl, inr, ℕ, suc, ◌<◌, ◌+◌, ◌*◌, ◌||◌, Bool, true, false, not, Option, Some, None, List, [], ◌∷◌, ◌++◌, length, map, get_or, refl, sym, ap, subst, ◌∙◌, arith, true≢false}
 use Rattle.std.specs.Prelude.{replicate, Any, IfSome}
 use Rattle.std.specs.List.{All}
 use Rattle.std.proofs.lemmas.List.{get_or-replicate, get_or_append_left, get_or-append-add, length-append, length-replicate}
@@ -204,10 +204,6 @@ none-marked net care cube values marks is = record {
 
 pub missing-none : (f : Formula) (rails : List Rails) → IsFormula f → SaysMissing f f rails []
 missing-none f rails is = record { formula = is; variables = refl; complete = λ m h all. h }
-
-pub missing-one : (old new : Formula) (rails : List Rails) (cube : Cube) → IsFormula new → new.variables ≡ old.variables → ((m : List Bool) → holds m new.literals.items ≡ (holds m old.literals.items && misses rails m cube.fixed)) →
-    SaysMissing old new rails (cube ∷ [])
-missing-one old new rails cube formula variables says_it = record { formula = formula; variables = variables; complete = λ m h all. says_it m ∙ ap (λ b. b && misses rails m cube.fixed) h ∙ all 0 cube (omega arith) }
 
 pub missing-step : (old mid new : Formula) (rails : List Rails) (cubes : List Cube) (cube : Cube) → SaysMissing old mid rails cubes → SaysMissing mid new rails (cube ∷ []) → SaysMissing old new rails (cubes ++ cube ∷ [])
 missing-step old mid new rails cubes cube first last = record {

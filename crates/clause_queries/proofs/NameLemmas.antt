@@ -7,7 +7,7 @@ use Rattle.std.proofs.lemmas.Map.Keys.{IsDistinct-from_apart}
 use Rattle.std.proofs.lemmas.Map.Steps.{length-le_from_distinct_below}
 use Rattle.std.proofs.lemmas.Map.Views.{Contains-from_any}
 use Rattle.clause_queries.specs.declared.names.Names.{Names}
-use Rattle.clause_queries.specs.Names.{has, name_of, number_of, AreNames, AreMoreNames, AreNumbered, HasNumber}
+use Rattle.clause_queries.specs.Names.{has, name_of, number_of, AreNames, AreNumbered, HasNumber}
 
 module _ (n : Names) (are : AreNames n) where
   -- a variable that has a number
@@ -55,18 +55,6 @@ module _ (n : Names) (are : AreNames n) where
 
 -- ---- one more
 
-pub same-names : (n : Names) → AreNames n → AreMoreNames n n
-same-names n are = record { are = are; width = refl; more = omega arith; same = λ i less. refl; kept = λ v is less. is }
-
-pub more-names : {a b c : Names} → AreMoreNames a b → AreMoreNames b c → AreMoreNames a c
-more-names {a} {b} {c} first second = record {
-  are = second.are;
-  width = second.width ∙ first.width;
-  more = (let x = first.more in let y = second.more in omega (arith, x, y));
-  same = λ i less. second.same i (let x = first.more in omega (arith, less, x)) ∙ first.same i less;
-  kept = λ v is less. second.kept v (first.kept v is less) (let w = first.width in omega (arith, less, w));
-}
-
 -- a variable that has no number gets the next one
 module _ (old new : Names) (are : AreNames old) (v : ℕ) (less : v < length old.numbers.items) (hasnt : has old v ≡ false)
     (names : new.names.items ≡ old.names.items ++ v ∷ []) (numbers : new.numbers.items ≡ set old.numbers.items v (length old.names.items)) where
@@ -113,25 +101,7 @@ module _ (old new : Names) (are : AreNames old) (v : ℕ) (less : v < length old
         omega (arith, name, less, w)
   ]
 
-  pub one-more : AreMoreNames old new
-  one-more = record {
-    are = record { few = (let f = are.few in let w = width in omega (arith, f, w)); within = within; numbered = numbered };
-    width = width;
-    more = (let s = size in omega (arith, s));
-    same = name-before;
-    kept = λ w is low.
-        let number = number-elsewhere w (other w is) in
-        let inside = number_within old are w low is in
-        eq-eqb (name_of new (number_of new w)) w (ap (name_of new) number ∙ name-before (number_of old w) inside ∙ named_by old are w is);
-  }
-
-  pub one-has : has new v ≡ true
-  one-has = eq-eqb (name_of new (number_of new v)) v (ap (name_of new) number-there ∙ name-last)
-
 -- ---- the variables of literals
-
-pub still-numbered : {old new : Names} → AreMoreNames old new → (l : ℕ) → (l / 2 < length old.numbers.items → has old (l / 2) ≡ true) → l / 2 < length new.numbers.items → has new (l / 2) ≡ true
-still-numbered {old} {new} more l is less = let low : l / 2 < length old.numbers.items = (let w = more.width in omega (arith, less, w)) in more.kept (l / 2) (is low) low
 
 -- those of the formula's variables have numbers
 pub have-numbers : (n : Names) (variables : ℕ) (literals : List ℕ) → length n.numbers.items ≡ variables → AreNumbered n literals → All (λ l. l < 2 * variables) literals → All (HasNumber n) literals

@@ -1,16 +1,9 @@
 -- Which of some literals can't be true, and whether any can.
-use Rattle.std.proofs.Common.{◌≡◌, inl, inr, ℕ, Bool, true, false, List, length, get_or, set, replicate, sym, ap, ◌∙◌, subst, true≢false}
+use Rattle.std.proofs.Common.{inl, inr, ℕ, Bool, true, false, List, set, sym, ◌∙◌, subst}
 use Rattle.std.proofs.lemmas.Bool.{cases_eq}
-use Rattle.std.proofs.lemmas.List.{get_or-replicate, length-replicate, length-set, get_or-set_other}
+use Rattle.std.proofs.lemmas.List.{length-set, get_or-set_other}
 use Rattle.clause_queries.specs.Queries.{Problem}
 use Rattle.clause_queries.specs.Each.{CannotBe, AreNever}
-
--- no mark, before the first question
-pub never-none : (p : Problem) (literals assumptions : List ℕ) (never : List Bool) → never ≡ replicate (length literals) false → AreNever p literals assumptions never
-never-none p literals assumptions never is = record {
-  width = ap length is ∙ length-replicate (length literals) false;
-  impossible = λ i less marked. absurd (true≢false (sym marked ∙ ap (λ bs. get_or bs i false) is ∙ get_or-replicate (length literals) i false false less));
-}
 
 -- a mark more
 pub never-more : (p : Problem) (literals assumptions : List ℕ) (place : ℕ) (never : List Bool) → AreNever p literals assumptions never → CannotBe p literals assumptions place →

@@ -17,10 +17,6 @@ use Rattle.miters.proofs.DifferenceLemmas.{found_unknown, refusal_is}
 pub accepted_none : (net : Parts) (care : CareSet) → IsNetlist net → Accepts net care observe.All → refusal net care observe.All ≡ None
 accepted_none net care valid accepts = (accepted_without_refusal net care observe.All valid).1 accepts
 
--- the answer is found, or the comparison is given up
-pub answered : (m told : Matched) (d : Arena) (answer : Answer) → m ≡ told → answer ≡ comparison m.a m.care_a m.b m.care_b → Compares told d (Ok answer)
-answered m told d answer same is = subst (λ (m : Matched). Compares m d (Ok answer)) same (record { answer = is; fault = tt; cause = λ e. cc; below = λ e. cc })
-
 pub given_up : (m told : Matched) (d : Arena) (fault : EqualFault) → m ≡ told → (fault ≡ Memory) ⊎ (fault ≡ NodeLimit m.limit) →
     (◌≡◌ {A = Result Answer EqualFault} (Err fault) (Err (NodeLimit m.limit)) → IsOutOfNodesForBoth d m.a m.care_a m.b m.limit) →
     (◌≡◌ {A = Result Answer EqualFault} (Err fault) (Err (NodeLimit m.limit)) → IsBelowEnoughForBoth m.a m.care_a m.b m.care_b m.limit) → Compares told d (Err fault)

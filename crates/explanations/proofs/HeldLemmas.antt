@@ -8,7 +8,7 @@ use Rattle.cyc_base.specs.declared.sig.Sig.{Sig}
 use Rattle.cyc_base.specs.declared.trit.Trit.{Trit}
 use Rattle.cyc_base.specs.declared.trit.Trit.TheVariants.{Zero, One, X}
 use Rattle.cyc_base.specs.Values.{Below, EachBelow}
-use Rattle.cyc_base.proofs.ListLemmas.{Contains-cases, Contains-here, Contains-nothing, Contains-there}
+use Rattle.cyc_base.proofs.ListLemmas.{Contains-cases, Contains-here, Contains-there}
 use Rattle.cyc_base.proofs.OrderLemmas.{EachBelow-at}
 use Rattle.netlist.specs.declared.parts.Parts.{Parts}
 use Rattle.netlist.specs.Fixpoint.{wire, fix}
@@ -20,7 +20,7 @@ use Rattle.ternary_run.proofs.ReadingLemmas.{readers_of-contain, readers_of-belo
 use Rattle.ternary_run.proofs.SettlingLemmas.{falls}
 use Rattle.explanations.specs.declared.pins.Pin.{Pin}
 use Rattle.explanations.specs.Pins.{MayBe, StaysOpen}
-use Rattle.explanations.specs.Held.{Within, seen, pin_at, IsHeld, AreUnknownGates, IsHeldOpen, IsGreatestWithin, HoldsOpen, mark_count, AreChangedReaders, HasLookedAt, IsShrinking, looks_left}
+use Rattle.explanations.specs.Held.{Within, seen, pin_at, IsHeld, AreUnknownGates, IsHeldOpen, HoldsOpen, mark_count, AreChangedReaders, HasLookedAt, IsShrinking, looks_left}
 use Rattle.explanations.proofs.ClearedLemmas.{hidden, cleared_gates_stay_unknown}
 
 -- ---- what a gate may see
@@ -250,17 +250,3 @@ module _ (net : Parts) (known : List Trit) (reads : List Read) (all : List Bool)
               (omega (arith, length-append queue (readers_of reads (gate_sig net g)), readers_of-length reads (gate_sig net g))))
           | inr stays ↦ rw (stays.0.0, stays.1) (omega arith)
         ]
-
-  pub shrunk : (marks : List Bool) → IsShrinking net known all marks [] → IsGreatestWithin net known all marks
-  shrunk marks h = record {
-    size = h.size;
-    held = record {
-      unknown = λ n e. unknown n (h.fewer n e);
-      held = λ g l e.
-          elim (h.rest g l e) [
-            | inl c ↦ absurd (Contains-nothing g c)
-            | inr x ↦ x
-          ];
-    };
-    greatest = λ others held w. h.kept others held w;
-  }

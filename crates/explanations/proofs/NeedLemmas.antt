@@ -140,14 +140,6 @@ module _ (net : Parts) (given : List Trit) (marks : List Bool) (h : IsHolding ne
     };
   }
 
-pub without_none : (kept given : List Trit) (first : ℕ) → IsWithoutRun kept first first given given
-without_none kept given first = record {
-  size = refl;
-  before = λ n l. refl;
-  inside = λ n low high. absurd (omega arith);
-  behind = λ n l. refl;
-}
-
 pub without_one_more : (kept given fewer : List Trit) (first column : ℕ) (value : Trit) → first ≤ column → column < length given → value ≡ get_or kept column X → IsWithoutRun kept first column given fewer →
     IsWithoutRun kept first (column + 1) given (set fewer column value)
 without_one_more kept given fewer first column value from within is h = record {
@@ -188,10 +180,6 @@ get_or-unknown : (n k : ℕ) → get_or (replicate n X) k X ≡ X
 get_or-unknown zero k = refl
 get_or-unknown (suc n) zero = refl
 get_or-unknown (suc n) (suc k) = get_or-unknown n k
-
--- what the greatest set lacks is not held open
-pub not_held : (net : Parts) (given : List Trit) (marks : List Bool) (gates : List ℕ) → IsHolding net given marks → (AreMarked net marks gates → ⊥) → ¬ HoldsOpen net given gates
-not_held net given marks gates h none o = none (λ k d l. h.greatest.greatest o.marks o.held (gate_sig net (get_or gates k d)).0 (o.among k d l))
 
 pub needing_first : (net : Parts) (v : List Bool) (gates : List ℕ) (kept given : List Trit) (marks : List Bool) → IsHolding net given marks → given ≡ bits v → EachBelow kept (bits v) →
     AreAllUnknown net (fix net (bits v)) (count net) marks → All (IsUnknown net (fix net (bits v))) gates → IsNeeding net v gates kept 0 given marks

@@ -1,5 +1,5 @@
 -- Choosing values of free pins, one by one.
-use Rattle.std.proofs.Common.{◌≡◌, ◌⊎◌, inl, inr, ℕ, zero, suc, Bool, true, false, not, List, [], ◌∷◌, map, get_or, set, refl, ap, sym, ◌∙◌, subst, arith, true≢false, ◌↔◌, ◌&&◌}
+use Rattle.std.proofs.Common.{◌≡◌, ◌⊎◌, inl, inr, ℕ, zero, suc, Bool, true, false, not, List, [], ◌∷◌, map, get_or, set, refl, ap, sym, ◌∙◌, subst, arith, true≢false, ◌↔◌}
 use Rattle.std.specs.List.{list_any, AllZip, All}
 use Rattle.std.specs.Prelude.{IfOk}
 use Rattle.std.specs.declared.result.Result.{Result}
@@ -8,7 +8,7 @@ use Rattle.std.proofs.lemmas.List.{length-set}
 use Rattle.cyc_base.specs.declared.trit.Trit.{Trit}
 use Rattle.cyc_base.specs.declared.trit.Trit.TheVariants.{Zero, One, X}
 use Rattle.cyc_base.specs.Values.{bit, Below, EachBelow}
-use Rattle.cyc_base.proofs.OrderLemmas.{Below-refl, Below-at, EachBelow-refl, unknown_or_bit}
+use Rattle.cyc_base.proofs.OrderLemmas.{Below-refl, Below-at, EachBelow-refl}
 use Rattle.cover_logic.specs.declared.row.Row.{Row}
 use Rattle.cover_logic.specs.Covers.{Cover, value, matches, some_row_matches, value_of_rows}
 use Rattle.cover_logic.specs.Extensions.{ext}
@@ -17,7 +17,7 @@ use Rattle.cover_logic.proofs.ExtensionLemmas.{exact_says, exact_from, ext_is_mo
 use Rattle.cover_logic.proofs.TautologyLemmas.{matches_other, completes-reset, set-completes}
 use Rattle.explanations.specs.declared.pins.Pin.{Pin}
 use Rattle.explanations.specs.declared.pins.Pin.TheVariants.{Known, Open, Free}
-use Rattle.explanations.specs.Pins.{trit_of, is_free, MayBe, StaysOpen, AreAsGood, CanBe, spoiling, IsBetter, free_count}
+use Rattle.explanations.specs.Pins.{trit_of, is_free, MayBe, AreAsGood, CanBe, spoiling, IsBetter, free_count}
 
 -- ---- rows at the two values of a pin
 
@@ -178,19 +178,6 @@ free_count-set (Open ∷ pins) (suc pin) b e = free_count-set pins pin b e
 
 -- ---- both values
 
-pub stays_open_without : (cover : Cover) (pins : List Pin) → ¬ CanBe cover pins true → ¬ CanBe cover pins false → StaysOpen cover pins
-stays_open_without cover pins one zero' = λ values may.
-    elim (unknown_or_bit (ext cover values)) [
-      | inl e ↦ e
-      | inr b ↦ absurd (none b.0 values may b.1)
-    ]
-  where
-    none : (b : Bool) (values : List Trit) → AllZip MayBe pins values → ext cover values ≡ bit b → ⊥
-    none b values may e = grind arith
-
-pub open_cannot_be : (cover : Cover) (pins : List Pin) (b : Bool) → StaysOpen cover pins → ¬ CanBe cover pins b
-open_cannot_be cover pins b stays can = grind arith
-
 -- ---- the steps of the choice
 
 pub free_there : (pins : List Pin) (pin : ℕ) → get_or pins pin Open ≡ Free → get_or pins pin Free ≡ Free
@@ -198,20 +185,11 @@ free_there [] pin e = refl
 free_there (p ∷ pins) zero e = e
 free_there (p ∷ pins) (suc pin) e = free_there pins pin e
 
-pub as_good_same : (cover : Cover) (wanted : Bool) (pins : List Pin) → AreAsGood cover wanted pins pins
-as_good_same cover wanted pins = record { size = refl; can = (λ c. c, λ c. c) }
-
-pub as_good_later : (cover : Cover) (wanted : Bool) (pins chosen others : List Pin) → AreAsGood cover wanted pins chosen → AreAsGood cover wanted chosen others → AreAsGood cover wanted pins others
-as_good_later cover wanted pins chosen others h k = record { size = k.size ∙ h.size; can = (λ c. h.can.0 (k.can.0 c), λ c. k.can.1 (h.can.1 c)) }
-
 pub as_good_better : (cover : Cover) (pins : List Pin) (pin : ℕ) (b wanted : Bool) → get_or pins pin Free ≡ Free → IsBetter cover pin wanted b → AreAsGood cover wanted pins (set pins pin (Known b))
 as_good_better cover pins pin b wanted free better = record {
   size = length-set pins pin (Known b);
   can = (can_be_at cover pins pin b wanted free, can_be_by_better cover pins pin b wanted better);
 }
-
-pub by_as_good : (cover : Cover) (wanted : Bool) (pins chosen : List Pin) (can : Bool) → AreAsGood cover wanted pins chosen → (can ≡ true) ↔ CanBe cover chosen wanted → (can ≡ true) ↔ CanBe cover pins wanted
-by_as_good cover wanted pins chosen can h k = (λ e. h.can.0 (k.0 e), λ c. k.1 (h.can.1 c))
 
 pub by_low : (cover : Cover) (pins : List Pin) (pin : ℕ) (wanted : Bool) → get_or pins pin Open ≡ Free → CanBe cover (set pins pin (Known false)) wanted → CanBe cover pins wanted
 by_low cover pins pin wanted free c = can_be_at cover pins pin false wanted (free_there pins pin free) c
@@ -219,11 +197,6 @@ by_low cover pins pin wanted free c = can_be_at cover pins pin false wanted (fre
 pub by_high : (cover : Cover) (pins : List Pin) (pin : ℕ) (wanted can : Bool) → get_or pins pin Open ≡ Free → ¬ CanBe cover (set pins pin (Known false)) wanted →
     (can ≡ true) ↔ CanBe cover (set pins pin (Known true)) wanted → (can ≡ true) ↔ CanBe cover pins wanted
 by_high cover pins pin wanted can free none h = grind (arith, can_be_at cover pins pin true wanted (free_there pins pin free), free_there pins pin free, can_be_split cover pins pin wanted)
-
-pub neither : (cover : Cover) (pins : List Pin) (one zero' : Bool) → (one ≡ true) ↔ CanBe cover pins true → (zero' ≡ true) ↔ CanBe cover pins false → ((not one && not zero') ≡ true) ↔ StaysOpen cover pins
-neither cover pins true zero' h k = (λ e. absurd (true≢false (sym e)), λ stays. absurd (open_cannot_be cover pins true stays (h.0 refl)))
-neither cover pins false true h k = (λ e. absurd (true≢false (sym e)), λ stays. absurd (open_cannot_be cover pins false stays (k.0 refl)))
-neither cover pins false false h k = grind (arith, stays_open_without cover pins, true≢false)
 
 -- what is true of an answer whatever it is, is true of a result
 pub mapped : {A E : Type 0} {P Q : A → Type 0} (r : Result A E) → IfOk r P → ((a : A) → P a → Q a) → IfOk r Q

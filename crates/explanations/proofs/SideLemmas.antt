@@ -217,20 +217,6 @@ fewer_after all now new n is fewer s =
           ]
     ]
 
--- a step at any signal, where nothing is said yet of which can be left out
-pub leaving_any : (net : Parts) (on : ℕ → Bool) (cycle : List ℕ) (n : ℕ) (all now new : List Pin) → IsLeavingOut net on cycle 0 all now → HasLeftOut net on cycle n now new → IsLeavingOut net on cycle 0 all new
-leaving_any net on cycle n all now new h tried =
-    elim tried [
-      | inl out ↦
-          record {
-            size = ap length out.0 ∙ length-set now n Free ∙ h.size;
-            fewer = fewer_after all now new n out.0 h.fewer;
-            holds = out.1;
-            each = λ s l. absurd (omega arith);
-          }
-      | inr kept ↦ subst (λ (ps : List Pin). IsLeavingOut net on cycle 0 all ps) (sym kept.0) h
-    ]
-
 -- one after the other
 pub leaving_on : (net : Parts) (on : ℕ → Bool) (cycle : List ℕ) (n : ℕ) (all now new : List Pin) → IsLeavingOut net on cycle 0 all now → IsLeavingOut net on cycle n now new → IsLeavingOut net on cycle n all new
 leaving_on net on cycle n all now new first later = record {

@@ -71,9 +71,6 @@ rails-canonical a lawful r q rp qp same =
 pub block-gates : (list items : List Block) (b : ℕ) (r : Block) (gates : List ℕ) → items ≡ list → b < length list → gates ≡ (get_or items b r).gates → gates ≡ (get_or list b no_block).gates
 block-gates list items b r gates same inside is = is ∙ ap (λ (xs : List Block). (get_or xs b r).gates) same ∙ ap (λ (x : Block). x.gates) (get_or_default list b r no_block inside)
 
-pub gates-within : (net : Parts) (blocks : Blocks) → AreBlocksOf net blocks → (b : ℕ) → b < length blocks.list → (gates : List ℕ) → gates ≡ (block_at blocks b).gates → All (λ n. n < length net.gates) gates
-gates-within net blocks are b inside gates is k d less = grind (arith, gate_home net blocks are b (get_or gates k d) inside, All-contains_itself gates k d less)
-
 pub cuts-within : (net : Parts) (blocks : Blocks) → AreBlocksOf net blocks → (cut : Cut) (b : ℕ) → IsLoopAt blocks b → (cuts : List ℕ) → cuts ≡ filter (is_cut cut.wires) (block_at blocks b).gates → (list : List ℕ) → list ≡ cuts → All (λ n. n < length net.gates) list
 cuts-within net blocks are cut b loop cuts is list same k d less = grind (arith, from-cuts net blocks are cut b loop (get_or list k d), All-contains_itself list k d less)
 

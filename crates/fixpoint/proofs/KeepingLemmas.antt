@@ -132,10 +132,6 @@ module _ (l : Looped) (l_is : IsLooped l) {d e f : Arena} (stay : RootsStay d f)
   pub found-next : (found : Option SweptLoop) (loop : Option LoopSteps) → IsFoundAt l e (vectors l.net d rails) b found → IfSome loop (λ x. All (All (AreKept f)) x.steps) → option_map (loop_under f) loop ≡ found → IsKeptAt l f (values_under f given) b loop
   found-next found loop is keys same = grind (arith, steps-next)
 
--- the rails of its steps are proper
-pub found-rails : (l : Looped) (a : Arena) (v : Vectors) (b : ℕ) (found : Option SweptLoop) → IsFoundAt l a v b found → IfSome found (λ swept. All (All (AreRailsOf a)) swept.steps)
-found-rails l a v b found is = grind arith
-
 -- ---- the loops that were found
 
 pub found-loops : (l : Looped) (a : Arena) (v : Vectors) (b : ℕ) (loops : List LoopSteps) (found : Option LoopSteps) → IsKeptAt l a v b found → HasLoopsBelow l.blocks b loops → HasLoopsBelow l.blocks (b + 1) (loops ++ option_to_list found)

@@ -1,20 +1,17 @@
 -- Pairs of wires by the cases of a column.
-use Rattle.std.proofs.Common.{◌≡◌, ◌≢◌, ◌<◌, ℕ, List, [], ◌∷◌, ◌++◌, Bool, true, false, get_or, refl}
-use Rattle.inner_pairs.proofs.Common.{Parts, Pair, CareSet, columns, some_is_apart}
+use Rattle.std.proofs.Common.{◌≡◌, ℕ, List, [], ◌∷◌, ◌++◌, Bool, true, false, get_or, refl}
+use Rattle.inner_pairs.proofs.Common.{Parts, Pair, CareSet, some_is_apart}
 use Rattle.std.proofs.lemmas.List.Elements.{All-push}
 use Rattle.care_sets.specs.Care.{IsCareVector}
 use Rattle.clause_pairs.specs.declared.pairs.Fixed.{Fixed}
 use Rattle.inner_pairs.specs.declared.cases.PairsTold.{PairsTold}
 use Rattle.inner_pairs.specs.declared.cases.PairsTold.TheVariants.{Never, Apart, Open}
 use Rattle.inner_pairs.specs.Cases.{TellsIn}
-use Rattle.clause_pairs.specs.Apart.{AreNeverApartIn, HasFixed, IsCubeOf, IsInCube}
+use Rattle.clause_pairs.specs.Apart.{AreNeverApartIn, HasFixed, IsInCube}
 
 -- a column that has a value
 abbrev pub fixed_at : ℕ → Bool → Fixed
 fixed_at column value = record { column = column; value = value }
-
-pub cube_more : (net : Parts) (cube : List Fixed) (fixed : Fixed) → IsCubeOf net cube → fixed.column < columns net → IsCubeOf net (cube ++ fixed ∷ [])
-cube_more net cube fixed are is = All-push (λ f. f.column < columns net) cube fixed are is
 
 -- at a vector of a cube a column is 0 or 1
 pub both_cases : (net : Parts) (care : CareSet) (cube : List Fixed) (pairs : List Pair) (column : ℕ) → AreNeverApartIn net care (cube ++ fixed_at column false ∷ []) pairs →
@@ -31,9 +28,3 @@ pub both_told : (net : Parts) (care : CareSet) (cube : List Fixed) (pairs : List
 both_told net care cube pairs column low Never high = both_cases net care cube pairs column low high
 both_told net care cube pairs column low Apart high = tt
 both_told net care cube pairs column low Open high = tt
-
--- nothing is told of a cube but that none is apart
-pub not_never : (net : Parts) (care : CareSet) (cube : List Fixed) (pairs : List Pair) (told : PairsTold) → told ≢ Never → TellsIn net care cube pairs told
-not_never net care cube pairs Never not = absurd (not refl)
-not_never net care cube pairs Apart not = tt
-not_never net care cube pairs Open not = tt

@@ -1,35 +1,28 @@
 -- The care set of a file: what binding says of its models.
-use Rattle.std.proofs.Common.{◌≡◌, ◌⊎◌, inl, inr, ℕ, ◌+◌, ◌<◌, ◌≤◌, not, List, [], ◌∷◌, length, map, Some, None, Ok, Err, Bool, true, false, refl, sym, ap, ap₂, ◌∙◌, arith}
-use Rattle.std.specs.Prelude.{nat_le, if◌then◌else◌, option_map, unwrap_or, is_none, is_some, position, codes, ◌||◌, ◌&&◌}
+use Rattle.std.proofs.Common.{◌≡◌, ◌⊎◌, inl, inr, ℕ, ◌<◌, ◌≤◌, List, [], ◌∷◌, length, map, Some, None, Ok, Err, Bool, true, false, refl, sym, ap, ap₂, ◌∙◌, arith}
+use Rattle.std.specs.Prelude.{nat_le, if◌then◌else◌, option_map, unwrap_or, is_some, position, codes}
 use Rattle.std.specs.declared.option.Option.{Option}
-use Rattle.std.specs.List.{AllByRecursion}
-use Rattle.std.specs.Option.{option_or, option_and_then}
+use Rattle.std.specs.Option.{option_and_then}
 use Rattle.std.proofs.lemmas.List.Elements.{All-from_recursion}
 use Rattle.std.proofs.lemmas.List.Folds.{list_any_at, list_any_none}
 use Rattle.std.proofs.lemmas.List.FromFn.{get_or-range_with_len, length-range_with_len}
 use Rattle.cyc_base.specs.declared.limits.TheConstants.{MAX_FILE_BYTES}
 use Rattle.netlist.specs.declared.parts.Parts.{Parts}
-use Rattle.netlist.specs.Faults.{first_there}
 use Rattle.netlist.specs.Orders.{HasLoop}
 use Rattle.netlist.specs.Walks.{IsLoopFree}
 use Rattle.blif_read.specs.Reads.{reads}
-use Rattle.loops.specs.Found.{loops_of}
-use Rattle.loops.specs.Listed.{gate_numbers}
-use Rattle.loops.specs.Walks.{AnyGate, Leads}
 use Rattle.loops.proofs.Walks.{begins_at, leads-any}
 use Rattle.loops.proofs.Existence.{loops_exist}
 use Rattle.care_sets.specs.Care.{CareSet}
 use Rattle.care_sets.specs.Binding.{Binds, BindsAny, BindsBoth, HasNoFault, IsFaultOf, IsFirstFault, column_of}
 use Rattle.care_sets.specs.declared.fault.CareFault.{CareFault}
-use Rattle.care_sets.specs.declared.fault.CareFault.TheVariants.{NoModels, Loop}
 use Rattle.care_sets.specs.declared.model.CareModel.{CareModel}
 use Rattle.blif_read.specs.Find.{has_name}
 use Rattle.blif_read.specs.declared.models.BlifModel.{BlifModel}
 use Rattle.flatten.specs.Flat.{flat}
 use Rattle.flatten.specs.declared.fault.FlatFault.{FlatFault}
-use Rattle.parsed_files.specs.CareFiles.{part_of, some_part, with_assume, with_invariant, has_loop, model_fault, models_fault, bound_model, unless_fault, bound, care_of, care_models}
+use Rattle.parsed_files.specs.CareFiles.{part_of, with_assume, with_invariant, has_loop, model_fault, models_fault, bound_model, unless_fault, bound, care_of, care_models}
 use Rattle.parsed_files.specs.Faults.{care_fault, flat_fault, too_long}
-use Rattle.parsed_files.specs.NetlistFiles.{flat_result}
 
 -- a file that isn't too long has the care set of its text
 pub care_of_short : (net : Parts) (bytes : List ℕ) → length bytes ≤ MAX_FILE_BYTES → care_of net bytes ≡ care_models net (reads bytes)
@@ -96,11 +89,6 @@ bind_fault : (net : Parts) (a i : Option Parts) (found lack : CareFault) → (fo
     → (found ≡ lack) ⊎ (bound net a i ≡ Err (care_fault found))
 bind_fault net a i found lack (inl same) = inl same
 bind_fault net a i found lack (inr is) = inr (bound_bad net a i found (fault_there net a i found is))
-
--- one model of the file
-found_part : (models : List BlifModel) (part name : List ℕ) (found : Option ℕ) (t : Bool) → name ≡ part → found ≡ position (has_name name) models → is_some found ≡ t
-    → part_of models part ≡ (if not t then Ok None else some_part (flat_result (flat models part)))
-found_part models part name found t named is some = grind arith
 
 pub part_bad : (models : List BlifModel) (part name : List ℕ) (at : Option ℕ) (fault : FlatFault)
     → name ≡ part → at ≡ position (has_name name) models → is_some at ≡ true → flat models name ≡ Err fault

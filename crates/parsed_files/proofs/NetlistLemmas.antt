@@ -1,20 +1,13 @@
 -- The netlist of a text: which model is the top, and what the first fault is.
-use Rattle.std.proofs.Common.{◌≡◌, ℕ, ◌<◌, ◌≤◌, List, [], ◌∷◌, length, get_or, map, Some, None, Ok, Err, Bool, true, false, refl, sym, ap, ◌∙◌, arith}
+use Rattle.std.proofs.Common.{◌≡◌, ℕ, ◌<◌, ◌≤◌, List, [], ◌∷◌, length, get_or, Some, Ok, Err, Bool, true, false, refl, ap, arith}
 use Rattle.std.specs.Prelude.{nat_le, if◌then◌else◌}
-use Rattle.std.specs.declared.option.Option.{Option}
-use Rattle.std.specs.declared.result.Result.{Result}
 use Rattle.cyc_base.specs.declared.limits.TheConstants.{MAX_FILE_BYTES}
-use Rattle.blif_text.specs.Texts.{Line, lines}
-use Rattle.blif_read.specs.Faults.{first_fault}
-use Rattle.blif_read.specs.Models.{models as models_of}
-use Rattle.blif_read.specs.Statements.{statement}
-use Rattle.blif_read.specs.Reads.{reads, reads_lines, unless_fault}
-use Rattle.blif_read.specs.declared.fault.BlifFault.{BlifFault}
+use Rattle.blif_read.specs.Reads.{reads}
 use Rattle.blif_read.specs.declared.models.BlifModel.{BlifModel}
 use Rattle.flatten.specs.Flat.{flat}
 use Rattle.flatten.specs.declared.fault.FlatFault.{FlatFault}
 use Rattle.parsed_files.specs.Faults.{flat_fault, too_long}
-use Rattle.parsed_files.specs.NetlistFiles.{flat_result, models_result, netlist_of, top_of}
+use Rattle.parsed_files.specs.NetlistFiles.{models_result, netlist_of, top_of}
 
 -- a file that isn't too long has the netlist of its text
 pub netlist_of_short : (bytes : List ℕ) → length bytes ≤ MAX_FILE_BYTES → netlist_of bytes ≡ models_result (reads bytes)
@@ -27,10 +20,6 @@ netlist_of_long bytes long = ap (λ (t : Bool). if t then models_result (reads b
 pub top_at : (models : List BlifModel) (d : BlifModel) → 0 < length models → (get_or models 0 d).name ≡ top_of models
 top_at [] d some = absurd (omega (arith, some))
 top_at (model ∷ models) d some = refl
-
-pub some_models : (text : List ℕ) (models : List BlifModel) → reads text ≡ Ok models → 0 < length models
-some_models text [] is = grind arith
-some_models text (model ∷ models) is = omega (arith)
 
 -- a fault of flattening at the first model is the file's
 pub first_bad : (bytes : List ℕ) (models : List BlifModel) (name : List ℕ) (fault : FlatFault) → length bytes ≤ MAX_FILE_BYTES → reads bytes ≡ Ok models

@@ -1,9 +1,9 @@
 -- The text of a netlist's loops and their cut wires.
-use Rattle.std.specs.Prelude.{ℕ, ◌+◌, List, [], ◌∷◌, ◌++◌, length, codes, decimal, if◌then◌else◌}
+use Rattle.std.specs.Prelude.{ℕ, ◌+◌, List, [], ◌∷◌, ◌++◌, length, codes, decimal}
 use Rattle.std.specs.List.{flat_map}
 use Rattle.netlist.specs.declared.parts.Parts.{Parts}
 use Rattle.netlist.specs.Netlists.{gate_at}
-use Rattle.loops.specs.Listed.{loop_of, cut_wires_of, begins_with, first_gates}
+use Rattle.loops.specs.Listed.{loop_of, cut_wires_of, first_gates}
 
 abbrev pub gate_name : Parts → ℕ → List ℕ
 gate_name net gate = codes " " ++ (gate_at net gate).name
@@ -20,10 +20,6 @@ loop_line net number words gates = (codes "loop " ++ decimal number) ++ (words +
 abbrev pub loop_lines : Parts → ℕ → ℕ → List ℕ
 loop_lines net number first =
     loop_line net number (codes " gates") (loop_of net first) ++ loop_line net number (codes " cut") (cut_wires_of net first)
-
--- the text of the loop that begins at this gate, where one does, by its number and its first gate
-abbrev pub loop_at : (ℕ → ℕ → List ℕ) → Parts → ℕ → ℕ → List ℕ
-loop_at text net number gate = if begins_with (loop_of net gate) gate then text number gate else []
 
 -- the texts of loops by their first gates, which are numbered from here on
 abbrev pub numbered_loops : (ℕ → ℕ → List ℕ) → ℕ → List ℕ → List ℕ

@@ -1,13 +1,12 @@
 -- A schedule is read piece by piece.
 use Rattle.std.proofs.Common.{◌≡◌, ◌<◌, ◌≤◌, ℕ, ◌+◌, Bool, cond, List, [], ◌++◌, length, drop, Some, None, Ok, Err, sym, ap, ◌∙◌, arith, length-append, length-drop, drop_of_length-le}
-use Rattle.sched_text.proofs.Common.{Option, Result, option_map, cases_lt, ne_eqb, Parts, Schedule, Line, end_number, line_at, SchedFault, BadLine, kind, is_tick, lacks_lines, is_cut_off, fault_at, fault_at_end, statement, schedule, Draft, new_draft, follow, ended, bad_line, ReadsPiece, FitsNetlist}
+use Rattle.sched_text.proofs.Common.{Option, Result, option_map, cases_lt, ne_eqb, Parts, Schedule, Line, end_number, line_at, SchedFault, BadLine, kind, is_tick, lacks_lines, is_cut_off, fault_at, fault_at_end, statement, schedule, Draft, follow, ended, bad_line, ReadsPiece, FitsNetlist}
 use Rattle.std.specs.Prelude.{◌==◌, ◌&&◌}
 use Rattle.std.proofs.Math.Seq.{drop-append_seam}
 use Rattle.std.proofs.lemmas.List.{get_or-drop, get_or_append_left, drop-drop}
 use Rattle.blif_text.specs.Texts.{unless_bad}
 use Rattle.sched_text.specs.declared.place.SchedulePlace.{SchedulePlace}
 use Rattle.sched_text.specs.Faults.{of_lines}
-use Rattle.sched_text.specs.LineFaults.{place_behind}
 use Rattle.sched_text.specs.Schedules.{schedule_read}
 use Rattle.sched_text.specs.Pieces.{lines_from, IsNext}
 use Rattle.sched_text.specs.ReadingOn.{ReadsAt, IsPieceOf, FailsPiece}
@@ -55,9 +54,6 @@ module _ (net : Parts) (ticks end : ℕ) (text : List ℕ) where
     pub bad : bad_line 1 text ≡ bad_line (done + 1) left
     pub small : done + length left ≤ length text
     pub reads : ReadsAt net ticks end (lines_from 1 text) place draft base
-
-  pub at_first : (draft : Draft) → draft ≡ new_draft → AtPiece 0 text (place_behind []) draft
-  at_first draft is = grind arith
 
 module _ (net : Parts) (ticks end : ℕ) (text : List ℕ) (end_is : end ≡ end_number text) where
   abbrev all_lines : List Line

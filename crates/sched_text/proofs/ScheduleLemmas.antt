@@ -1,6 +1,6 @@
 -- The answer that there is once the lines of a schedule that are left are read.
-use Rattle.std.proofs.Common.{◌≡◌, ◌≤◌, ◌<◌, ℕ, suc, ◌+◌, Bool, true, cond, List, [], ◌∷◌, ◌++◌, length, drop, map, Some, None, Err, refl, sym, ap, ◌∙◌, arith, add-one, drop_of_length-le}
-use Rattle.sched_text.proofs.Common.{Option, unwrap_or, option_map, option_or, sum_by-cons, Parts, PlannedEvent, RoundPlan, Line, line_at, SchedFault, unless, kind, is_tick, nearest, begins_tick, is_cut_off, fault_at, fault_at_end, first_fault, statement, schedule, Draft, new_draft, follow, ended}
+use Rattle.std.proofs.Common.{◌≡◌, ◌≤◌, ◌<◌, ℕ, suc, ◌+◌, Bool, true, cond, List, [], ◌∷◌, ◌++◌, length, drop, map, Some, None, Err, sym, ap, ◌∙◌, arith, add-one, drop_of_length-le}
+use Rattle.sched_text.proofs.Common.{Option, unwrap_or, option_map, option_or, sum_by-cons, Parts, PlannedEvent, RoundPlan, Line, line_at, SchedFault, unless, kind, is_tick, nearest, begins_tick, is_cut_off, fault_at, fault_at_end, first_fault, statement, schedule, Draft, follow, ended}
 use Rattle.std.specs.Prelude.{◌||◌, option_to_list}
 use Rattle.std.proofs.Math.Bool.{or-false}
 use Rattle.std.proofs.lemmas.List.{append-nil, append_assoc}
@@ -8,7 +8,6 @@ use Rattle.sched_text.proofs.VectorLemmas.{lines_here}
 use Rattle.sched_text.specs.declared.place.SchedulePlace.{SchedulePlace}
 use Rattle.sched_text.specs.declared.statement.ScheduleStatement.{ScheduleStatement}
 use Rattle.sched_text.specs.declared.statement.ScheduleStatement.TheVariants.{Tick, Round, Event}
-use Rattle.sched_text.specs.LineFaults.{place_behind}
 use Rattle.sched_text.specs.Schedules.{events_ahead, rounds_ahead, ticks_ahead}
 use Rattle.sched_text.specs.Running.{OpenTick, with_event, new_round, ended_tick, new_tick, begin_round, add_event}
 use Rattle.sched_text.specs.ReadingOn.{rounds_from, ticks_from, whole, before, answer, ReadsAt}
@@ -60,9 +59,6 @@ pub whole_step : (draft : Draft) (said : ScheduleStatement) (rest : List Schedul
 whole_step draft said rest = grind (arith, ticks_at_tick, next_told, ticks_at_round, ticks_at_event, ticks_at_other, append_assoc, or_true)
 
 -- ---- reading on
-
-pub at_start : (net : Parts) (ticks end : ℕ) (lines : List Line) (draft : Draft) → draft ≡ new_draft → ReadsAt net ticks end lines (place_behind []) draft 0
-at_start net ticks end lines draft is = rw is (record { nearest = refl; begun = refl; few = omega arith; answers = refl })
 
 -- the line here has this fault, or none, as its place tells
 fault_here : (net : Parts) (ticks end : ℕ) (lines : List Line) (place : SchedulePlace) (draft : Draft) (i : ℕ) (cut_off : Bool) (found : Option SchedFault)

@@ -100,10 +100,6 @@ module _ (net : Parts) (care : CareSet) (marks : List Bool) (are : AreUnknownMar
     feeding = λ v counts m n among feeds. known-unless m feeds.source (λ is. apart (record { gate = n; among = among; mark = inr (record { gate = m; feeds = feeds; marked = is }) })) v counts;
   }
 
--- where no gate at all is unknown
-pub all-known : (net : Parts) (care : CareSet) (gates : List ℕ) → AreKnownOnCare net care → ((n : ℕ) → Contains gates n → n < length net.gates) → AreKnownAround net care gates
-all-known net care gates known within = record { own = λ v counts n among. known v counts n (within n among); feeding = λ v counts m n among feeds. known v counts m feeds.source }
-
 module _ (net : Parts) (valid : IsNetlist net) (blocks : Blocks) (are : AreBlocksOf net blocks) (cut : Cut) (cut_is : IsCutOf net cut) (care : CareSet) where
   -- a loop that is settled by itself needs one sweep there
   pub one-sweep : SomeCareVector net care → (settled : List Bool) → SettleInOneSweep net blocks settled → (place : ℕ) → place < length blocks.list → (block_at blocks place).looped ≡ true → is_marked settled place ≡ true →
