@@ -489,6 +489,43 @@ def latch_pipeline(n):
     return check(model("pipeline", ["d", "c"], ["y"], [*lines, gate(["10 1"], "y", "m0", "c")]), None, "--observe", "outputs")
 
 
+def rewritten(files, *options):
+    """The same netlist, rewritten."""
+    return Files("rewrite", "net.blif", *files.words[2:], *options, **files.texts)
+
+
+@shape(1000)
+def many_parts_rewritten(n):
+    """n loops that are closed in no case, rewritten."""
+    return rewritten(many_parts(n))
+
+
+@shape(1000)
+def transparent_latches_rewritten(n):
+    """n transparent latches, rewritten."""
+    return rewritten(transparent_latches(n))
+
+
+def carries(n):
+    """n carries over 8 cells, each of which runs up or down as a wire of its own says."""
+    inputs, outputs, lines = [], [], []
+    for k in range(n):
+        inputs += [f"up{k}", f"x{k}", *(f"{side}{k}_{i}" for i in range(8) for side in "ab")]
+        outputs += [f"s{k}_{i}" for i in range(8)]
+        for i in range(8):
+            below, above = f"k{k}_{i - 1}" if i else f"x{k}", f"k{k}_{i + 1}" if i < 7 else f"x{k}"
+            own = f"a{k}_{i}", f"b{k}_{i}", f"c{k}_{i}"
+            lines += [gate(CHOOSE, own[2], f"up{k}", below, above), gate(["11- 1", "1-1 1", "-11 1"], f"k{k}_{i}", *own)]
+            lines.append(gate(["100 1", "010 1", "001 1", "111 1"], f"s{k}_{i}", *own))
+    return check(model("carries", inputs, outputs, lines))
+
+
+@shape(75)
+def carries_by_cases(n):
+    """n carries that run up or down, rewritten by cases."""
+    return rewritten(carries(n), "--cases", "16")
+
+
 @shape(2000)
 def parity_chain(n):
     """A chain of n XORs, decided."""

@@ -8,6 +8,7 @@
 
 mod asking;
 mod cases_shown;
+mod cones;
 mod picking;
 mod reducing;
 mod regions;

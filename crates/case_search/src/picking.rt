@@ -1,29 +1,22 @@
 //! Cases by which loops vanish: a tree of splits, each by the two values of a column.
 
 ghost use Rattle.std.specs.Prelude.{◌≡◌, ◌<◌, ◌≤◌, length, All, IfOk, IfSome};
-ghost use Rattle.case_search.specs.Searches.{IsSearch};
+ghost use Rattle.case_search.specs.Searches.{IsCone};
 
 use crate::asking::{forced_values, joined, with};
-use crate::cases_shown::has_columns;
+use crate::cones::{Cone, NOTHING};
 use crate::reducing::reduced_case;
 use care_sets::Care;
-use case_split::{Case, ColumnValue, LeftOver, left_in_loops, near_columns};
+use case_split::{Case, ColumnValue, LeftOver};
 use clause_pairs::CareQuestions;
 use netlist::Netlist;
 use std::alloc::{AllocError, Global};
-use ternary_run::Fanout;
 
 /// Of at most so many cases values are left out that the others imply.
 const MOST_REDUCED: usize = 256;
 
 /// So many gates may be looked at while columns are tried, over all splits.
 const MOST_LOOKED_AT: usize = 1 << 24;
-
-const NOTHING: LeftOver = LeftOver {
-    gates: 0,
-    pins: 0,
-    depth: 0,
-};
 
 /// Two values of which the care set forces the second where a column has the first.
 #[derive(Clone, Copy)]
@@ -35,10 +28,8 @@ pub(crate) struct Implication {
 /// What cases are picked for.
 #[derive(Drop)]
 pub(crate) struct Search<'a> {
-    net: &'a Netlist,
-    fanout: &'a Fanout,
-    /// The gates whose loops are to vanish.
-    gates: &'a [u32],
+    /// The gates whose loops are to vanish, with all that lies upstream of them.
+    cone: &'a Cone,
     /// Columns that the care set speaks of.
     care_columns: &'a [u32],
     implications: &'a [Implication],
@@ -112,21 +103,6 @@ fn is_much_shorter(after: u64, before: u64) -> bool {
     after.saturating_mul(3) <= before.saturating_mul(2)
 }
 
-/// What is left of loops where columns have these values. All columns are the netlist's: were one not, nothing would be
-/// said.
-fn left_by(
-    alloc: Global,
-    search: &Search<'_>,
-    values: &[ColumnValue],
-) -> Result<LeftOver, AllocError>
-    requires { IsSearch search.now }
-{
-    if !has_columns(search.net, values) {
-        return Ok(NOTHING);
-    }
-    left_in_loops(alloc, search.net, search.fanout, search.gates, values)
-}
-
 /// All values that hold where a case has one more, as far as they are known without a question.
 fn values_with(
     alloc: Global,
@@ -150,10 +126,10 @@ fn left_with(
     node: &Node,
     value: ColumnValue,
 ) -> Result<LeftOver, AllocError>
-    requires { IsSearch search.now }
+    requires { IsCone search.now.cone.now }
 {
     let values = values_with(alloc, search, node, value)?;
-    left_by(alloc, search, &values)
+    search.cone.left_by(alloc, &values)
 }
 
 fn value_of(column: u32, value: bool) -> ColumnValue {
@@ -166,7 +142,7 @@ fn try_column(
     node: &Node,
     column: u32,
 ) -> Result<Tried, AllocError>
-    requires { IsSearch search.now }
+    requires { IsCone search.now.cone.now }
 {
     Ok(Tried {
         column,
@@ -177,7 +153,7 @@ fn try_column(
 
 /// The columns of a case that are tried, those first that leave few gates in loops.
 fn tried_columns(alloc: Global, search: &Search<'_>, node: &Node) -> Result<Vec<Tried>, AllocError>
-    requires { IsSearch search.now }
+    requires { IsCone search.now.cone.now }
 {
     let mut tried = Vec::new(alloc);
     for column in node.columns.iter().take(search.tries) {
@@ -254,10 +230,10 @@ fn new_node(
     known: Vec<ColumnValue>,
     columns: &[u32],
 ) -> Result<Node, AllocError>
-    requires { IsSearch search.now }
+    requires { IsCone search.now.cone.now }
 {
     let values = joined(alloc, &cube, &known)?;
-    let left = left_by(alloc, search, &values)?;
+    let left = search.cone.left_by(alloc, &values)?;
     let columns = columns_without(alloc, columns, &values)?;
     Ok(Node {
         cube,
@@ -277,7 +253,7 @@ fn node_of(
     cube: Vec<ColumnValue>,
     columns: &[u32],
 ) -> Result<Option<Node>, AllocError>
-    requires { IsSearch search.now }
+    requires { IsCone search.now.cone.now }
 {
     let Some(known) = known_in(alloc, search, questions, &cube)? else {
         return Ok(None);
@@ -294,7 +270,7 @@ fn half(
     value: ColumnValue,
     columns: &[u32],
 ) -> Result<Option<Node>, AllocError>
-    requires { IsSearch search.now }
+    requires { IsCone search.now.cone.now }
 {
     let cube = with(alloc, &node.cube, value)?;
     node_of(alloc, search, questions, cube, columns)
@@ -309,7 +285,7 @@ fn halves_by(
     column: u32,
     columns: &[u32],
 ) -> Result<Option<(Node, Node)>, AllocError>
-    requires { IsSearch search.now }
+    requires { IsCone search.now.cone.now }
 {
     let Some(low) = half(
         alloc,
@@ -342,7 +318,7 @@ fn halves_of(
     questions: &mut CareQuestions,
     node: &Node,
 ) -> Result<Option<(Node, Node)>, AllocError>
-    requires { IsSearch search.now }
+    requires { IsCone search.now.cone.now }
 {
     let tried = tried_columns(alloc, search, node)?;
     let Some(best) = best_of(&tried) else {
@@ -394,7 +370,7 @@ fn split_at(
     tree: &mut Vec<Node>,
     place: usize,
 ) -> Result<bool, AllocError>
-    requires search { IsSearch search.now }
+    requires search { IsCone search.now.cone.now }
     requires place { place < length tree.old.items }
 {
     tree[place].is_open = false;
@@ -418,7 +394,7 @@ fn split_worst(
     questions: &mut CareQuestions,
     tree: &mut Vec<Node>,
 ) -> Result<Option<bool>, AllocError>
-    requires { IsSearch search.now }
+    requires { IsCone search.now.cone.now }
 {
     match worst_open(tree) {
         Some(place) => Ok(Some(split_at(alloc, search, questions, tree, place)?)),
@@ -503,7 +479,7 @@ fn root_of(
     questions: &mut CareQuestions,
     columns: &[u32],
 ) -> Result<Vec<Node>, AllocError>
-    requires { IsSearch search.now }
+    requires { IsCone search.now.cone.now }
 {
     let mut tree = Vec::new(alloc);
     if let Some(root) = node_of(alloc, search, questions, Vec::new(alloc), columns)? {
@@ -520,7 +496,7 @@ fn tree_of(
     columns: &[u32],
     most: usize,
 ) -> Result<Vec<Node>, AllocError>
-    requires { IsSearch search.now }
+    requires { IsCone search.now.cone.now }
 {
     let mut tree = root_of(alloc, search, questions, columns)?;
     let mut splits = 1;
@@ -624,10 +600,34 @@ fn searched_cases(
     columns: &[u32],
     most: usize,
 ) -> Result<Vec<Case>, AllocError>
-    requires { IsSearch search.now }
+    requires { IsCone search.now.cone.now }
 {
     let tree = tree_of(alloc, search, questions, columns, most)?;
     cases_of(alloc, questions, &tree)
+}
+
+/// Cases by which few of a cone's gates are left in loops.
+fn cases_in_cone(
+    alloc: Global,
+    cone: &Cone,
+    care: &Care,
+    questions: &mut CareQuestions,
+    most: usize,
+    regions: usize,
+) -> Result<Vec<Case>, AllocError>
+    requires { IsCone cone.now }
+{
+    let columns = cone.near_columns(alloc)?;
+    let care_columns = care_columns_of(alloc, care, &columns)?;
+    let implications = implications_of(alloc, questions, &care_columns)?;
+    let splits = most.saturating_mul(regions);
+    let search = Search {
+        cone,
+        care_columns: &care_columns,
+        implications: &implications,
+        tries: tries_for(MOST_LOOKED_AT, splits, cone.len()),
+    };
+    searched_cases(alloc, &search, questions, &columns, most)
 }
 
 /// Cases by which few of these gates are left in loops, at most so many, with the care set asked. Any cases are right that
@@ -637,7 +637,7 @@ fn searched_cases(
 /// what is left, or where none is left in loops, makes the longest path of both much shorter. Splits are undone behind which
 /// a case still has over half of the gates in loops. A value that the care set forces in a case is put in there, and values
 /// that the others imply are left out of a case's cube, so that a one-hot word gives cases of one value each. Those 64
-/// columns at most are tried from which most ways lead into the loops, fewer in large netlists.
+/// columns at most are tried from which most ways lead into the loops, fewer where many gates lie upstream of them.
 pub(crate) fn pick_cases(
     alloc: Global,
     net: &Netlist,
@@ -650,21 +650,8 @@ pub(crate) fn pick_cases(
     requires gates { All (λ n. n < length net.now.gates) gates.now }
     requires few { length gates.now < 4294967295 }
 {
-    let fanout = Fanout::of(alloc, net)?;
-    let columns = near_columns(alloc, net, gates)?;
-    let care_columns = care_columns_of(alloc, care, &columns)?;
-    let implications = implications_of(alloc, questions, &care_columns)?;
-    let search = Search {
-        net,
-        fanout: &fanout,
-        gates,
-        care_columns: &care_columns,
-        implications: &implications,
-        tries: tries_for(
-            MOST_LOOKED_AT,
-            most.saturating_mul(regions),
-            net.gates() as usize,
-        ),
-    };
-    searched_cases(alloc, &search, questions, &columns, most)
+    match Cone::of(alloc, net, gates)? {
+        Some(cone) => cases_in_cone(alloc, &cone, care, questions, most, regions),
+        None => Ok(Vec::new(alloc)),
+    }
 }

@@ -273,6 +273,26 @@ fn sweeps_of_loop(
     }
 }
 
+/// Whether the loop at this place of the blocks has one cut wire, so that it needs one sweep on care. That takes no
+/// question, so no scope either.
+///
+/// The condition is that the block is a loop. What the answer tells holds for a care set of the netlist with a care vector,
+/// where no gate is unknown at one.
+pub fn needs_one_sweep(
+    alloc: Global,
+    looped: &LoopedNetlist<'_>,
+    block: u32,
+) -> Result<bool, AllocError>
+    requires block { block < length looped.now.blocks.list }
+    requires looped { (block_at looped.now.blocks block).looped ≡ true }
+    ensures { (care : CareSet) → SomeCareVector looped.now.net care → AreKnownOnCare looped.now.net care →
+        IfOk result (λ one. one ≡ true → (gate : ℕ) → Contains (block_at looped.now.blocks block).gates gate →
+        IsLeastCount looped.now.net (loops_by looped.now.blocks looped.now.cut) care gate 1) }
+{
+    let block = LoopedBlock::of(alloc, looped, block)?;
+    Ok(block.cut_count() == 1)
+}
+
 /// How many sweeps the loop at this place of the blocks needs on care, or none where the solver gives up after so many
 /// conflicts in one of its searches, or its clauses are too many.
 ///

@@ -1,6 +1,6 @@
 //! Recorded schedules, played whole.
 
-ghost use Rattle.std.specs.Prelude.{◌≡◌, ◌⊎◌, [], ◌+◌, ◌<◌, List, Bool, length, map, All, Some, None, IfErr, IfOk, OnOk};
+ghost use Rattle.std.specs.Prelude.{◌≡◌, ◌⊎◌, [], ◌+◌, ◌<◌, ◌++◌, ◌∷◌, List, Bool, length, map, All, Some, None, IfErr, IfOk, OnOk};
 ghost use Rattle.std.specs.List.{cons_option};
 ghost use Rattle.cyc_base.specs.declared.trit.Trit.{Trit};
 ghost use Rattle.cyc_base.specs.Values.{bits};
@@ -13,7 +13,8 @@ ghost use Rattle.simulation.specs.Simulators.{IsSimulatorOf};
 ghost use Rattle.delay_core.specs.Changes.{openings, event_changes, round_changes, tick_changes, changes, logged};
 ghost use Rattle.delay_core.specs.EventLists.{planned_at};
 ghost use Rattle.delay_core.specs.Plays.{most_rounds, after_event, change_by};
-ghost use Rattle.delay_core.specs.Plans.{planned_fault, events_fault, after_planned, round_fault, after_plan, rounds_fault, after_plans, schedule_fault, run_of, IsPlayedFairly, given_at, agrees as agree, gate_agrees, stands_at_fix, end_at, end_of, SettledIsTold, SettlesInTime};
+ghost use Rattle.delay_core.specs.Plans.{planned_fault, events_fault, after_planned, round_fault, after_plan, rounds_fault, after_plans, first_opened, schedule_fault, run_of, IsPlayedFairly, given_at, agrees as agree, gate_agrees, stands_at_fix, end_at, end_of, SettledIsTold, SettlesInTime};
+ghost use Rattle.delay_core.specs.ScheduledRuns.{inputs_at, rounds_at};
 
 use crate::change_log::ChangeLog;
 use crate::events::Events;
@@ -228,6 +229,57 @@ fn play_tick(
     Ok(tick_end(alloc, net, simulator, play, rounds.len())?)
 }
 
+/// Plays a tick that has opened, and adds how it ended.
+fn play_opened(
+    alloc: Global,
+    run: &ScheduledRun<'_>,
+    simulator: &mut Simulator,
+    play: &mut Play,
+    tick: usize,
+    log: &mut ChangeLog,
+    ends: &mut Vec<TickEnd>,
+) -> Result<(), PlayFault>
+    requires tick { tick < length run.now.vectors }
+    requires net { play.old.state.net ≡ run.now.net }
+    requires first { length play.old.state.starts ≡ 1 }
+    requires simulator { IsSimulatorOf run.now.net simulator.old }
+    ensures simulator { IsSimulatorOf run.now.net simulator.new }
+    ensures fault { IfErr result (λ fault. (fault ≡ PlayFault.Memory) ⊎ (rounds_fault play.old.state (rounds_at run.now tick) ≡ Some fault)) }
+    ensures none { OnOk result (rounds_fault play.old.state (rounds_at run.now tick) ≡ None) }
+    ensures played { OnOk result (play.new.state ≡ after_plans play.old.state (rounds_at run.now tick)) }
+    ensures changed { OnOk result (log.new ≡ logged log.old (tick_changes play.old.state (rounds_at run.now tick))) }
+    ensures ends { OnOk result (ends.new.items ≡ ends.old.items ++ end_at run.now.net (newest play.new.state.history) (length (rounds_at run.now tick)) ∷ []) }
+{
+    let end = play_tick(alloc, run.net(), simulator, play, run.rounds(tick), log)?;
+    ends.push(end)?;
+    Ok(())
+}
+
+/// Plays the ticks of a run, of which the first has opened, and adds how each ended.
+fn play_ticks(
+    alloc: Global,
+    run: &ScheduledRun<'_>,
+    play: &mut Play,
+    log: &mut ChangeLog,
+    ends: &mut Vec<TickEnd>,
+) -> Result<(), PlayFault>
+    requires some { 0 < length run.now.vectors }
+    requires opened { play.old.state ≡ first_opened run.now.net run.now.schedule (inputs_at run.now 0) }
+    requires none { ends.old.items ≡ [] }
+    ensures fault { IfErr result (λ fault. (fault ≡ PlayFault.Memory) ⊎ (schedule_fault run.now.net run.now.schedule run.now.vectors ≡ Some fault)) }
+    ensures whole { OnOk result (schedule_fault run.now.net run.now.schedule run.now.vectors ≡ None) }
+    ensures ends { OnOk result (ends.new.items ≡ map (end_of run.now.net) (ticks_of run.now.net (run_of run.now.schedule run.now.vectors))) }
+    ensures changed { OnOk result (log.new ≡ logged log.old (changes run.now.net run.now.schedule run.now.vectors)) }
+{
+    let mut simulator = Simulator::of(alloc, run.net())?;
+    play_opened(alloc, run, &mut simulator, play, 0, log, ends)?;
+    for tick in 1..run.ticks() {
+        run.open(play, tick)?;
+        play_opened(alloc, run, &mut simulator, play, tick, log, ends)?;
+    }
+    Ok(())
+}
+
 /// Plays a run whole, tells how each tick ended, and keeps its changes, where the log is on; or answers its first fault in
 /// the order of play, and nothing is said of the log.
 pub fn play_run(
@@ -247,16 +299,8 @@ pub fn play_run(
     if run.ticks() == 0 {
         return Ok(ends);
     }
-    let net = run.net();
-    let mut simulator = Simulator::of(alloc, net)?;
     let mut play = run.start(alloc)?;
-    let end = play_tick(alloc, net, &mut simulator, &mut play, run.rounds(0), log)?;
-    ends.push(end)?;
-    for tick in 1..run.ticks() {
-        run.open(&mut play, tick)?;
-        let end = play_tick(alloc, net, &mut simulator, &mut play, run.rounds(tick), log)?;
-        ends.push(end)?;
-    }
+    play_ticks(alloc, run, &mut play, log, &mut ends)?;
     Ok(ends)
 }
 

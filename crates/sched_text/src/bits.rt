@@ -14,17 +14,24 @@ use cyc_base::Bits;
 use netlist::{Init, Netlist};
 use std::alloc::Global;
 
+// The bit for which a character stands, in the line of this number.
+fn read_bit(line: u64, character: u8) -> Result<bool, SchedFault>
+    ensures { Reads result (if is_bit character then None else Some (SchedFault.BadLine line)) (bit_of character) }
+{
+    match character {
+        b'0' => Ok(false),
+        b'1' => Ok(true),
+        _ => Err(SchedFault::BadLine { line }),
+    }
+}
+
 // The bits of a word, which stands in the line of this number.
 fn read_word(alloc: Global, line: u64, word: &[u8]) -> Result<Bits, SchedFault>
     ensures { Reads result (if list_all is_bit word.now then None else Some (SchedFault.BadLine line)) (map bit_of word.now) }
 {
     let mut bits = Vec::with_capacity(alloc, word.len())?;
-    for b in word {
-        match *b {
-            b'0' => bits.push_reserved(false),
-            b'1' => bits.push_reserved(true),
-            _ => return Err(SchedFault::BadLine { line }),
-        }
+    for character in word {
+        bits.push_reserved(read_bit(line, *character)?);
     }
     Ok(Bits::of(bits))
 }

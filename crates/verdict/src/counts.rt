@@ -4,6 +4,7 @@
 ghost use Rattle.std.specs.Prelude.{◌≡◌, ◌<◌, ℕ, true, length, Contains, IfOk, IfSome};
 ghost use Rattle.loops.specs.Blocks.{block_at};
 ghost use Rattle.loops.specs.Cuts.{loops_by};
+ghost use Rattle.clause_decision.specs.Scopes.{AreKnownOnCare};
 ghost use Rattle.refusals.specs.Acceptance.{SomeCareVector};
 ghost use Rattle.loop_simulation.specs.Sweeping.{IsLeastCount};
 ghost use Rattle.verdict.specs.Loose.{AreUnknown, IsLoopCount};
@@ -12,21 +13,43 @@ ghost use Rattle.diagram_decision.specs.Judgements.{AreSweepsOnCare};
 use crate::loose::{Unknown, is_fed_known, is_known_around};
 use crate::question::Question;
 use crate::scopes::scope_of;
-use clause_decision::{sweeps_fed_known, sweeps_needed};
+use clause_decision::{needs_one_sweep, sweeps_fed_known, sweeps_needed};
 use cyc_base::Items;
 use diagram_decision::block_number;
 use loops::{SweepCounts, gates_at};
 use std::alloc::{AllocError, Global};
 
-/// The sweeps that the loop at this place needs on care, asked of the clauses of its gates and all upstream of them. There
-/// are none where the solver gave up, or where a gate that feeds the loop is unknown.
-fn ask_sweeps(
+/// The sweeps that the loop at this place needs on care, where no gate is unknown there, asked of the clauses of its gates
+/// and all upstream of them. There are none where the solver gave up.
+fn ask_where_known(
+    alloc: Global,
+    question: &Question<'_>,
+    place: usize,
+) -> Result<Option<u32>, AllocError>
+    requires some { SomeCareVector question.now.net question.now.care }
+    requires known { AreKnownOnCare question.now.net question.now.care }
+    requires place { place < length question.now.blocks.list }
+    requires looped { (block_at question.now.blocks place).looped ≡ true }
+    ensures { IfOk result (λ found. IfSome found (λ sweeps. (gate : ℕ) → Contains (block_at question.now.blocks place).gates gate →
+        IsLeastCount question.now.net (loops_by question.now.blocks question.now.cut) question.now.care gate sweeps)) }
+{
+    let looped = question.looped();
+    let care = question.care();
+    let block = block_number(looped, place);
+    if needs_one_sweep(alloc, looped, block)? {
+        return Ok(Some(1));
+    }
+    let scope = scope_of(alloc, question, gates_at(looped, place))?;
+    sweeps_needed(alloc, looped, care, &scope, block, question.conflicts())
+}
+
+/// The same, where these gates are unknown on care. There are none where one of them feeds the loop, either.
+fn ask_where_marked(
     alloc: Global,
     question: &Question<'_>,
     unknown: Unknown<'_>,
     place: usize,
 ) -> Result<Option<u32>, AllocError>
-    requires some { SomeCareVector question.now.net question.now.care }
     requires unknown { AreUnknown question.now.net question.now.care unknown }
     requires place { place < length question.now.blocks.list }
     requires looped { (block_at question.now.blocks place).looped ≡ true }
@@ -40,10 +63,26 @@ fn ask_sweeps(
     let care = question.care();
     let block = block_number(looped, place);
     let scope = scope_of(alloc, question, gates_at(looped, place))?;
-    let conflicts = question.conflicts();
+    sweeps_fed_known(alloc, looped, care, &scope, block, question.conflicts())
+}
+
+/// The sweeps that the loop at this place needs on care, if they are found.
+fn ask_sweeps(
+    alloc: Global,
+    question: &Question<'_>,
+    unknown: Unknown<'_>,
+    place: usize,
+) -> Result<Option<u32>, AllocError>
+    requires some { SomeCareVector question.now.net question.now.care }
+    requires unknown { AreUnknown question.now.net question.now.care unknown }
+    requires place { place < length question.now.blocks.list }
+    requires looped { (block_at question.now.blocks place).looped ≡ true }
+    ensures { IfOk result (λ found. IfSome found (λ sweeps. (gate : ℕ) → Contains (block_at question.now.blocks place).gates gate →
+        IsLeastCount question.now.net (loops_by question.now.blocks question.now.cut) question.now.care gate sweeps)) }
+{
     match unknown {
-        Unknown::Nowhere => sweeps_needed(alloc, looped, care, &scope, block, conflicts),
-        Unknown::Marked(_) => sweeps_fed_known(alloc, looped, care, &scope, block, conflicts),
+        Unknown::Nowhere => ask_where_known(alloc, question, place),
+        Unknown::Marked(_) => ask_where_marked(alloc, question, unknown, place),
     }
 }
 
