@@ -6,7 +6,7 @@ use Rattle.netlist.specs.declared.parts.Parts.{Parts}
 use Rattle.care_sets.specs.Care.{CareSet, IsCareVector}
 use Rattle.ternary_clauses.specs.declared.formula.Formula.{Formula}
 use Rattle.ternary_clauses.specs.declared.formula.Rails.{Rails}
-use Rattle.ternary_clauses.specs.Formulas.{says, IsModel, HasModelFrom, Grows}
+use Rattle.ternary_clauses.specs.Formulas.{says, IsFormula, IsModel, HasModelFrom, Grows}
 use Rattle.ternary_clauses.specs.Nodes.{agreed}
 use Rattle.ternary_clauses.specs.Rails.{is_known, rails_at, Reads, AreRailsOf}
 use Rattle.clause_queries.specs.Clauses.{IsWithin}
@@ -53,11 +53,11 @@ pub record AreAskable (asked : Asked) : Type 0 where
   pub hints : IsWithin asked.cone.formula.variables asked.hints.items
   pub pairs : IsWithin asked.cone.formula.variables asked.pairs.items
 
--- literals of care, of hints and of pairs, all of them of the problem's variables
-pub record AreLiteralsOf (p : Problem) (care hints pairs : List ℕ) : Type 0 where
-  pub of_care : IsWithin p.variables care
-  pub of_hints : IsWithin p.variables hints
-  pub of_pairs : IsWithin p.variables pairs
+-- The new formula has the variables of the old one, and each of its models in which these literals are true.
+pub record HoldsEach (old new : Formula) (literals : List ℕ) : Type 0 where
+  pub formula : IsFormula new
+  pub variables : new.variables ≡ old.variables
+  pub complete : (m : List Bool) → IsModel m old → All (λ l. says m l ≡ true) literals → IsModel m new
 
 -- none of these is true in a model with all literals of care
 abbrev pub HaveNoModel : Problem → (care : List ℕ) → List ℕ → Type 0

@@ -1,13 +1,14 @@
 //! Pairs of wires that are never apart on care, with the help of others that are asked first.
 
-ghost use Rattle.std.specs.Prelude.{◌≡◌, ◌<◌, ◌↔◌, true, IsTrue, length, map, All, IfOk};
+ghost use Rattle.std.specs.Prelude.{◌≡◌, ◌<◌, ◌↔◌, [], true, IsTrue, length, map, All, IfOk, OnOk};
 ghost use Rattle.care_sets.specs.Binding.{IsCareOf};
 ghost use Rattle.ternary_clauses.specs.Apart.{SaysApart};
 ghost use Rattle.ternary_clauses.specs.Formulas.{IsFormula};
 ghost use Rattle.ternary_clauses.specs.Rails.{rails_at};
 ghost use Rattle.netlist.specs.Pairs.{IsPairOf};
 ghost use Rattle.clause_pairs.specs.Apart.{IsPairIn, ArePairsIn, IsCubeOf, AreNeverApart, AreNeverApartIn};
-ghost use Rattle.clause_pairs.specs.Pairs.{fixed_literal, assumed_literals, HasRails, AddsLiteral, AddLiterals, SayPairs, AreAskable, AreLiteralsOf, HaveNoModel, TellPairs, AreRefuted};
+ghost use Rattle.clause_pairs.specs.Pairs.{fixed_literal, assumed_literals, HasRails, AddsLiteral, AddLiterals, SayPairs, AreAskable, HaveNoModel, HoldsEach, TellPairs, AreRefuted};
+ghost use Rattle.clause_queries.specs.Clauses.{IsWithin};
 ghost use Rattle.clause_decision.specs.Scopes.{IsScopeOf};
 
 use crate::pairs::{Budget, Fixed, Hint, PairSearch};
@@ -174,77 +175,68 @@ fn are_marked(marks: &[bool]) -> bool
     marks.iter().all(|mark| *mark)
 }
 
-/// The literals of care, of hints and of pairs.
-#[derive(Drop)]
-struct Literals<'a> {
-    care: &'a [u32],
-    hints: &'a [u32],
-    pairs: &'a [u32],
-}
-
-/// Whether each of the pairs' literals is refuted with those of care, after those of the hints were asked for with few
-/// conflicts each. What the solver learns of them helps.
+/// Whether each of the pairs' literals is refuted, after those of the hints were asked for with few conflicts each. What the
+/// solver learns of them helps.
 fn are_refuted_after(
     alloc: Global,
     query: &mut Query,
-    literals: &Literals<'_>,
+    hints: &[u32],
+    pairs: &[u32],
     budget: Budget,
 ) -> Result<bool, AllocError>
-    requires { AreLiteralsOf query.old literals.now.care.now literals.now.hints.now literals.now.pairs.now }
+    requires hints { IsWithin query.old.variables hints.now }
+    requires pairs { IsWithin query.old.variables pairs.now }
     ensures unchanged { query.new ≡ query.old }
-    ensures refuted { IfOk result (λ refuted. refuted ≡ true → HaveNoModel query.old literals.now.care.now literals.now.pairs.now) }
+    ensures refuted { IfOk result (λ refuted. refuted ≡ true → HaveNoModel query.old [] pairs.now) }
 {
-    let _ = query.never_each(alloc, literals.hints, literals.care, budget.few, FAILURES)?;
-    let never = query.never_each(alloc, literals.pairs, literals.care, budget.many, 1)?;
+    let _ = query.never_each(alloc, hints, &[], budget.few, FAILURES)?;
+    let never = query.never_each(alloc, pairs, &[], budget.many, 1)?;
     Ok(are_marked(&never))
 }
 
-/// Whether each of the pairs' literals is refuted with those of care: at once with few conflicts each, or behind the hints
-/// with more. A model of one of them, found at once, ends it.
+/// Whether each of the pairs' literals is refuted: at once with few conflicts each, or behind the hints with more. A model of
+/// one of them, found at once, ends it.
 fn ask_pairs(
     alloc: Global,
     query: &mut Query,
-    literals: &Literals<'_>,
+    hints: &[u32],
+    pairs: &[u32],
     budget: Budget,
 ) -> Result<bool, AllocError>
-    requires { AreLiteralsOf query.old literals.now.care.now literals.now.hints.now literals.now.pairs.now }
-    ensures { IfOk result (λ refuted. refuted ≡ true → HaveNoModel query.old literals.now.care.now literals.now.pairs.now) }
+    requires hints { IsWithin query.old.variables hints.now }
+    requires pairs { IsWithin query.old.variables pairs.now }
+    ensures { IfOk result (λ refuted. refuted ≡ true → HaveNoModel query.old [] pairs.now) }
 {
-    if let Some(possible) = query.is_any_possible(
-        alloc,
-        literals.pairs,
-        literals.care,
-        budget.few,
-    )? {
+    if let Some(possible) = query.is_any_possible(alloc, pairs, &[], budget.few)? {
         return Ok(!possible);
     }
-    are_refuted_after(alloc, query, literals, budget)
+    are_refuted_after(alloc, query, hints, pairs, budget)
 }
 
-impl Asked {
-    /// Its literals.
-    fn literals(&self) -> Literals<'_>
-        ensures care { result.care.now ≡ self.now.assumed.items }
-        ensures hints { result.hints.now ≡ self.now.hints.items }
-        ensures pairs { result.pairs.now ≡ self.now.pairs.items }
-    {
-        Literals {
-            care: &self.assumed,
-            hints: &self.hints,
-            pairs: &self.pairs,
-        }
-    }
-}
-
-/// Whether each pair's literal is refuted, at once or behind the hints.
-fn ask_all(alloc: Global, asked: &Asked, budget: Budget) -> Result<bool, AllocError>
-    requires askable { AreAskable asked.now }
-    ensures { IfOk result (λ refuted. refuted ≡ true → AreRefuted asked.now) }
+/// Adds each of these literals as a clause.
+fn add_units(formula: &mut Formula, literals: &[u32]) -> Result<(), AllocError>
+    requires formula { IsFormula formula.old }
+    requires literals { IsWithin formula.old.variables literals.now }
+    ensures { OnOk result (HoldsEach formula.old formula.new literals.now) }
 {
+    for literal in literals {
+        formula.add_clause(&[*literal])?;
+    }
+    Ok(())
+}
+
+/// Whether each pair's literal is refuted where all that is assumed holds, at once or behind the hints. What is assumed holds
+/// for each question, so it is made a clause: what the solver learns doesn't speak of it.
+fn ask_all(alloc: Global, asked: &mut Asked, budget: Budget) -> Result<bool, AllocError>
+    requires formula { IsFormula asked.old.cone.formula }
+    requires askable { AreAskable asked.old }
+    ensures { IfOk result (λ refuted. refuted ≡ true → AreRefuted asked.old) }
+{
+    add_units(&mut asked.cone.formula, &asked.assumed)?;
     let Some(mut query) = query_of(alloc, &asked.cone.formula)? else {
         return Ok(false);
     };
-    ask_pairs(alloc, &mut query, &asked.literals(), budget)
+    ask_pairs(alloc, &mut query, &asked.hints, &asked.pairs, budget)
 }
 
 /// Whether at no care vector that has the values of these columns one wire of one of these pairs is 0 and its other wire 1.
@@ -275,7 +267,7 @@ pub fn are_never_apart_in(
     ensures { IfOk result (λ never. never ≡ true → AreNeverApartIn net.now care.now cube.now search.now.pairs.now) }
 {
     match asked_of(alloc, net, care, scope, cube, search) {
-        Ok(asked) => ask_all(alloc, &asked, search.budget),
+        Ok(mut asked) => ask_all(alloc, &mut asked, search.budget),
         Err(ClausesFault::TooMany) => Ok(false),
         Err(ClausesFault::Memory) => Err(AllocError),
     }
