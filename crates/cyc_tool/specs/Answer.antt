@@ -23,7 +23,7 @@ use Rattle.commands.specs.declared.form.Form.{Form}
 use Rattle.cyc_tool.specs.Endings.{accepted_told, aiger_told, refused_told, wire_explained, assumption_told, comparison_told}
 use Rattle.plain_commands.specs.Plans.{Prints, Refuses, Outgrows, Decision, Comparison, Plan, Reads, Faulty, WantsMemory, Ends, Decides, Assumes, Compares, plan_of}
 use Rattle.plain_commands.specs.Requests.{Request}
-use Rattle.plain_commands.specs.Texts.{Outcome, usage, has_fault, no_memory, read_failed}
+use Rattle.plain_commands.specs.Texts.{Outcome, told, usage, has_fault, no_memory, read_failed}
 
 -- what refuses the netlist of a decision, if anything does
 abbrev pub verdict_of : Decision → Option Refusal
