@@ -1,5 +1,5 @@
 -- Literals that are clauses of their own.
-use Rattle.std.proofs.Common.{◌≡◌, ℕ, ◌<◌, Bool, true, ◌&&◌, List, [], ◌∷◌, ◌++◌, get_or, refl, sym, ◌∙◌, arith}
+use Rattle.std.proofs.Common.{◌≡◌, ℕ, Bool, true, ◌&&◌, List, [], ◌∷◌, ◌++◌, get_or, refl, sym, ◌∙◌, arith}
 use Rattle.std.specs.List.{All, list_any}
 use Rattle.clause_pairs.proofs.Common.{Formula, says, models-same, problem}
 use Rattle.ternary_clauses.specs.Formulas.{holds, IsFormula}

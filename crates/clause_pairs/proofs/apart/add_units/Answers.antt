@@ -1,4 +1,4 @@
-use Rattle.std.proofs.Common.{[], ◌∷◌, take, get_or, subst, sym}
+use Rattle.std.proofs.Common.{take, get_or, subst, sym}
 use Rattle.clause_pairs.proofs.Common.{take_all, take_more}
 use Rattle.clause_pairs.specs.Pairs.{HoldsEach}
 use Rattle.clause_pairs.proofs.UnitLemmas.{holds-none, holds-one, holds-step}
