@@ -57,14 +57,14 @@ impl<'a> Question<'a> {
     }
 
     /// What holds of each question.
-    pub(crate) fn laws(&self)
+    pub fn laws(&self)
         ensures is { IsAsked self.now }
     {
         let _ = &self.looped;
     }
 
     /// The netlist with its loops.
-    pub(crate) fn looped(&self) -> &'a LoopedNetlist<'a>
+    pub fn looped(&self) -> &'a LoopedNetlist<'a>
         ensures looped { result.now ≡ looped_in self.now }
         ensures is { IsAsked self.now }
     {
@@ -72,7 +72,7 @@ impl<'a> Question<'a> {
     }
 
     /// The netlist.
-    pub(crate) fn net(&self) -> &'a Netlist
+    pub fn net(&self) -> &'a Netlist
         ensures net { result.now ≡ self.now.net }
         ensures is { IsAsked self.now }
     {
@@ -80,7 +80,7 @@ impl<'a> Question<'a> {
     }
 
     /// Its blocks.
-    pub(crate) fn blocks(&self) -> &'a Blocks
+    pub fn blocks(&self) -> &'a Blocks
         ensures blocks { result.now ≡ self.now.blocks }
         ensures is { IsAsked self.now }
     {
@@ -88,7 +88,7 @@ impl<'a> Question<'a> {
     }
 
     /// The care set.
-    pub(crate) fn care(&self) -> &'a Care
+    pub fn care(&self) -> &'a Care
         ensures care { result.now ≡ self.now.care }
         ensures is { IsAsked self.now }
     {
@@ -96,14 +96,14 @@ impl<'a> Question<'a> {
     }
 
     /// What is observed.
-    pub(crate) fn observe(&self) -> Observe
+    pub fn observe(&self) -> Observe
         ensures { result ≡ self.now.what }
     {
         self.observe
     }
 
     /// The column of each variable of diagrams.
-    pub(crate) fn order(&self) -> &'a [u32]
+    pub fn order(&self) -> &'a [u32]
         ensures { result.now ≡ order_of self.now.net }
     {
         self.order

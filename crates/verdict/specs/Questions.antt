@@ -30,8 +30,9 @@ pub record Asked : Type 0 where
   -- a mark for each block: those of loops say that they are settled by themselves in one sweep
   pub settled : List Bool
 
-abbrev pub asked : Looped → CareSet → Observe → List Bool → Asked
-asked l care what settled = record { net = l.net; blocks = l.blocks; cut = l.cut; care = care; what = what; settled = settled }
+-- a question as diagrams answer it, with these marks
+abbrev pub asked_with : DiagramsAsked → List Bool → Asked
+asked_with q settled = record { net = q.net; blocks = q.blocks; cut = q.cut; care = q.care; what = q.what; settled = settled }
 
 abbrev pub looped_in : Asked → Looped
 looped_in q = record { net = q.net; blocks = q.blocks; cut = q.cut }

@@ -19,7 +19,7 @@ use bdd_ops::Diagrams;
 use bdd_store::StoreFault;
 use care_sets::Care;
 use cyc_base::MAX_NODES;
-use diagram_decision::{Judgement, count_from_columns, counts_by_diagrams};
+use diagram_decision::{Judgement, Question as Asked, count_from_columns, counts_by_diagrams};
 use loops::{Blocks, Cut, LoopedNetlist, SweepCounts};
 use netlist::Netlist;
 use refusals::Observe;
@@ -40,7 +40,7 @@ fn early_counts(
         return Ok(Some(counts));
     }
     let few = limit.min(FEW_NODES);
-    if let Some(counts) = counts_by_diagrams(alloc, &question.by_diagrams(), few)? {
+    if let Some(counts) = counts_by_diagrams(alloc, question.by_diagrams(), few)? {
         return Ok(Some(counts));
     }
     counts_by_clauses(alloc, &question.for_long(), loose)
@@ -62,7 +62,7 @@ fn count_anew(
     if d.start(question.net().columns(), limit).is_err() {
         return Err(DecideFault::Memory);
     }
-    match count_from_columns(alloc, d, &question.by_diagrams()) {
+    match count_from_columns(alloc, d, question.by_diagrams()) {
         Ok(counts) => Ok(counts),
         Err(StoreFault::Full) => Err(DecideFault::NodeLimit { nodes: limit }),
         Err(StoreFault::Memory) => Err(DecideFault::Memory),
@@ -153,7 +153,8 @@ pub fn decide(
     let Ok(ground) = ground_of(alloc, &looped) else {
         return Err(DecideFault::Memory);
     };
-    let question = Question::new(&looped, care, observe, &ground);
+    let asked = Asked::new(&looped, care, observe, &ground.order);
+    let question = Question::new(&asked, &ground);
     match judge_anew(alloc, d, &question, limit) {
         Ok(judgement) => verdict_of(alloc, d, &question, judgement, limit),
         Err(fault) => Err(fault),

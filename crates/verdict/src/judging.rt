@@ -18,7 +18,9 @@ use bdd_ops::Diagrams;
 use bdd_store::StoreFault;
 use care_sets::Care;
 use cyc_base::MAX_NODES;
-use diagram_decision::{Judgement, fit_all, judge_by_diagrams, judge_on, limit_of};
+use diagram_decision::{
+    Judgement, Question as Asked, fit_all, judge_by_diagrams, judge_on, limit_of,
+};
 use isolation::column_rails;
 use loops::{Blocks, Cut, LoopedNetlist};
 use netlist::Netlist;
@@ -43,7 +45,7 @@ fn early_judgement(
         return Ok(Some(judgement));
     }
     let few = limit.min(FEW_NODES);
-    if let Some(judgement) = judge_by_diagrams(alloc, &question.by_diagrams(), few)? {
+    if let Some(judgement) = judge_by_diagrams(alloc, question.by_diagrams(), few)? {
         return Ok(Some(judgement));
     }
     judge_by_clauses(alloc, &question.for_long())
@@ -65,7 +67,7 @@ fn judge_from_columns(
     fit_all(alloc, question.net(), question.care(), limit)?;
     match early_judgement(alloc, question, limit)? {
         Some(judgement) => Ok(judgement),
-        None => judge_on(alloc, d, &question.by_diagrams(), &rails),
+        None => judge_on(alloc, d, question.by_diagrams(), &rails),
     }
 }
 
@@ -133,6 +135,7 @@ pub fn judge(
     let Ok(ground) = ground_of(alloc, &looped) else {
         return Err(DecideFault::Memory);
     };
-    let question = Question::new(&looped, care, observe, &ground);
+    let asked = Asked::new(&looped, care, observe, &ground.order);
+    let question = Question::new(&asked, &ground);
     judge_anew(alloc, d, &question, limit)
 }

@@ -1,13 +1,13 @@
 //! What is decided.
 
 ghost use Rattle.std.specs.Prelude.{◌≡◌, length};
-ghost use Rattle.care_sets.specs.Binding.{IsCareOf};
 ghost use Rattle.clause_decision.specs.Scopes.{AreNeverUnknown};
 ghost use Rattle.fixpoint.specs.Orders.{order as order_of};
 ghost use Rattle.verdict.specs.Questions.{IsAsked, IsGround};
 
 use crate::ground::Ground;
 use care_sets::Care;
+use diagram_decision::Question as Asked;
 use loops::{Blocks, LoopedNetlist};
 use netlist::Netlist;
 use refusals::Observe;
@@ -18,47 +18,38 @@ const FEW_CONFLICTS: u64 = 20_000;
 
 const MANY_CONFLICTS: u64 = 2_000_000;
 
-/// Whether a netlist is accepted on a care set, where all of its gates are observed or what is seen from outside.
+/// A question, with what was found of its netlist, and how long searches by clauses go on for it.
 #[derive(Drop)]
 pub(crate) struct Question<'a> {
-    looped: &'a LoopedNetlist<'a>,
-    care: &'a Care,
-    observe: Observe,
+    asked: &'a Asked<'a>,
     ground: &'a Ground,
     conflicts: u64,
 }
 
 impl<'a> Model for Question<'a> {
-    ghost use Rattle.verdict.specs.Questions.{Asked, IsGrounded, asked};
+    ghost use Rattle.verdict.specs.Questions.{Asked as AskedWith, IsGrounded, asked_with};
 
-    ghost Value = { Asked };
+    ghost Value = { AskedWith };
 
-    ghost view = { λ q. asked q.looped.now q.care.now q.observe q.ground.now.settled.items };
+    ghost view = { λ q. asked_with q.asked.now q.ground.now.settled.items };
 
-    ghost invariant = { λ q. IsGrounded (asked q.looped.now q.care.now q.observe q.ground.now.settled.items) q.ground.now };
+    ghost invariant = { λ q. IsGrounded (asked_with q.asked.now q.ground.now.settled.items) q.ground.now };
 }
 
 impl<'a> Question<'a> {
-    ghost use Rattle.verdict.specs.Questions.{asked, looped_in, on_diagrams};
+    ghost use Rattle.diagram_decision.specs.Questions.{looped_in as looped_in_asked};
+    ghost use Rattle.verdict.specs.Questions.{asked_with, looped_in, on_diagrams};
 
-    /// The question of this netlist, for searches that give up soon.
+    /// The question, for searches that give up soon.
     ///
-    /// The condition is that the care set is the netlist's, and that the rest was found of it.
-    pub(crate) fn new(
-        looped: &'a LoopedNetlist<'a>,
-        care: &'a Care,
-        observe: Observe,
-        ground: &'a Ground,
-    ) -> Question<'a>
-        requires care { IsCareOf looped.now.net care.now }
-        requires ground { IsGround looped.now ground.now }
-        ensures { result ≡ asked looped.now care.now observe ground.now.settled.items }
+    /// The condition is that the rest was found of its netlist.
+    pub(crate) fn new(asked: &'a Asked<'a>, ground: &'a Ground) -> Question<'a>
+        requires { IsGround (looped_in_asked asked.now) ground.now }
+        ensures { result ≡ asked_with asked.now ground.now.settled.items }
     {
-        looped.net().laws();
+        asked.laws();
         Question {
-            looped,
-            care,
-            observe,
+            asked,
             ground,
             conflicts: FEW_CONFLICTS,
         }
@@ -69,27 +60,24 @@ impl<'a> Question<'a> {
         ensures { result ≡ self.now }
     {
         Question {
-            looped: self.looped,
-            care: self.care,
-            observe: self.observe,
+            asked: self.asked,
             ground: self.ground,
             conflicts: MANY_CONFLICTS,
         }
     }
 
-    /// The question as diagrams answer it.
-    pub(crate) fn by_diagrams(&self) -> diagram_decision::Question<'a>
-        ensures { result ≡ on_diagrams self.now }
+    /// The question alone, as diagrams answer it.
+    pub(crate) fn by_diagrams(&self) -> &'a Asked<'a>
+        ensures { result.now ≡ on_diagrams self.now }
     {
-        let order = &self.ground.order;
-        diagram_decision::Question::new(self.looped, self.care, self.observe, order)
+        self.asked
     }
 
     /// What holds of each question.
     pub(crate) fn laws(&self)
         ensures is { IsAsked self.now }
     {
-        let _ = &self.looped;
+        let _ = &self.asked;
     }
 
     /// The netlist with its loops.
@@ -97,7 +85,7 @@ impl<'a> Question<'a> {
         ensures looped { result.now ≡ looped_in self.now }
         ensures is { IsAsked self.now }
     {
-        self.looped
+        self.asked.looped()
     }
 
     /// The netlist.
@@ -105,7 +93,7 @@ impl<'a> Question<'a> {
         ensures net { result.now ≡ self.now.net }
         ensures is { IsAsked self.now }
     {
-        self.looped.net()
+        self.asked.net()
     }
 
     /// Its blocks.
@@ -113,7 +101,7 @@ impl<'a> Question<'a> {
         ensures blocks { result.now ≡ self.now.blocks }
         ensures is { IsAsked self.now }
     {
-        self.looped.blocks()
+        self.asked.blocks()
     }
 
     /// The care set.
@@ -121,21 +109,21 @@ impl<'a> Question<'a> {
         ensures care { result.now ≡ self.now.care }
         ensures is { IsAsked self.now }
     {
-        self.care
+        self.asked.care()
     }
 
     /// What is observed.
     pub(crate) fn observe(&self) -> Observe
         ensures { result ≡ self.now.what }
     {
-        self.observe
+        self.asked.observe()
     }
 
     /// The column of each variable of diagrams.
     pub(crate) fn order(&self) -> &'a [u32]
         ensures { result.now ≡ order_of self.now.net }
     {
-        &self.ground.order
+        self.asked.order()
     }
 
     /// Marks of the blocks that are settled by themselves, or are no loops.

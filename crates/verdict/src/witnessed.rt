@@ -19,7 +19,7 @@ use crate::question::Question;
 use bdd_ops::Diagrams;
 use care_sets::Care;
 use cyc_base::{Bits, MAX_NODES};
-use diagram_decision::Judgement;
+use diagram_decision::{Judgement, Question as Asked};
 use loops::LoopedNetlist;
 use netlist::Netlist;
 use refusals::{Observe, Refusal};
@@ -95,7 +95,8 @@ pub fn judge_with_witness(
     let Ok(ground) = ground_among(alloc, looped, settled) else {
         return Err(DecideFault::Memory);
     };
-    let question = Question::new(looped, care, observe, &ground);
+    let asked = Asked::new(looped, care, observe, &ground.order);
+    let question = Question::new(&asked, &ground);
     question.laws();
     match judge_soon(alloc, &question) {
         Ok(Some(judgement)) => Ok(judgement),
