@@ -58,7 +58,6 @@ values_fit net v width =
 
 -- what a pin of gate n reads is drawn as the wire of the gate that drives it
 module _ (p : Picture) (n : ℕ) (pin : Sig) where
-
   pub driven_drawn : (source : ℕ) → pin ≡ gate_sig p.net source → pin_wire p n pin ≡ gate_wire p n source
   driven_drawn source is = grind arith
 

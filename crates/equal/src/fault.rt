@@ -2,6 +2,7 @@ ghost use Rattle.std.specs.Prelude.{◌≡◌, ℕ};
 ghost use Rattle.equal.specs.declared.fault.EqualFault.TheVariants.{Memory};
 
 use std::alloc::AllocError;
+use std::fmt;
 use thiserror::Error;
 use verdict::DecideFault;
 
@@ -9,10 +10,14 @@ use verdict::DecideFault;
 #[derive(Clone, Copy, Debug, PartialEq, Eq, Error)]
 pub enum EqualFault {
     /// The diagrams hold as many nodes as they may, or a cover's own diagram would hold more.
-    #[error("node limit {nodes}")]
     NodeLimit { nodes: u32 },
-    #[error("out of memory")]
     Memory,
+}
+
+impl fmt::Display for EqualFault {
+    fn fmt<W: fmt::Write>(&self, f: &mut fmt::Formatter<W>) -> fmt::Result {
+        f.write_str("the netlists are not compared")
+    }
 }
 
 impl From<AllocError> for EqualFault {

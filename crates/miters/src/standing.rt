@@ -3,6 +3,7 @@
 
 ghost use Rattle.std.specs.Prelude.{◌≡◌, ◌↔◌, ◌<◌, IsTrue, None, true, length, map, slice_index_or, All, IfOk};
 ghost use Rattle.care_sets.specs.Care.{CareSet};
+ghost use Rattle.loops.specs.Blocks.{AreBlocksOf};
 ghost use Rattle.miters.specs.Differences.{columns_by_name, difference};
 ghost use Rattle.miters.specs.Matching.{unmatched};
 ghost use Rattle.miters.specs.Placed.{placed_by, IsGate, StandsAt, StandIn};
@@ -11,7 +12,7 @@ use crate::pairs::own_pairs;
 use cover_logic::Cover;
 use cyc_base::Sig;
 use indexmap::IndexMap;
-use loops::find_blocks;
+use loops::{Blocks, find_blocks};
 use netlist::{Gate, Netlist, Pair, gate_key};
 use std::alloc::{AllocError, Global};
 
@@ -186,6 +187,56 @@ fn place_block(
     Ok(true)
 }
 
+/// Places the gates of all blocks of the second netlist, in their order. False where some gate has no place.
+fn place_blocks(
+    alloc: Global,
+    a: &Netlist,
+    b: &Netlist,
+    columns: &[u32],
+    by_key: &IndexMap<u64, u32>,
+    blocks: &Blocks,
+    places: &mut [u32],
+) -> Result<bool, AllocError>
+    requires { AreBlocksOf b.now blocks.now }
+{
+    let list = blocks.list.items();
+    for at in 0..list.len() {
+        let block = &list[at];
+        let gates = block.gates.items();
+        if !place_block(alloc, a, b, columns, by_key, block.looped, gates, places)? {
+            return Ok(false);
+        }
+    }
+    Ok(true)
+}
+
+/// Places the gates of these blocks by the numbers of the first netlist's gates.
+fn place_by_key(
+    alloc: Global,
+    a: &Netlist,
+    b: &Netlist,
+    columns: &[u32],
+    blocks: &Blocks,
+    places: &mut [u32],
+) -> Result<bool, AllocError>
+    requires { AreBlocksOf b.now blocks.now }
+{
+    let by_key = gates_by_key(alloc, a)?;
+    place_blocks(alloc, a, b, columns, &by_key, blocks, places)
+}
+
+/// Places all gates of the second netlist. False where some gate has no place.
+fn place_all(
+    alloc: Global,
+    a: &Netlist,
+    b: &Netlist,
+    columns: &[u32],
+    places: &mut [u32],
+) -> Result<bool, AllocError> {
+    let blocks = find_blocks(alloc, b)?;
+    place_by_key(alloc, a, b, columns, &blocks, places)
+}
+
 /// A signal of the first netlist for each gate of the second, at which it may stand. None where some gate has none.
 fn find_places(
     alloc: Global,
@@ -193,27 +244,12 @@ fn find_places(
     b: &Netlist,
     columns: &[u32],
 ) -> Result<Option<Vec<u32>>, AllocError> {
-    let by_key = gates_by_key(alloc, a)?;
-    let blocks = find_blocks(alloc, b)?;
-    let list = blocks.list.items();
     let mut places = vec![in alloc; 0; b.gates() as usize]?;
-    for at in 0..list.len() {
-        let block = &list[at];
-        let gates = block.gates.items();
-        if !place_block(
-            alloc,
-            a,
-            b,
-            columns,
-            &by_key,
-            block.looped,
-            gates,
-            &mut places,
-        )? {
-            return Ok(None);
-        }
+    if place_all(alloc, a, b, columns, &mut places)? {
+        Ok(Some(places))
+    } else {
+        Ok(None)
     }
-    Ok(Some(places))
 }
 
 /// Whether the second netlist stands in the first, gate by gate, with the wires that are compared: then they differ on no care
