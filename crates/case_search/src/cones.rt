@@ -80,7 +80,7 @@ fn signals_of(alloc: Global, net: &Netlist, gates: &[u32]) -> Result<Vec<u32>, A
 /// The number in the cone of a signal of the whole netlist.
 fn place_of(signals: &[u32], signal: u32) -> Option<u32> {
     match signals.binary_search(&signal) {
-        Ok(place) => Some(place as u32),
+        Ok(place) => u32::try_from(place).ok(),
         Err(_) => None,
     }
 }
