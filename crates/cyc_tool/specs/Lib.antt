@@ -4,5 +4,4 @@ pub mod Answer
 pub mod Calls
 pub mod Causes
 -- The code's own: what its parts say to each other.
-pub mod Problems
 pub mod Seen

@@ -9,7 +9,6 @@ mod assumed;
 mod compared;
 mod decision;
 mod explained;
-mod problem;
 mod ring;
 mod split;
 mod top;

@@ -1,35 +1,25 @@
-use Rattle.std.proofs.Common.{arith}
 use Rattle.cyc_tool.proofs.Common.{IfOk-weaker}
 use Rattle.cyc_tool.proofs.DecisionLemmas.{kept_columns, outgrown_graph}
 use Rattle.cyc_tool.proofs.decision.tell_graphed.Goals as goal
-
-pub rewrite-rewriting-requires : goal.rewrite-rewriting-requires
-rewrite-rewriting-requires c = let few = c.counted-counted.ensures.was.columns in rw c.counted-counted.ensures.counted (omega (arith, few))
 
 pub tell_graph_of-requires-clause-loop_free : goal.tell_graph_of-requires-clause-loop_free
 tell_graph_of-requires-clause-loop_free c = rw c.in-Ok.is at c.rewrite-rewriting.ensures.loop_free
 
 pub tell_graph_of-requires-clause-columns : goal.tell_graph_of-requires-clause-columns
 tell_graph_of-requires-clause-columns c =
-    let made = rw c.counted-counted.ensures.counted at c.rewrite-rewriting.ensures in
-    kept_columns c.args.accepted.now.counted.net c.in-Ok.other (rw c.in-Ok.is at made.interface) c.counted-counted.ensures.was.columns
+    kept_columns c.args.counted.now.net c.in-Ok.other (rw c.in-Ok.is at c.rewrite-rewriting.ensures.interface) c.requires.columns
 
 pub returns-in-Ok : goal.returns-in-Ok
 returns-in-Ok c =
-    let a = c.args.accepted.now in
-    let was = c.counted-counted.ensures.was in
-    let made = rw c.counted-counted.ensures.counted at c.rewrite-rewriting.ensures in
-    let rewriting = rw c.in-Ok.is at made.rewriting in
-    let small = rw c.in-Ok.is at made.small in
-    IfOk-weaker c.tell_graph_of.result _ _ (λ told is.
-    is a.counted.net a.care a.observe a.limit was.valid was.is.accepts (small a.care was.is.sweeps) (rewriting a.care a.observe was.is.accepts was.is.sweeps))
-    c.tell_graph_of.ensures.rewritten
+    let rewriting = rw c.in-Ok.is at c.rewrite-rewriting.ensures.rewriting in
+    let small = rw c.in-Ok.is at c.rewrite-rewriting.ensures.small in
+    IfOk-weaker c.tell_graph_of.result _ _ (λ told is care what limit accepts sweeps.
+    is c.args.counted.now.net care what limit c.requires.valid accepts (small care sweeps) (rewriting care what accepts sweeps))
+    c.tell_graph_of.ensures
 
 pub returns : goal.returns
 returns c =
-    let a = c.args.accepted.now in
-    let made = rw c.counted-counted.ensures.counted at c.rewrite-rewriting.ensures in
-    let fault = rw c.in-Err.is at made.fault in
-    IfOk-weaker c.tell_outgrown.result _ _ (λ told is.
-    outgrown_graph c.args.encoding a.counted.net a.care a.limit a.observe c.in-Err.fault told is (fault a.care c.counted-counted.ensures.was.is.sweeps))
+    let fault = rw c.in-Err.is at c.rewrite-rewriting.ensures.fault in
+    IfOk-weaker c.tell_outgrown.result _ _ (λ told is care what limit accepts sweeps.
+    outgrown_graph c.args.encoding c.args.counted.now.net care limit what c.in-Err.fault told is (fault care sweeps))
     c.tell_outgrown.ensures
