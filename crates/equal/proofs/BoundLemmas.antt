@@ -1,6 +1,6 @@
 -- The bounds of a comparison, from those of its parts.
 use Rattle.std.proofs.Common.{◌≡◌, ◌⊎◌, inl, inr, ℕ, ◌+◌, ◌-◌, ◌*◌, ◌<◌, ◌≤◌, List, [], ◌++◌, length, map, None, refl, sym, ap, ap₂, subst, ◌∙◌, arith}
-use Rattle.equal.proofs.Common.{Result, Err, range_with_len, cases_lt, length-append, length-map, append-nil, map-map, Gate, Latch, Parts, count, gate_at, no_gate, IsNetlist, order, CareSet, columns, name_of, unmatched, columns_by_name, pair_of, signal_named, source_named, output_pairs, latch_pairs, HaveOneSource, moved_gates, moved_pair_by, joined, joined_pairs, Arena, IsOutOfNodes, IsBelowEnoughFor, IsBelowEnoughForBoth, IsOutOfNodesForBoth}
+use Rattle.equal.proofs.Common.{Result, Err, range_with_len, cases_lt, length-append, length-map, append-nil, map-map, Gate, Latch, Parts, count, gate_at, no_gate, IsNetlist, order, CareSet, columns, signal_name, unmatched, columns_by_name, pair_of, signal_named, source_named, output_pairs, latch_pairs, HaveOneSource, moved_gates, moved_pair_by, joined, joined_pairs, Arena, IsOutOfNodes, IsBelowEnoughFor, IsBelowEnoughForBoth, IsOutOfNodesForBoth}
 use Rattle.std.specs.List.{sum, sum_by}
 use Rattle.std.proofs.lemmas.List.FromFn.{fill_by_all}
 use Rattle.std.proofs.lemmas.List.Sums.{sum_by-append, sum-map}
@@ -35,7 +35,7 @@ length_pairs a b =
     length-map (output_pairs a b ++ latch_pairs a b) (moved_pair_by (columns_by_name a b) (count a))
     ∙ length-append (output_pairs a b) (latch_pairs a b)
     ∙ ap₂ (λ m n. m + n)
-    (length-map a.outputs (λ s. pair_of s (signal_named b (name_of a s))))
+    (length-map a.outputs (λ s. pair_of s (signal_named b (signal_name a s))))
     (length-map a.latches (λ (latch : Latch). pair_of latch.from (source_named b latch.name)))
 
 -- ---- what is enough
