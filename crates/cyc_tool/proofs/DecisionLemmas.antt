@@ -26,24 +26,17 @@ use Rattle.unroll.specs.Laws.{KeepsInterface}
 use Rattle.unroll.specs.Unrolled.{IsUnrollFault}
 use Rattle.unroll.specs.declared.fault.UnrollFault.{UnrollFault}
 use Rattle.unroll.specs.declared.fault.UnrollFault.TheVariants.{TooLarge, Memory}
-use Rattle.loops.specs.declared.structure.Blocks.{Blocks}
-use Rattle.loops.specs.declared.structure.Cut.{Cut}
-use Rattle.diagram_decision.specs.Judgements.{AreLoose, IsJudgement}
-use Rattle.verdict.specs.Verdicts.{IsVerdict}
+use Rattle.diagram_decision.specs.Judgements.{AreLoose}
 use Rattle.diagram_decision.specs.Causes.{IsOutOfNodes}
 use Rattle.diagram_decision.specs.Enough.{IsBelowEnough}
 use Rattle.verdict.specs.declared.fault.DecideFault.{DecideFault}
 use Rattle.verdict.specs.declared.fault.DecideFault.TheVariants.{NodeLimit, Memory as WantsMemory}
-use Rattle.diagram_decision.specs.declared.judgement.Judgement.{Judgement}
-use Rattle.diagram_decision.specs.declared.judgement.Judgement.TheVariants as judgements
-use Rattle.verdict.specs.declared.verdict.Verdict.{Verdict}
-use Rattle.verdict.specs.declared.verdict.Verdict.TheVariants.{Accepted, Refused}
 use Rattle.cyc_tool.specs.Answer.{IsRefusalOutcome, IsVerdictOutcome}
 use Rattle.cyc_tool.specs.Calls.{IsAccepted, IsMadeFor, Verdict as ByVerdict}
 use Rattle.cyc_tool.specs.Endings.{accepted_told, aiger_told, loops_explained, where_outputs}
 use Rattle.plain_commands.specs.Texts.{count_of_loops, graph_text, limit_reached}
 use Rattle.plain_commands.specs.Plans.{Decision, Declines}
-use Rattle.cyc_tool.specs.Seen.{IsLimitOf, IsOutgrown, IsRefusalTold, IsSaid, IsTellable, IsToldRefusal, IsToldOf, IsToldOfGraph}
+use Rattle.cyc_tool.specs.Seen.{IsLimitOf, IsOutgrown, IsRefusalTold, IsToldOf, IsToldOfGraph}
 use Rattle.plain_commands.specs.Seen.{IsShown}
 use Rattle.plain_commands.specs.declared.outcome.Outcome.{Outcome as Told}
 
@@ -88,7 +81,7 @@ pub refusal_fits : (net : Parts) (care : CareSet) (what : Observe) (refused : Re
     → IsRefusalOf net refused
 refusal_fits net care what refused valid is = (refusal_is_shown net care what refused valid is).0
 
-refusal_shown : (net : Parts) (care : CareSet) (what : Observe) (refused : Refusal) → IsNetlist net → refusal net care what ≡ Some refused
+pub refusal_shown : (net : Parts) (care : CareSet) (what : Observe) (refused : Refusal) → IsNetlist net → refusal net care what ≡ Some refused
     → IsShown net refused
 refusal_shown net care what (Initial q) valid is = tt
 refusal_shown net care what EmptyCare valid is = tt
@@ -117,21 +110,6 @@ limit_decides net care limit what purpose arena end result (NodeLimit nodes) is 
     let met : result ≡ Err (NodeLimit limit) = is ∙ ap Err at in
     Limit (record { cause = cause met; below = enough met }) (same ∙ ap limit_reached (nodes_are nodes limit at))
 limit_decides net care limit what purpose arena end result WantsMemory is same faults cause enough = absurd same
-
--- a refusal can be told of its netlist, and so can a judgement and a verdict
-told_refusal : (net : Parts) (care : CareSet) (what : Observe) (refused : Refusal) → IsNetlist net → refusal net care what ≡ Some refused
-    → IsToldRefusal net refused
-told_refusal net care what refused valid is = (refusal_fits net care what refused valid is, refusal_shown net care what refused valid is)
-
-pub judgement_fits : (net : Parts) (care : CareSet) (what : Observe) (judgement : Judgement) → IsNetlist net
-    → IsJudgement net care what judgement → IsSaid net judgement
-judgement_fits net care what (judgements.Accepted loose) valid is = tt
-judgement_fits net care what (judgements.Refused refused) valid is = told_refusal net care what refused valid is
-
-pub verdict_fits : (net : Parts) (blocks : Blocks) (cut : Cut) (care : CareSet) (what : Observe) (verdict : Verdict) → IsNetlist net
-    → IsVerdict net blocks cut care what verdict → IsTellable net blocks verdict
-verdict_fits net blocks cut care what (Accepted counts loose) valid is = is.sweeps.width
-verdict_fits net blocks cut care what (Refused refused) valid is = told_refusal net care what refused valid is
 
 -- what is told of an accepted netlist for each purpose
 pub judged : (net : Parts) (care : CareSet) (limit : ℕ) (what : Observe) (loose : ℕ) (given : Option ℕ) (end : Outcome)

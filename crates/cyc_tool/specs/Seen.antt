@@ -1,5 +1,5 @@
 -- How clauses see the values of the code.
-use Rattle.std.specs.Prelude.{◌≡◌, ◌+◌, Ok, Err, length}
+use Rattle.std.specs.Prelude.{◌≡◌, ◌+◌, Ok, Err}
 use Rattle.std.specs.declared.result.Result.{Result}
 use Rattle.netlist.specs.declared.parts.Parts.{Parts}
 use Rattle.aig_core.specs.declared.building.Built.{Built}
@@ -12,7 +12,6 @@ use Rattle.commands.specs.declared.encoding.Encoding.{Encoding}
 use Rattle.blif_write.specs.Written.{written}
 use Rattle.commands.specs.Words.{Purpose, Explains}
 use Rattle.commands.specs.declared.form.Form.{Form}
-use Rattle.loops.specs.declared.structure.Blocks.{Blocks}
 use Rattle.refusals.specs.Refusals.{IsRefusalOf}
 use Rattle.refusals.specs.declared.refusal.Refusal.{Refusal}
 use Rattle.refusals.specs.declared.refusal.Refusal.TheVariants.{Undetermined}
@@ -28,15 +27,11 @@ use Rattle.equal.specs.declared.fault.EqualFault.{EqualFault}
 use Rattle.equal.specs.declared.fault.EqualFault.TheVariants.{NodeLimit as PairLimit, Memory as NoPair}
 use Rattle.verdict.specs.declared.fault.DecideFault.{DecideFault}
 use Rattle.verdict.specs.declared.fault.DecideFault.TheVariants.{NodeLimit, Memory as NoNodes}
-use Rattle.diagram_decision.specs.declared.judgement.Judgement.{Judgement}
-use Rattle.diagram_decision.specs.declared.judgement.Judgement.TheVariants as judgements
-use Rattle.verdict.specs.declared.verdict.Verdict.{Verdict}
-use Rattle.verdict.specs.declared.verdict.Verdict.TheVariants.{Accepted, Refused}
 use Rattle.cyc_tool.specs.Answer.{IsWireExplained}
 use Rattle.plain_commands.specs.Plans as plans
 use Rattle.plain_commands.specs.Texts as texts
 use Rattle.plain_commands.specs.declared.outcome.Outcome.{Outcome}
-use Rattle.plain_commands.specs.Seen.{outcome_of, IsShown}
+use Rattle.plain_commands.specs.Seen.{outcome_of}
 
 -- what is told of a netlist that isn't made: its size
 abbrev pub IsOutgrown : UnrollFault → Outcome → Type 0
@@ -77,20 +72,6 @@ IsLimitOf NoNodes told = ⊥
 abbrev pub IsComparisonLimitOf : EqualFault → Outcome → Type 0
 IsComparisonLimitOf (PairLimit nodes) told = outcome_of told ≡ texts.limit_reached nodes
 IsComparisonLimitOf NoPair told = ⊥
-
--- a refusal that can be told of a netlist: it has the netlist's widths and a wire that is unknown
-abbrev pub IsToldRefusal : Parts → Refusal → Type 0
-IsToldRefusal net refused = IsRefusalOf net refused × IsShown net refused
-
--- a judgement that can be
-abbrev pub IsSaid : Parts → Judgement → Type 0
-IsSaid net (judgements.Accepted loose) = Unit {0}
-IsSaid net (judgements.Refused refused) = IsToldRefusal net refused
-
--- a verdict that can be: there is a number of sweeps for each block
-abbrev pub IsTellable : Parts → Blocks → Verdict → Type 0
-IsTellable net blocks (Accepted counts loose) = length counts.per_block ≡ length blocks.list
-IsTellable net blocks (Refused refused) = IsToldRefusal net refused
 
 -- what is found where an assumption is looked for, and can be told: a care set is the netlist's, and what refuses it has
 -- its widths

@@ -7,11 +7,13 @@ ghost use Rattle.care_sets.specs.Binding.{IsCare, IsCareOf};
 ghost use Rattle.commands.specs.Seen.{options_seen};
 ghost use Rattle.cyc_base.specs.declared.limits.TheConstants.{MAX_NODES as most_nodes};
 ghost use Rattle.cyc_io.specs.Text.{text_bytes};
-ghost use Rattle.netlist.specs.Netlists.{IsNetlist};
+ghost use Rattle.netlist.specs.Netlists.{columns};
 ghost use Rattle.netlist.specs.declared.parts.Parts.{Parts};
 ghost use Rattle.parsed_files.specs.CareTexts.{listed, models_of};
 ghost use Rattle.plain_commands.specs.Texts.{told as done};
 ghost use Rattle.plain_commands.specs.Shelves.{shelf_call};
+ghost use Rattle.rewriting.specs.Graphs.{most_columns};
+ghost use Rattle.cyc_tool.specs.Problems.{decision_in};
 ghost use Rattle.cyc_tool.specs.Calls.{Follows, IsCareFile, IsSought, IsWritten};
 ghost use Rattle.cyc_tool.specs.Endings.{assumption_told, care_text};
 ghost use Rattle.plain_commands.specs.Plans.{Prints, WantsRows, assuming};
@@ -19,7 +21,8 @@ ghost use Rattle.cyc_tool.specs.Seen.{IsTellableAssumption};
 ghost use Rattle.plain_commands.specs.Seen.{end_of, outcome_of};
 
 use crate::decision::tell_limited;
-use assumptions::{Assumption, MAX_ROWS, weakest_assumption};
+use crate::problem::Problem;
+use assumptions::{Assumption, MAX_ROWS};
 use bdd_ops::Diagrams;
 use blif_write::write_models;
 use care_sets::Care;
@@ -107,21 +110,17 @@ fn tell_assumption(
     }
 }
 
-// Looks for the weakest assumption of a netlist within a care set, and tells what is found.
+// Looks for the weakest assumption of a netlist within its care set, and tells what is found.
 fn tell_sought_in(
     alloc: Global,
-    looped: &LoopedNetlist<'_>,
-    care: &Care,
-    limit: u32,
-    observe: Observe,
+    problem: &Problem<'_>,
     d: &mut Diagrams,
 ) -> Result<Outcome, AllocError>
-    requires valid { IsNetlist looped.now.net }
-    requires care { IsCareOf looped.now.net care.now }
-    requires limit { limit ≤ most_nodes }
-    ensures { IfOk result (λ told. IsSought record { net = looped.now.net; care = care.now; limit = limit; observe = observe } d.new (outcome_of told)) }
+    ensures { IfOk result (λ told. IsSought (decision_in problem.now) d.new (outcome_of told)) }
 {
-    let found = weakest_assumption(alloc, d, looped, care, limit, observe);
+    let looped = problem.looped();
+    let care = problem.care();
+    let found = problem.weakest_assumption(alloc, d);
     match &found {
         Ok(answer) => tell_assumption(alloc, looped.net(), care, answer),
         Err(fault) => tell_limited(alloc, fault),
@@ -136,7 +135,7 @@ fn tell_sought(
     observe: Observe,
     d: &mut Diagrams,
 ) -> Result<Outcome, AllocError>
-    requires valid { IsNetlist net.now }
+    requires columns { columns net.now ≤ most_columns }
     requires care { IsCareOf net.now care.now }
     requires limit { limit ≤ most_nodes }
     ensures { IfOk result (λ told. IsSought record { net = net.now; care = care.now; limit = limit; observe = observe } d.new (outcome_of told)) }
@@ -144,7 +143,8 @@ fn tell_sought(
     let blocks = find_blocks(alloc, net)?;
     let cut = find_cut(alloc, net, &blocks)?;
     let looped = LoopedNetlist::new(net, &blocks, &cut);
-    tell_sought_in(alloc, &looped, care, limit, observe, d)
+    let problem = Problem::new(&looped, care, limit, observe);
+    tell_sought_in(alloc, &problem, d)
 }
 
 // Writes the weakest care models under which the netlist of a file is accepted, within its care set.

@@ -1,11 +1,11 @@
 // Decisions of netlists on their care sets.
-ghost use Rattle.std.specs.Prelude.{◌≡◌, ◌≤◌, ℕ, IfOk, length};
+ghost use Rattle.std.specs.Prelude.{◌≡◌, ◌≤◌, ℕ, IfOk, Some, None, length};
 ghost use Rattle.aig_core.specs.Answers.{FitsNetlist};
 ghost use Rattle.bdd_store.specs.Arena.{Arena};
 ghost use Rattle.care_sets.specs.Binding.{IsCareOf};
 ghost use Rattle.care_sets.specs.Care.{CareSet};
 ghost use Rattle.commands.specs.Seen.{cells_seen, making_seen, purpose_seen, telling_seen};
-ghost use Rattle.commands.specs.Words.{Rewrites, WritesGraph};
+ghost use Rattle.commands.specs.Words.{Demonstrates, Explains, Rewrites, WritesGraph};
 ghost use Rattle.cyc_base.specs.declared.limits.TheConstants.{MAX_NODES as most_nodes, MAX_REWRITTEN_ITEMS};
 ghost use Rattle.netlist.specs.Netlists.{IsNetlist, columns};
 ghost use Rattle.netlist.specs.Walks.{IsLoopFree};
@@ -15,21 +15,23 @@ ghost use Rattle.refusals.specs.Refusals.{IsRefusalOf};
 ghost use Rattle.refusals.specs.declared.observe.Observe.{Observe as Observed};
 ghost use Rattle.report.specs.Verdicts.{accepted_text, ring_line};
 ghost use Rattle.rewriting.specs.Graphs.{most_columns};
-ghost use Rattle.rewriting.specs.Rewriting.{rewritten as rewritten_netlist, rewritten_size as rewritten_size_of, IsCountedOnCare, IsRewriting};
+ghost use Rattle.rewriting.specs.Rewriting.{rewritten as rewritten_netlist, rewritten_size as rewritten_size_of, IsLoopFreeForm, IsRewriting};
 ghost use Rattle.diagram_decision.specs.Judgements.{AreLoose, IsJudgement};
-ghost use Rattle.verdict.specs.Verdicts.{IsAcceptance, IsVerdict};
+ghost use Rattle.verdict.specs.Verdicts.{IsVerdict};
 ghost use Rattle.plain_commands.specs.Texts.{told as done, count_of_loops};
+ghost use Rattle.cyc_tool.specs.Problems.{decision_in, decision_on};
 ghost use Rattle.cyc_tool.specs.Calls.{IsAccepted, IsDecided};
 ghost use Rattle.cyc_tool.specs.Endings.{where_outputs};
 ghost use Rattle.plain_commands.specs.Plans.{Declines, Prints};
-ghost use Rattle.cyc_tool.specs.Seen.{IsLimitOf, IsOutgrown, IsOverfull, IsRefusalTold, IsSaid, IsTellable, IsToldOf, IsToldOfGraph};
+ghost use Rattle.cyc_tool.specs.Seen.{IsLimitOf, IsOutgrown, IsOverfull, IsRefusalTold, IsToldOf, IsToldOfGraph};
 ghost use Rattle.plain_commands.specs.Seen.{IsShown, outcome_of};
 
 use crate::explained::{tell_explained, tell_loops_explained};
+use crate::problem::{Accepted, Problem};
 use crate::split::{tell_graphed_in, tell_rewritten_in};
 use bdd_ops::Diagrams;
 use care_sets::Care;
-use commands::{Cells, Encoding, Making, Purpose, Telling};
+use commands::{Cells, Encoding, Form, Making, Purpose, Telling};
 use cyc_io::TextSink;
 use feedback_cuts::find_cut;
 use loops::{LoopedNetlist, find_blocks};
@@ -43,7 +45,7 @@ use report::put_ring;
 use rewriting::{AigFault, Built, graph, rewrite, rewritten_gates};
 use std::alloc::{AllocError, Global};
 use unroll::{CountedLoops, UnrollFault};
-use verdict::{DecideFault, Judgement, Verdict, decide, judge};
+use verdict::{DecideFault, Judgement, Verdict};
 
 // The first number of ANDs that a graph can't have.
 const TOO_MANY_ANDS: u64 = 4_000_001;
@@ -115,13 +117,11 @@ pub(crate) fn tell_rewriting(
 // Rewrites an accepted netlist, and tells what comes of it.
 pub(crate) fn tell_rewritten(
     alloc: Global,
-    counted: &CountedLoops<'_>,
+    accepted: &Accepted<'_, '_>,
 ) -> Result<Outcome, AllocError>
-    requires columns { columns counted.now.net ≤ most_columns }
-    ensures { IfOk result (λ told. (care : CareSet) (observe : Observed) (limit : ℕ) → Accepts counted.now.net care observe →
-        IsCountedOnCare counted.now care →
-        IsAccepted record { net = counted.now.net; care = care; limit = limit; observe = observe } (Rewrites None) (outcome_of told)) }
+    ensures { IfOk result (λ told. IsAccepted (decision_on accepted.now) (Rewrites None) (outcome_of told)) }
 {
+    let counted = accepted.counted();
     let rewriting = rewrite(alloc, counted);
     tell_rewriting(alloc, &rewriting)
 }
@@ -137,7 +137,7 @@ fn tell_overfull(alloc: Global, fault: &AigFault) -> Result<Outcome, AllocError>
 }
 
 // What comes of the graph of a netlist: its text, or that it has too many ANDs.
-pub(crate) fn tell_graph(
+fn tell_graph(
     alloc: Global,
     other: &Netlist,
     graph: &Result<Built, AigFault>,
@@ -153,12 +153,19 @@ pub(crate) fn tell_graph(
 }
 
 // Makes the graph of a netlist without loops, and tells what comes of it.
-fn tell_graph_of(alloc: Global, other: &Netlist, encoding: Encoding) -> Result<Outcome, AllocError>
+pub(crate) fn tell_graph_of(
+    alloc: Global,
+    other: &Netlist,
+    encoding: Encoding,
+) -> Result<Outcome, AllocError>
     requires loop_free { IsLoopFree other.now }
     requires columns { columns other.now ≤ most_columns }
-    ensures { IfOk result (λ told. (net : Parts) (care : CareSet) (observe : Observed) (limit : ℕ) → IsNetlist net → Accepts net care observe →
+    ensures rewritten { IfOk result (λ told. (net : Parts) (care : CareSet) (observe : Observed) (limit : ℕ) → IsNetlist net → Accepts net care observe →
         rewritten_size_of net care ≤ MAX_REWRITTEN_ITEMS → IsRewriting net care other.now →
         IsAccepted record { net = net; care = care; limit = limit; observe = observe } (WritesGraph encoding None) (outcome_of told)) }
+    ensures split { IfOk result (λ told. (net : Parts) (care : CareSet) (observe : Observed) (limit cases : ℕ) → IsNetlist net → Accepts net care observe →
+        IsLoopFreeForm net care other.now →
+        IsAccepted record { net = net; care = care; limit = limit; observe = observe } (WritesGraph encoding (Some cases)) (outcome_of told)) }
 {
     let made = graph(alloc, other);
     tell_graph(alloc, other, &made, encoding)
@@ -167,15 +174,12 @@ fn tell_graph_of(alloc: Global, other: &Netlist, encoding: Encoding) -> Result<O
 // Rewrites an accepted netlist, and tells what comes of its graph.
 pub(crate) fn tell_graphed(
     alloc: Global,
-    counted: &CountedLoops<'_>,
+    accepted: &Accepted<'_, '_>,
     encoding: Encoding,
 ) -> Result<Outcome, AllocError>
-    requires valid { IsNetlist counted.now.net }
-    requires columns { columns counted.now.net ≤ most_columns }
-    ensures { IfOk result (λ told. (care : CareSet) (observe : Observed) (limit : ℕ) → Accepts counted.now.net care observe →
-        IsCountedOnCare counted.now care →
-        IsAccepted record { net = counted.now.net; care = care; limit = limit; observe = observe } (WritesGraph encoding None) (outcome_of told)) }
+    ensures { IfOk result (λ told. IsAccepted (decision_on accepted.now) (WritesGraph encoding None) (outcome_of told)) }
 {
+    let counted = accepted.counted();
     let rewriting = rewrite(alloc, counted);
     match &rewriting {
         Ok(other) => tell_graph_of(alloc, other, encoding),
@@ -184,11 +188,10 @@ pub(crate) fn tell_graphed(
 }
 
 // How many gates the rewritten netlist of an accepted one has. It is made, unless it is too large.
-fn count_rewritten(alloc: Global, counted: &CountedLoops<'_>) -> Result<u64, AllocError>
-    requires columns { columns counted.now.net ≤ most_columns }
-    ensures { IfOk result (λ gates. (care : CareSet) (observe : Observed) → Accepts counted.now.net care observe →
-        IsCountedOnCare counted.now care → gates ≡ length (rewritten_netlist counted.now.net care).gates) }
+fn count_rewritten(alloc: Global, accepted: &Accepted<'_, '_>) -> Result<u64, AllocError>
+    ensures { IfOk result (λ gates. gates ≡ length (rewritten_netlist accepted.now.counted.net accepted.now.care).gates) }
 {
+    let counted = accepted.counted();
     match rewrite(alloc, counted) {
         Ok(other) => Ok(u64::from(other.gates())),
         Err(UnrollFault::TooLarge { size: _ }) => Ok(rewritten_gates(counted)),
@@ -217,18 +220,44 @@ fn tell_ring(
     }
 }
 
+// What is told of a ring whose netlist is accepted.
+fn demonstrate(
+    alloc: Global,
+    accepted: &Accepted<'_, '_>,
+    cells: Cells,
+) -> Result<Outcome, AllocError>
+    ensures { IfOk result (λ told. IsAccepted (decision_on accepted.now) (Demonstrates (cells_seen cells)) (outcome_of told)) }
+{
+    let rewritten = count_rewritten(alloc, accepted)?;
+    let counted = accepted.counted();
+    tell_ring(alloc, cells, counted.looped(), rewritten)
+}
+
+// What is told of the loops of an accepted netlist.
+fn explain_accepted(
+    alloc: Global,
+    accepted: &Accepted<'_, '_>,
+    form: Form,
+) -> Result<Outcome, AllocError>
+    ensures { IfOk result (λ told. IsAccepted (decision_on accepted.now) (Explains form) (outcome_of told)) }
+{
+    let counted = accepted.counted();
+    let number = loose_told(accepted.observe(), accepted.loose());
+    tell_loops_explained(alloc, counted, number, form)
+}
+
 // What is told of an accepted netlist whose verdict says all.
 fn tell_accepted_for(
     alloc: Global,
-    looped: &LoopedNetlist<'_>,
-    observe: Observe,
+    problem: &Problem<'_>,
     telling: Telling,
     loose: u32,
 ) -> Result<Outcome, AllocError>
-    ensures { IfOk result (λ told. (care : CareSet) → AreLoose looped.now.net care loose → (limit : ℕ) →
-        IsAccepted record { net = looped.now.net; care = care; limit = limit; observe = observe } (telling_seen telling) (outcome_of told)) }
+    requires { AreLoose problem.now.looped.net problem.now.care loose }
+    ensures { IfOk result (λ told. IsAccepted (decision_in problem.now) (telling_seen telling) (outcome_of told)) }
 {
-    let number = loose_told(observe, loose);
+    let looped = problem.looped();
+    let number = loose_told(problem.observe(), loose);
     match telling {
         Telling::Judge => tell_accepted(alloc, looped, number),
         Telling::Storm(_) => tell_no_storm(alloc, looped, number),
@@ -255,18 +284,16 @@ fn tell_refused_for(
 // What is told of a judgement.
 fn tell_judgement(
     alloc: Global,
-    looped: &LoopedNetlist<'_>,
-    observe: Observe,
+    problem: &Problem<'_>,
     telling: Telling,
     judgement: &Judgement,
 ) -> Result<Outcome, AllocError>
-    requires valid { IsNetlist looped.now.net }
-    requires fits { IsSaid looped.now.net judgement.now }
-    ensures { IfOk result (λ told. (care : CareSet) → IsJudgement looped.now.net care observe judgement.now → (limit : ℕ) (nodes : Arena) →
-        IsDecided record { net = looped.now.net; care = care; limit = limit; observe = observe } (telling_seen telling) nodes (outcome_of told)) }
+    requires { IsJudgement problem.now.looped.net problem.now.care problem.now.observe judgement.now }
+    ensures { IfOk result (λ told. (nodes : Arena) → IsDecided (decision_in problem.now) (telling_seen telling) nodes (outcome_of told)) }
 {
+    let looped = problem.looped();
     match judgement {
-        Judgement::Accepted { loose } => tell_accepted_for(alloc, looped, observe, telling, *loose),
+        Judgement::Accepted { loose } => tell_accepted_for(alloc, problem, telling, *loose),
         Judgement::Refused(refusal) => tell_refused_for(alloc, looped.net(), telling, refusal),
     }
 }
@@ -274,33 +301,17 @@ fn tell_judgement(
 // What is told of an accepted netlist of which something is made.
 fn tell_acceptance(
     alloc: Global,
-    counted: &CountedLoops<'_>,
-    care: &Care,
-    task: Task,
+    accepted: &Accepted<'_, '_>,
     making: Making,
-    loose: u32,
     d: &mut Diagrams,
 ) -> Result<Outcome, AllocError>
-    requires valid { IsNetlist counted.now.net }
-    requires columns { columns counted.now.net ≤ most_columns }
-    requires care { IsCareOf counted.now.net care.now }
-    requires limit { task.limit ≤ most_nodes }
-    ensures { IfOk result (λ told. IsAcceptance counted.now.net counted.now.blocks counted.now.cut care.now task.observe counted.now.sweeps loose → (limit : ℕ) →
-        IsAccepted record { net = counted.now.net; care = care.now; limit = limit; observe = task.observe } (making_seen making) (outcome_of told)) }
+    ensures { IfOk result (λ told. IsAccepted (decision_on accepted.now) (making_seen making) (outcome_of told)) }
 {
     match making {
-        Making::Rewrite(split) => { tell_rewritten_in(alloc, counted, care, task.limit, split, d) }
-        Making::Aiger(encoding, split) => {
-            tell_graphed_in(alloc, counted, care, task.limit, split, encoding, d)
-        }
-        Making::Explain(form) => {
-            let number = loose_told(task.observe, loose);
-            tell_loops_explained(alloc, counted, number, form)
-        }
-        Making::Demonstrate(cells) => {
-            let rewritten = count_rewritten(alloc, counted)?;
-            tell_ring(alloc, cells, counted.looped(), rewritten)
-        }
+        Making::Rewrite(split) => tell_rewritten_in(alloc, accepted, split, d),
+        Making::Aiger(encoding, split) => tell_graphed_in(alloc, accepted, split, encoding, d),
+        Making::Explain(form) => explain_accepted(alloc, accepted, form),
+        Making::Demonstrate(cells) => demonstrate(alloc, accepted, cells),
     }
 }
 
@@ -326,27 +337,22 @@ fn tell_refusal(
 // What is told of a verdict.
 fn tell_verdict(
     alloc: Global,
-    looped: &LoopedNetlist<'_>,
-    care: &Care,
-    task: Task,
+    problem: &Problem<'_>,
     making: Making,
-    verdict: &Verdict,
+    verdict: Verdict,
     d: &mut Diagrams,
 ) -> Result<Outcome, AllocError>
-    requires valid { IsNetlist looped.now.net }
-    requires columns { columns looped.now.net ≤ most_columns }
-    requires care { IsCareOf looped.now.net care.now }
-    requires limit { task.limit ≤ most_nodes }
-    requires fits { IsTellable looped.now.net looped.now.blocks verdict.now }
-    ensures { IfOk result (λ told. IsVerdict looped.now.net looped.now.blocks looped.now.cut care.now task.observe verdict.now → (limit : ℕ) (nodes : Arena) →
-        IsDecided record { net = looped.now.net; care = care.now; limit = limit; observe = task.observe } (making_seen making) nodes (outcome_of told)) }
+    requires { IsVerdict problem.now.looped.net problem.now.looped.blocks problem.now.looped.cut problem.now.care problem.now.observe verdict }
+    ensures { IfOk result (λ told. (nodes : Arena) → IsDecided (decision_in problem.now) (making_seen making) nodes (outcome_of told)) }
 {
+    let looped = problem.looped();
     match verdict {
         Verdict::Accepted { sweeps, loose } => {
-            let counted = CountedLoops::new(looped, sweeps);
-            tell_acceptance(alloc, &counted, care, task, making, *loose, d)
+            let counted = CountedLoops::new(looped, &sweeps);
+            let accepted = Accepted::new(problem, &counted, loose);
+            tell_acceptance(alloc, &accepted, making, d)
         }
-        Verdict::Refused(refusal) => tell_refusal(alloc, looped, making, refusal),
+        Verdict::Refused(refusal) => tell_refusal(alloc, looped, making, &refusal),
     }
 }
 
@@ -363,24 +369,15 @@ pub(crate) fn tell_limited(alloc: Global, fault: &DecideFault) -> Result<Outcome
 // Judges a netlist on its care set, and tells of it what is wanted.
 fn tell_judged(
     alloc: Global,
-    looped: &LoopedNetlist<'_>,
-    care: &Care,
-    task: Task,
+    problem: &Problem<'_>,
     telling: Telling,
     d: &mut Diagrams,
 ) -> Result<Outcome, AllocError>
-    requires valid { IsNetlist looped.now.net }
-    requires care { IsCareOf looped.now.net care.now }
-    requires limit { task.limit ≤ most_nodes }
-    ensures { IfOk result (λ told. IsDecided record { net = looped.now.net; care = care.now; limit = task.limit; observe = task.observe }
-        (telling_seen telling) d.new (outcome_of told)) }
+    ensures { IfOk result (λ told. IsDecided (decision_in problem.now) (telling_seen telling) d.new (outcome_of told)) }
 {
-    let net = looped.net();
-    let blocks = looped.blocks();
-    let cut = looped.cut();
-    let judged = judge(alloc, d, net, blocks, cut, care, task.limit, task.observe);
+    let judged = problem.judge(alloc, d);
     match &judged {
-        Ok(judgement) => tell_judgement(alloc, looped, task.observe, telling, judgement),
+        Ok(judgement) => tell_judgement(alloc, problem, telling, judgement),
         Err(fault) => tell_limited(alloc, fault),
     }
 }
@@ -388,26 +385,15 @@ fn tell_judged(
 // Decides a netlist on its care set, and tells of it what is wanted.
 fn tell_decided(
     alloc: Global,
-    looped: &LoopedNetlist<'_>,
-    care: &Care,
-    task: Task,
+    problem: &Problem<'_>,
     making: Making,
     d: &mut Diagrams,
 ) -> Result<Outcome, AllocError>
-    requires valid { IsNetlist looped.now.net }
-    requires columns { columns looped.now.net ≤ most_columns }
-    requires care { IsCareOf looped.now.net care.now }
-    requires limit { task.limit ≤ most_nodes }
-    ensures { IfOk result (λ told. IsDecided record { net = looped.now.net; care = care.now; limit = task.limit; observe = task.observe }
-        (making_seen making) d.new (outcome_of told)) }
+    ensures { IfOk result (λ told. IsDecided (decision_in problem.now) (making_seen making) d.new (outcome_of told)) }
 {
-    let net = looped.net();
-    let blocks = looped.blocks();
-    let cut = looped.cut();
-    let decision = decide(alloc, d, net, blocks, cut, care, task.limit, task.observe);
-    match &decision {
-        Ok(verdict) => tell_verdict(alloc, looped, care, task, making, verdict, d),
-        Err(fault) => tell_limited(alloc, fault),
+    match problem.decide(alloc, d) {
+        Ok(verdict) => tell_verdict(alloc, problem, making, verdict, d),
+        Err(fault) => tell_limited(alloc, &fault),
     }
 }
 
@@ -420,7 +406,6 @@ pub(crate) fn tell_decision(
     task: Task,
     d: &mut Diagrams,
 ) -> Result<Outcome, AllocError>
-    requires valid { IsNetlist net.now }
     requires columns { columns net.now ≤ most_columns }
     requires care { IsCareOf net.now care.now }
     requires limit { task.limit ≤ most_nodes }
@@ -430,8 +415,9 @@ pub(crate) fn tell_decision(
     let blocks = find_blocks(alloc, net)?;
     let cut = find_cut(alloc, net, &blocks)?;
     let looped = LoopedNetlist::new(net, &blocks, &cut);
+    let problem = Problem::new(&looped, care, task.limit, task.observe);
     match task.purpose {
-        Purpose::Tell(telling) => tell_judged(alloc, &looped, care, task, telling, d),
-        Purpose::Make(making) => tell_decided(alloc, &looped, care, task, making, d),
+        Purpose::Tell(telling) => tell_judged(alloc, &problem, telling, d),
+        Purpose::Make(making) => tell_decided(alloc, &problem, making, d),
     }
 }

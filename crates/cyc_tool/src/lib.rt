@@ -9,6 +9,7 @@ mod assumed;
 mod compared;
 mod decision;
 mod explained;
+mod problem;
 mod ring;
 mod split;
 mod top;

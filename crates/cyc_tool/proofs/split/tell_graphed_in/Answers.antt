@@ -1,10 +1,7 @@
-use Rattle.cyc_tool.proofs.Common.{IfOk-weaker}
 use Rattle.cyc_tool.proofs.split.tell_graphed_in.Goals as goal
 
 pub returns-in-None : goal.returns-in-None
-returns-in-None c =
-    IfOk-weaker c.tell_graphed.result _ _ (λ told is what limit accepts sweeps. rw c.in-None.is (is c.args.care.now what limit accepts sweeps)) c.tell_graphed.ensures
+returns-in-None c = rw c.in-None.is c.tell_graphed.ensures
 
 pub returns-in-Some : goal.returns-in-Some
-returns-in-Some c =
-    IfOk-weaker c.tell_split_graph.result _ _ (λ told is what limit accepts sweeps. rw c.in-Some.is (is what limit accepts sweeps)) c.tell_split_graph.ensures
+returns-in-Some c = rw c.in-Some.is c.tell_split_graph.ensures
