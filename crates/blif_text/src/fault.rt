@@ -2,6 +2,7 @@ ghost use Rattle.std.specs.Prelude.{◌≡◌};
 ghost use Rattle.blif_text.specs.declared.fault.TextFault.TheVariants.{Memory};
 
 use std::alloc::{AllocError, AllocFailed};
+use std::fmt;
 use thiserror::Error;
 
 /// Why a text has no lines.
@@ -9,10 +10,14 @@ use thiserror::Error;
 pub enum TextFault {
     /// A byte outside comments is neither blank, tab nor a printed character. The line is the first
     /// physical line that has one, counted from 1.
-    #[error("bad byte in line {line}")]
     BadByte { line: u64 },
-    #[error("no memory")]
     Memory,
+}
+
+impl fmt::Display for TextFault {
+    fn fmt<W: fmt::Write>(&self, f: &mut fmt::Formatter<W>) -> fmt::Result {
+        f.write_str("the text has no lines")
+    }
 }
 
 impl From<AllocError> for TextFault {

@@ -1,7 +1,7 @@
 -- The first fault of a care model, as the checks find it.
-use Rattle.std.proofs.Common.{◌≡◌, ◌⊎◌, inl, inr, ℕ, Bool, true, false, ◌==◌, ◌||◌, ◌≤◌, List, length, Option, Some, None, refl, ◌∙◌, eqb-true, arith}
+use Rattle.std.proofs.Common.{◌≡◌, ◌⊎◌, inl, inr, ℕ, Bool, true, false, ◌==◌, ◌≤◌, List, length, Option, Some, None, refl, ◌∙◌, eqb-true, arith}
 use Rattle.std.proofs.lemmas.Bool.Decides.{nat_tests}
-use Rattle.std.specs.Prelude.{All, IfSome, IsSomeAnd, is_some, find, option_map}
+use Rattle.std.specs.Prelude.{All, IfSome, IsSomeAnd, find, option_map}
 use Rattle.std.specs.Option.{option_or}
 use Rattle.netlist.specs.Walks.{IsLoopFree}
 use Rattle.netlist.specs.declared.parts.Parts.{Parts}
@@ -78,9 +78,6 @@ absent net first model fault e fails = grind arith
 
 pub first_fault_is_one : FirstFaultIsOne
 first_fault_is_one net a i f g h e = grind (arith, absent, one_of, passing)
-
-pub none_there : (a i : Option Parts) → a ≡ None → i ≡ None → (is_some a || is_some i) ≡ true → ⊥
-none_there a i e k h = grind arith
 
 pub bound_models_have_no_fault : BoundModelsHaveNoFault
 bound_models_have_no_fault net a i care fault bound h = grind arith

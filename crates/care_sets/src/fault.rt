@@ -3,12 +3,12 @@ ghost use Rattle.care_sets.specs.declared.fault.CareFault.TheVariants.{Memory};
 
 use cyc_base::Name;
 use std::alloc::{AllocError, AllocFailed};
+use std::fmt;
 use thiserror::Error;
 
 /// Why the models of a care file can't be bound to a netlist. After `NoModels` they are looked for in this
 /// order in the assumption, and then in the invariant; but want of memory may come at any time.
 #[derive(Debug, Drop, Error)]
-#[error("the models can't be bound to the netlist")]
 pub enum CareFault {
     /// There is neither an assumption nor an invariant.
     NoModels,
@@ -23,6 +23,12 @@ pub enum CareFault {
     /// A walk in the model leads from a gate back to it.
     Loop { model: Name },
     Memory,
+}
+
+impl fmt::Display for CareFault {
+    fn fmt<W: fmt::Write>(&self, f: &mut fmt::Formatter<W>) -> fmt::Result {
+        f.write_str("the models can't be bound to the netlist")
+    }
 }
 
 impl From<AllocError> for CareFault {

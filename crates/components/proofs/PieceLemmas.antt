@@ -16,10 +16,6 @@ piece-append : (start end : ℕ) (items more : List ℕ) → start ≤ end → e
     take (end - start) (drop start (items ++ more)) ≡ take (end - start) (drop start items)
 piece-append start end items more l within = grind (arith, length-drop, drop-append-le, take-append-le)
 
-pub pieces-append : (start : ℕ) (ends items more : List ℕ) → EndAt start ends (length items) → pieces start ends (items ++ more) ≡ pieces start ends items
-pieces-append start [] items more e = refl
-pieces-append start (end ∷ ends) items more e = grind (arith, EndAt-below, piece-append, pieces-append end ends items more e.1)
-
 pub pieces-push : (start : ℕ) (ends items more : List ℕ) → EndAt start ends (length items) →
     pieces start (ends ++ length (items ++ more) ∷ []) (items ++ more) ≡ pieces start ends items ++ more ∷ []
 pieces-push start [] items more e =

@@ -10,6 +10,7 @@ use crate::row::{Row, are_equal};
 use crate::value::value_of_rows;
 use cyc_base::{MAX_PINS, Trit};
 use std::alloc::{AllocError, Global};
+use std::fmt;
 use std::marker::Model;
 use thiserror::Error;
 
@@ -48,11 +49,15 @@ impl Model for Cover {
 #[derive(Clone, Copy, Debug, PartialEq, Eq, Error)]
 pub enum CoverFault {
     /// There are over 1,024 pins.
-    #[error("the cover has over {MAX_PINS} pins")]
     TooManyPins,
     /// This row, numbered from 0, is the first that doesn't have a literal for each pin.
-    #[error("row {row} of the cover doesn't have a literal for each pin")]
     Width { row: usize },
+}
+
+impl fmt::Display for CoverFault {
+    fn fmt<W: fmt::Write>(&self, f: &mut fmt::Formatter<W>) -> fmt::Result {
+        f.write_str("the rows are no cover of so many pins")
+    }
 }
 
 fn first_of_other_width(rows: &[Row], pins: usize) -> Option<usize>

@@ -3,42 +3,53 @@ ghost use Rattle.delay_core.specs.declared.fault.EventFault.TheVariants as event
 ghost use Rattle.delay_core.specs.declared.fault.PlayFault.TheVariants as play_faults;
 
 use std::alloc::{AllocError, AllocFailed};
+use std::fmt;
 use thiserror::Error;
 
 /// Why an event is refused. The reasons are looked for in this order, but want of memory may come at any time.
 #[derive(Clone, Copy, Debug, Error)]
 pub enum EventFault {
     /// There is no gate of this number.
-    #[error("no such gate")]
     NoGate,
     /// There aren't as many ages as pins.
-    #[error("not one age for each pin")]
     AgeCount,
     /// This pin is the first whose age names a moment that isn't there or isn't allowed.
-    #[error("age too old")]
     TooOld { pin: u32 },
-    #[error("no memory")]
     Memory,
+}
+
+impl fmt::Display for EventFault {
+    fn fmt<W: fmt::Write>(&self, f: &mut fmt::Formatter<W>) -> fmt::Result {
+        f.write_str("the event is refused")
+    }
 }
 
 /// This gate, the first such one in flat order, had no event in the round.
 #[derive(Clone, Copy, Debug, Error)]
-#[error("a gate without an event")]
 pub struct Unfair {
     pub gate: u32,
+}
+
+impl fmt::Display for Unfair {
+    fn fmt<W: fmt::Write>(&self, f: &mut fmt::Formatter<W>) -> fmt::Result {
+        f.write_str("a gate without an event")
+    }
 }
 
 /// Why a schedule isn't played to its end: the first fault in the order of play.
 #[derive(Clone, Copy, Debug, Error)]
 pub enum PlayFault {
     /// The event of this line is refused, for want of memory never.
-    #[error("an event is refused")]
     Event { line: u64, fault: EventFault },
     /// In the round of this line a gate, the first in flat order, had no event.
-    #[error("a round without an event of each gate")]
     Unfair { line: u64, gate: u32 },
-    #[error("no memory")]
     Memory,
+}
+
+impl fmt::Display for PlayFault {
+    fn fmt<W: fmt::Write>(&self, f: &mut fmt::Formatter<W>) -> fmt::Result {
+        f.write_str("the schedule is not played to its end")
+    }
 }
 
 impl From<AllocError> for EventFault {

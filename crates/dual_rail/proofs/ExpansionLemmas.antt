@@ -1,5 +1,5 @@
 -- Shannon's expansion of rows.
-use Rattle.std.proofs.Common.{not, ◌≡◌, ℕ, zero, suc, ◌+◌, ◌<◌, ◌≤◌, Bool, true, false, ◌&&◌, ◌||◌, ◌⊎◌, inl, inr, List, [], ◌∷◌, ◌++◌, length, drop, replicate, get_or, Result, Ok, IfOk, refl, sym, ap, subst, ◌∙◌, arith, add-one, append_assoc, length-append, length-drop, true≢false}
+use Rattle.std.proofs.Common.{◌≡◌, ℕ, zero, suc, ◌+◌, ◌<◌, ◌≤◌, Bool, true, false, ◌&&◌, ◌||◌, ◌⊎◌, inl, inr, List, [], ◌∷◌, ◌++◌, length, drop, replicate, get_or, Result, Ok, IfOk, refl, sym, ap, subst, ◌∙◌, arith, add-one, append_assoc, length-append, length-drop, true≢false}
 use Rattle.std.proofs.lemmas.List.Folds.{Any-from_list_any, list_any-from_Any}
 use Rattle.dual_rail.proofs.Common.{length_push, All-get_or, list_any, list_all, All, range_with_len, Node, Arena, complemented, den, top_of, IsNodeOf, KeepsNodes, IsPart, Lit, Zero, One, Any, Row, matches, lits_of, matches_from, remainder, narrowed, IsExpansion}
 use Rattle.std.proofs.lemmas.List.{get_or_at, drop_at, length-replicate}
@@ -50,9 +50,6 @@ drop-nil (l ∷ lits) (suc pin) h = let less = drop-nil lits pin h in omega (ari
 
 in_plane-true : (plane : Bool) → in_plane plane true ≡ plane
 in_plane-true plane = grind arith
-
-pub in_plane-false : (plane : Bool) → in_plane plane false ≡ not plane
-in_plane-false plane = grind arith
 
 -- a row that asks nothing more matches
 pub remainder-settled : (rows : List Row) (plane : Bool) (pin : ℕ) (live : List ℕ) → list_any (is_settled rows pin) live ≡ true → (bits : List Bool) → remainder rows plane pin live bits ≡ plane

@@ -1,5 +1,5 @@
 -- The loops of a netlist, one after another.
-use Rattle.std.proofs.Common.{◌≡◌, ℕ, zero, suc, ◌+◌, ◌-◌, ◌<◌, ◌≤◌, Bool, true, false, cond, List, [], ◌∷◌, ◌++◌, length, filter, get_or, map, Some, refl, sym, ap, ◌∙◌, subst, arith}
+use Rattle.std.proofs.Common.{◌≡◌, ℕ, zero, suc, ◌+◌, ◌-◌, ◌<◌, ◌≤◌, Bool, true, false, cond, List, [], ◌∷◌, ◌++◌, length, get_or, map, Some, refl, sym, ap, ◌∙◌, subst, arith}
 use Rattle.loops.proofs.Common.{length-map, AllByRecursion, range_with_len, Parts, begins_with, loop_of}
 use Rattle.std.proofs.lemmas.List.{length-append}
 use Rattle.std.proofs.Math.Seq.{get_or-append_seam}
@@ -24,9 +24,6 @@ gate_begins net n inside begun = gates_more net n inside ∙ ap (λ (t : Bool). 
 
 pub gate_passes : (net : Parts) (n : ℕ) → n < length net.gates → begins_with (loop_of net n) n ≡ false → first_gates_from net n ≡ first_gates_from net (n + 1)
 gate_passes net n inside none = gates_more net n inside ∙ ap (λ (t : Bool). cond t (n ∷ first_gates_from net (n + 1)) (first_gates_from net (n + 1))) none
-
-pub gates_end : (net : Parts) (n : ℕ) → length net.gates ≤ n → first_gates_from net n ≡ []
-gates_end net n past = ap (λ k. filter (λ g. begins_with (loop_of net g) g) (range_with_len n k)) (let e : length net.gates - n ≡ 0 = omega (arith, past) in e)
 
 -- none is left, or the next and those behind it
 pub none_left : (net : Parts) (k n : ℕ) → first_gates_from net n ≡ [] → numbered net k (first_gates_from net n) ≡ []
