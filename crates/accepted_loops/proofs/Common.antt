@@ -17,8 +17,8 @@ pub use Rattle.netlist.specs.declared.parts.Parts.{Parts}
 pub use Rattle.refusals.proofs.ObservedLemmas.{among, member}
 pub use Rattle.report.proofs.LoopTextLemmas.{told_first}
 pub use Rattle.report.specs.LoopTexts.{loop_lines}
-pub use Rattle.rewriting.proofs.RewrittenLemmas.{counts_are_needed}
-pub use Rattle.rewriting.specs.Rewriting.{sweeps_needed, IsCountedOnCare}
+pub use Rattle.loop_simulation.proofs.NeededLemmas.{counts_are_needed}
+pub use Rattle.loop_simulation.specs.Sweeping.{sweeps_needed, AreSweepsOnCare}
 pub use Rattle.std.proofs.lemmas.Bool.{and_from, and_parts, eqb-true}
 pub use Rattle.std.proofs.lemmas.List.FromFn.{length-range_with_len}
 pub use Rattle.std.proofs.lemmas.Result.{IfOk-weaker}

@@ -1,7 +1,7 @@
 -- The graph of loops.
 use Rattle.std.proofs.Common.{◌≡◌, ◌<◌, ◌≤◌, ℕ, Bool, List, ◌++◌, length, ap, ap₂, ◌∙◌, append_assoc, arith}
 use Rattle.std.proofs.lemmas.Bool.{lt-ltb}
-use Rattle.accepted_loops.proofs.Common.{CareSet, loops_of, gate_numbers, loop_of, begins_with, Parts, sweeps_needed, counts_are_needed, Counted, counted_sweeps, IsCounted, IsCountedOnCare, if◌then◌else◌, short_cluster, told_cluster, whole_cluster}
+use Rattle.accepted_loops.proofs.Common.{CareSet, loops_of, gate_numbers, loop_of, begins_with, Parts, sweeps_needed, counts_are_needed, Counted, counted_sweeps, IsCounted, AreSweepsOnCare, if◌then◌else◌, short_cluster, told_cluster, whole_cluster}
 use Rattle.loops.specs.Looped.{Looped}
 use Rattle.accepted_loops.specs.Graphs.{told_clusters}
 use Rattle.accepted_loops.proofs.LineLemmas.{begun-passes, numbered-alike}
@@ -24,7 +24,7 @@ cluster_told cluster old new given looped label text gates of_loop told netlist 
     ∙ ap₂ (λ (t g : List ℕ). old ++ cluster looped t g) texts same
 
 -- the sweeps that are needed
-pub drawn_on_care : (counted : Counted) (care : CareSet) → IsCounted counted → IsCountedOnCare counted care
+pub drawn_on_care : (counted : Counted) (care : CareSet) → IsCounted counted → AreSweepsOnCare counted.net counted.blocks counted.cut care counted.sweeps
     → told_clusters counted.net (counted_sweeps counted) ≡ told_clusters counted.net (sweeps_needed counted.net care)
 drawn_on_care counted care is on_care =
     let net = counted.net in

@@ -1,6 +1,6 @@
 -- The lines of loops, one after another.
 use Rattle.std.proofs.Common.{◌≡◌, ℕ, ◌+◌, Bool, true, false, cond, List, [], ◌∷◌, ◌++◌, length, filter, refl, sym, ap, ap₂, ◌∙◌, arith, append_assoc, true≢false}
-use Rattle.accepted_loops.proofs.Common.{eqb-true, Parts, loops_of, gate_numbers, loop_of, begins_with, first_gate, CareSet, is_marked, loops_left, loop_lines, told_first, sweeps_needed, counts_are_needed, Counted, counted_sweeps, IsCounted, IsCountedOnCare, columns_read, is_read, marked_columns, AreColumnsRead, sweeps_line, columns_line, told_lines}
+use Rattle.accepted_loops.proofs.Common.{eqb-true, Parts, loops_of, gate_numbers, loop_of, begins_with, first_gate, CareSet, is_marked, loops_left, loop_lines, told_first, sweeps_needed, counts_are_needed, Counted, counted_sweeps, IsCounted, AreSweepsOnCare, columns_read, is_read, marked_columns, AreColumnsRead, sweeps_line, columns_line, told_lines}
 use Rattle.std.specs.Iterator.{Yields, YieldsFirstBy}
 use Rattle.std.specs.Prelude.{Some}
 use Rattle.loops.specs.Left.{loop_seen}
@@ -57,7 +57,7 @@ numbered-alike one two test agree (n ∷ ns) k = by (test n) refl (numbered-alik
     by true passes rest = ap₂ (λ (text others : List ℕ). text ++ others) (agree k n passes) (rest (k + 1))
     by false fails rest = rest k
 
-pub told_on_care : (counted : Counted) (care : CareSet) → IsCounted counted → IsCountedOnCare counted care
+pub told_on_care : (counted : Counted) (care : CareSet) → IsCounted counted → AreSweepsOnCare counted.net counted.blocks counted.cut care counted.sweeps
     → told_loops counted.net (counted_sweeps counted) ≡ told_loops counted.net (sweeps_needed counted.net care)
 told_on_care counted care is on_care =
     let net = counted.net in

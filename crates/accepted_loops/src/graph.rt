@@ -8,7 +8,7 @@ ghost use Rattle.dot_text.specs.LoopGraphs.{cut_cluster, labelled_cluster};
 ghost use Rattle.loops.specs.Found.{loops_of};
 ghost use Rattle.loops.specs.Left.{loop_seen};
 ghost use Rattle.loops.specs.Numbered.{IsLoopOf};
-ghost use Rattle.rewriting.specs.Rewriting.{sweeps_needed, IsCountedOnCare};
+ghost use Rattle.loop_simulation.specs.Sweeping.{sweeps_needed, AreSweepsOnCare};
 ghost use Rattle.unroll.specs.Counted.{counted_sweeps};
 ghost use Rattle.accepted_loops.specs.Graphs.{short_cluster, told_cluster, told_clusters, told_graph, whole_cluster};
 ghost use Rattle.accepted_loops.specs.Lines.{sweeps_line, told_lines};
@@ -141,7 +141,7 @@ fn tell_clusters(
     sink: &mut TextSink,
 ) -> Result<(), AllocError>
     ensures told { OnOk result (text_bytes sink.new ≡ text_bytes sink.old ++ told_clusters counted.now.net (counted_sweeps counted.now)) }
-    ensures on_care { OnOk result ((care : CareSet) → IsCountedOnCare counted.now care → text_bytes sink.new ≡ text_bytes sink.old ++ told_clusters counted.now.net (sweeps_needed counted.now.net care)) }
+    ensures on_care { OnOk result ((care : CareSet) → AreSweepsOnCare counted.now.net counted.now.blocks counted.now.cut care counted.now.sweeps → text_bytes sink.new ≡ text_bytes sink.old ++ told_clusters counted.now.net (sweeps_needed counted.now.net care)) }
 {
     let looped = counted.looped();
     for listed in looped.in_order() {
@@ -186,7 +186,7 @@ pub fn tell_loops_graph(
     sink: &mut TextSink,
 ) -> Result<(), AllocError>
     ensures told { OnOk result (text_bytes sink.new ≡ text_bytes sink.old ++ told_graph counted.now.net label.now (counted_sweeps counted.now)) }
-    ensures on_care { OnOk result ((care : CareSet) → IsCountedOnCare counted.now care → text_bytes sink.new ≡ text_bytes sink.old ++ told_graph counted.now.net label.now (sweeps_needed counted.now.net care)) }
+    ensures on_care { OnOk result ((care : CareSet) → AreSweepsOnCare counted.now.net counted.now.blocks counted.now.cut care counted.now.sweeps → text_bytes sink.new ≡ text_bytes sink.old ++ told_graph counted.now.net label.now (sweeps_needed counted.now.net care)) }
 {
     tell_head(label, sink)?;
     tell_clusters(alloc, counted, sink)?;

@@ -10,7 +10,7 @@ ghost use Rattle.loops.specs.Left.{loop_seen};
 ghost use Rattle.loops.specs.Numbered.{IsLoopOf};
 ghost use Rattle.netlist.specs.Netlists.{signal, is_marked, signal_name};
 ghost use Rattle.report.specs.LoopTexts.{loop_lines};
-ghost use Rattle.rewriting.specs.Rewriting.{sweeps_needed, IsCountedOnCare};
+ghost use Rattle.loop_simulation.specs.Sweeping.{sweeps_needed, AreSweepsOnCare};
 ghost use Rattle.unroll.specs.Counted.{counted_sweeps};
 ghost use Rattle.accepted_loops.specs.Columns.{marked_columns, AreColumnsRead};
 ghost use Rattle.accepted_loops.specs.Lines.{column_name as column_text, columns_line, sweeps_line, told_lines, told_loops};
@@ -155,7 +155,7 @@ pub fn tell_loops(
     sink: &mut TextSink,
 ) -> Result<(), AllocError>
     ensures told { OnOk result (text_bytes sink.new ≡ text_bytes sink.old ++ told_loops counted.now.net (counted_sweeps counted.now)) }
-    ensures on_care { OnOk result ((care : CareSet) → IsCountedOnCare counted.now care → text_bytes sink.new ≡ text_bytes sink.old ++ told_loops counted.now.net (sweeps_needed counted.now.net care)) }
+    ensures on_care { OnOk result ((care : CareSet) → AreSweepsOnCare counted.now.net counted.now.blocks counted.now.cut care counted.now.sweeps → text_bytes sink.new ≡ text_bytes sink.old ++ told_loops counted.now.net (sweeps_needed counted.now.net care)) }
 {
     let looped = counted.looped();
     for listed in looped.in_order() {

@@ -21,7 +21,8 @@ use Rattle.refusals.specs.Tests.{is_unknown}
 use Rattle.verdict.specs.declared.loose.Unknown.{Unknown}
 use Rattle.verdict.specs.declared.loose.Unknown.TheVariants as unknowns
 use Rattle.verdict.specs.Unknown.{IsFedByOpen}
-use Rattle.diagram_decision.specs.Judgements.{are_care_values, AreLoose}
+use Rattle.loop_simulation.specs.Sweeping.{are_care_values}
+use Rattle.diagram_decision.specs.Judgements.{AreLoose}
 
 -- a mark for each gate: those in loops that aren't settled, and in their fanout, have one
 pub record AreCandidates (net : Parts) (blocks : Blocks) (settled marks : List Bool) : Type 0 where

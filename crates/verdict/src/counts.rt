@@ -9,7 +9,7 @@ ghost use Rattle.refusals.specs.Acceptance.{SomeCareVector};
 ghost use Rattle.loop_simulation.specs.Known.{AreKnownSomewhere};
 ghost use Rattle.loop_simulation.specs.Sweeping.{IsLeastCount};
 ghost use Rattle.verdict.specs.Loose.{AreUnknown, IsLoopCount};
-ghost use Rattle.diagram_decision.specs.Judgements.{AreSweepsOnCare};
+ghost use Rattle.loop_simulation.specs.Sweeping.{AreSweepsOnCare};
 
 use crate::loose::{Unknown, is_fed_known, is_known_around};
 use crate::question::Question;

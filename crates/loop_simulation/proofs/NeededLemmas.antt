@@ -1,32 +1,29 @@
 -- The sweeps that loops need on a care set.
-use Rattle.std.proofs.Common.{◌≡◌, ◌==◌, inl, inr, ℕ, ◌≤◌, Bool, true, not, ◌&&◌, List, [], ◌∷◌, length, map, None, Some, refl, sym, ap, ap₂, ◌∙◌, subst, arith, true≢false, zero-add}
+use Rattle.std.proofs.Common.{◌≡◌, ◌==◌, inl, inr, ℕ, ◌≤◌, Bool, true, false, not, List, [], ◌∷◌, length, map, None, refl, sym, ap, ◌∙◌, subst, arith, true≢false, zero-add}
 use Rattle.std.specs.Prelude.{find}
-use Rattle.std.proofs.lemmas.Bool.{and_parts, and_from, cases_Bool, cases_lt, eqb-true, eq-eqb, not-false}
-use Rattle.std.proofs.lemmas.List.{length-map}
+use Rattle.std.specs.List.{list_all, range_with_len, slice_index_or}
+use Rattle.std.proofs.Math.Path.{fun_ext}
+use Rattle.std.proofs.lemmas.Bool.{and_from, cases_Bool, eqb-true, not-false}
 use Rattle.std.proofs.lemmas.List.FromFn.{length-range_with_len, get_or-range_with_len}
 use Rattle.std.proofs.lemmas.List.Sums.{passes_at_first, fails_before_first, prefix_len-le-length}
-use Rattle.std.specs.List.{list_all, range_with_len}
-use Rattle.cyc_base.specs.declared.trit.Trit.{Trit}
-use Rattle.cyc_base.specs.declared.trit.Trit.TheVariants.{Zero, One, X}
-use Rattle.cyc_base.specs.Values.{bits}
 use Rattle.cyc_base.proofs.VectorLemmas.{find-none}
-use Rattle.netlist.specs.Netlists.{columns}
-use Rattle.netlist.specs.declared.parts.Parts.{Parts}
-use Rattle.netlist.specs.Fixpoint.{fix_gates}
+use Rattle.loops.specs.declared.structure.SweepCounts.{SweepCounts}
+use Rattle.loops.specs.Blocks.{AreBlocksOf}
+use Rattle.loops.specs.Cuts.{IsCutOf, loops_by}
 use Rattle.loops.specs.Found.{loops_of}
-use Rattle.loops.specs.Sweeps.{value_in, sweeps, CutsAreFixed}
+use Rattle.loops.specs.Sweeps.{IsCountOfSweeps}
 use Rattle.loops.proofs.Existence.{loops_exist}
+use Rattle.loops.proofs.LoopedLemmas.{one_loop_is_told, cut_is_told}
 use Rattle.loops.proofs.Sweeps.{few_sweeps_are_enough}
+use Rattle.loops.proofs.Told.{told_parts}
 use Rattle.care_sets.specs.Care.{CareSet, is_one, is_care_vector, IsCareVector}
 use Rattle.refusals.specs.Refusals.{is_x, care_vectors}
 use Rattle.refusals.proofs.FirstLemmas.{none_passes}
 use Rattle.refusals.proofs.LawLemmas.{care_test}
 use Rattle.refusals.proofs.RefusalLemmas.{bits_back, length-bits, fails_after, second_fails}
 use Rattle.refusals.proofs.ShowingLemmas.{care_vector_decides, care_vector_is}
-use Rattle.diagram_decision.specs.Judgements.{are_care_values}
-use Rattle.diagram_decision.proofs.CountLemmas.{bits-known}
-use Rattle.rewriting.specs.Rewriting.{trit_eq, cut_wires, are_fixed, is_enough, sweeps_needed}
-use Rattle.rewriting.specs.Laws.{NeededIsLeast}
+use Rattle.loop_simulation.specs.Sweeping.{are_care_values, AreSweepsOnCare, trit_eq, cut_wires, are_fixed, is_enough, sweeps_needed, NeededIsLeast}
+use Rattle.loop_simulation.proofs.Common.{and_parts, cases_lt, eq-eqb, length-map, Trit, bits, Parts, columns, fix_gates, Blocks, Cut, Loops, home_of, CutsAreFixed, sweeps, value_in}
 
 -- ---- values that are equal
 
@@ -63,27 +60,27 @@ module _ (net : Parts) (care : CareSet) (p : List Bool → Bool) where
 
 -- ---- values of care vectors
 
-known-bits : (ts : List Trit) → list_all (λ value. not (is_x value)) ts ≡ true → bits (map is_one ts) ≡ ts
+pub known-bits : (ts : List Trit) → list_all (λ value. not (is_x value)) ts ≡ true → ts ≡ bits (map is_one ts)
 known-bits [] e = refl
-known-bits (Zero ∷ ts) e = ap (λ (rest : List Trit). Zero ∷ rest) (known-bits ts e)
-known-bits (One ∷ ts) e = ap (λ (rest : List Trit). One ∷ rest) (known-bits ts e)
-known-bits (X ∷ ts) e = cc
+known-bits (t ∷ ts) e = grind (arith, and_parts (not (is_x t)), known-bits ts)
 
-pub care-values : (net : Parts) (care : CareSet) (v : List Bool) → IsCareVector net care v → are_care_values net care (bits v) ≡ true
-care-values net care v counts =
-    and_from (list_all (λ value. not (is_x value)) (bits v)) _ (bits-known v)
-    (and_from (length (bits v) == columns net) _ (eq-eqb (length (bits v)) (columns net) (length-bits v ∙ counts.width))
-    (ap (is_care_vector net care) (bits_back v) ∙ care_vector_is net care v counts))
+pub bits-known : (w : List Bool) → list_all (λ value. not (is_x value)) (bits w) ≡ true
+bits-known [] = refl
+bits-known (false ∷ w) = bits-known w
+bits-known (true ∷ w) = bits-known w
 
--- values of a care vector are its bits
-record AreBitsOf (net : Parts) (care : CareSet) (values : List Trit) : Type 0 where
-  vector : List Bool
-  are : bits vector ≡ values
-  counts : IsCareVector net care vector
+pub care-values : (net : Parts) (care : CareSet) (w : List Bool) → length w ≡ columns net → is_care_vector net care w ≡ true → are_care_values net care (bits w) ≡ true
+care-values net care w wide counts =
+    and_from _ _ (bits-known w) (and_from _ _ (eq-eqb (length (bits w)) (columns net) (length-bits w ∙ wide)) (ap (is_care_vector net care) (bits_back w) ∙ counts))
 
-values-care : (net : Parts) (care : CareSet) (values : List Trit) → are_care_values net care values ≡ true → AreBitsOf net care values
-values-care net care values e =
-    grind (arith, and_parts, and_parts (length values == columns net) (is_care_vector net care (map is_one values)), length-map values is_one, eqb-true (length values) (columns net), known-bits values, care_vector_decides net care (map is_one values))
+-- values of a care vector as one
+pub record IsBitsOf (net : Parts) (care : CareSet) (v : List Trit) : Type 0 where
+  pub vector : List Bool
+  pub is : v ≡ bits vector
+  pub counts : IsCareVector net care vector
+
+pub bits-of-care : (net : Parts) (care : CareSet) (v : List Trit) → are_care_values net care v ≡ true → IsBitsOf net care v
+bits-of-care net care v is = grind (arith, and_parts, and_parts (length v == columns net) (is_care_vector net care (map is_one v)), known-bits v, care_vector_decides net care (map is_one v), length-map v is_one, eqb-true (length v) (columns net))
 
 -- ---- the least number of sweeps
 
@@ -130,7 +127,25 @@ module _ (net : Parts) (care : CareSet) (n : ℕ) where
 pub needed_is_least : NeededIsLeast
 needed_is_least net care n = record {
   enough = λ values e.
-      let of = values-care net care values e in
-      subst (λ (v : List Trit). CutsAreFixed net (loops_of net) v n (sweeps_needed net care n)) of.are (needed-fixed net care n of.vector of.counts);
-  least = λ k each. needed-least net care n k (λ v counts. each (bits v) (care-values net care v counts));
+      let of = bits-of-care net care values e in
+      subst (λ (v : List Trit). CutsAreFixed net (loops_of net) v n (sweeps_needed net care n)) (sym of.is) (needed-fixed net care n of.vector of.counts);
+  least = λ k each. needed-least net care n k (λ v counts. each (bits v) (care-values net care v counts.width (care_vector_is net care v counts)));
 }
+
+-- ---- by blocks, a cut and counted sweeps
+
+module _ (net : Parts) (blocks : Blocks) (cut : Cut) (care : CareSet) (counts : SweepCounts) (are : AreBlocksOf net blocks) (cut_is : IsCutOf net cut) (on_care : AreSweepsOnCare net blocks cut care counts) where
+  -- the loops that blocks and a cut tell are those of the netlist
+  told_loops : loops_by blocks cut ≡ loops_of net
+  told_loops = grind (arith, one_loop_is_told (record { net = net; blocks = blocks; cut = cut }) (record { blocks = are; cut = cut_is }), cut_is_told (record { net = net; blocks = blocks; cut = cut }) (record { blocks = are; cut = cut_is }), fun_ext)
+
+  -- two least numbers are one
+  one_least : (l : Loops) (test : List Trit → Bool) (n a b : ℕ) → IsCountOfSweeps net l test n a → IsCountOfSweeps net l test n b → a ≡ b
+  one_least l test n a b first second = grind arith
+
+  pub counts_are_needed : (n : ℕ) → (loops_of net).same n n ≡ true → slice_index_or counts.per_block (home_of blocks n) 0 ≡ sweeps_needed net care n
+  counts_are_needed n looped =
+      let told = told_parts net blocks are n n (subst (λ (l : Loops). l.same n n ≡ true) (sym told_loops) looped) in
+      one_least (loops_of net) (are_care_values net care) n (slice_index_or counts.per_block (home_of blocks n) 0) (sweeps_needed net care n)
+      (subst (λ (l : Loops). IsCountOfSweeps net l (are_care_values net care) n (slice_index_or counts.per_block (home_of blocks n) 0)) told_loops (on_care.loops n told.first told.looped))
+      (needed_is_least net care n)

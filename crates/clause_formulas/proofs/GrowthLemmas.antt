@@ -1,9 +1,10 @@
 -- Formulas that say more.
 use Rattle.std.proofs.Common.{◌≡◌, ℕ, ◌≤◌, Bool, true, ◌&&◌, List, [], ◌++◌, length, refl, sym, ap, ap₂, ◌∙◌, arith, append_assoc}
+use Rattle.std.proofs.lemmas.Bool.{and_from, and_parts}
 use Rattle.std.proofs.lemmas.List.{append-nil}
-use Rattle.ternary_clauses.proofs.Common.{and_parts, and_from, All, Formula, Rails, holds, IsModel, IsWhole, IsFormula, HasModelFrom, Grows, AreWithin, AreRailsOf, IsLift, Extends}
-use Rattle.ternary_clauses.proofs.ClauseLemmas.{whole-append, whole}
-use Rattle.ternary_clauses.proofs.ReadingLemmas.{within-more, ReadsAll-more}
+use Rattle.clause_formulas.specs.declared.formula.Formula.{Formula}
+use Rattle.clause_formulas.specs.Formulas.{holds, IsModel, IsWhole, IsFormula, HasModelFrom, Grows}
+use Rattle.clause_formulas.proofs.ClauseLemmas.{whole-append, whole}
 
 -- ---- clauses that are added, of old and new variables
 
@@ -50,20 +51,3 @@ model-after f m one has = record { more = one ++ has.more; width = rw append_ass
 -- a model of the old formula stays one of it with values for further variables
 pub model-kept : {f : Formula} (m more : List Bool) → IsFormula f → length m ≡ f.variables → IsModel m f → IsModel (m ++ more) f
 model-kept m more is len h = is.within m more (omega (arith, len)) ∙ h
-
-pub rails-kept : {a b : Formula} {r : Rails} → Grows a b → AreRailsOf a r → AreRailsOf b r
-rails-kept {a} {b} {r} e is = record { within = within-more a.variables b.variables r e.more is.within; reads = λ m h. is.reads m (e.sound m h) }
-
-pub Extends-refl : (f : Formula) (pins : List Rails) → IsFormula f → Extends f f pins
-Extends-refl f pins is = record { grows = Grows-refl f is; complete = λ m trits len h reads. model-here f m len h }
-
-pub Extends-chain : (a b c : Formula) (pins : List Rails) → All (AreWithin a.variables) pins → Extends a b pins → Extends b c pins → Extends a c pins
-Extends-chain a b c pins all first second = record {
-  grows = Grows-chain first.grows second.grows;
-  complete = λ m trits len h reads.
-      let one : HasModelFrom b m = first.complete m trits len h reads in
-      model-after c m one.more (second.complete (m ++ one.more) trits one.width one.model (ReadsAll-more m one.more pins trits (rw len all) reads));
-}
-
-pub IsLift-kept : {a b : Formula} {pins : List Rails} {g : List Bool → Bool} {r : Rails} → Grows a b → IsLift a pins g r → IsLift b pins g r
-IsLift-kept {a} {b} {pins} {g} {r} e is = record { within = within-more a.variables b.variables r e.more is.within; reads = λ m trits h reads. is.reads m trits (e.sound m h) reads }
