@@ -16,7 +16,7 @@ use Rattle.loops.specs.Sweeps.{IsCountOfSweeps}
 use Rattle.loops.proofs.Counts.{count_is_of_loops}
 use Rattle.loops.proofs.Existence.{loops_exist}
 use Rattle.loops.proofs.Told.{told_parts}
-use Rattle.isolation.proofs.SettlingLemmas.{loops-are}
+use Rattle.fixpoint.proofs.ToldLemmas.{loops-are}
 use Rattle.care_sets.specs.Care.{CareSet, IsCareVector}
 use Rattle.refusals.proofs.RefusalLemmas.{length-bits}
 use Rattle.schedules.specs.Settling.{HasSameInterface}
