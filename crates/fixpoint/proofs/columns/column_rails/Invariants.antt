@@ -1,7 +1,7 @@
 use Rattle.std.proofs.Common.{◌*◌}
 use Rattle.bdd_store.proofs.GrowthLemmas.{HasGrownBy}
-use Rattle.isolation.specs.Columns.{AreFirstColumns}
-use Rattle.isolation.proofs.columns.column_rails.Given as goal
+use Rattle.fixpoint.specs.Columns.{AreFirstColumns}
+use Rattle.fixpoint.proofs.columns.column_rails.Given as goal
 
 abbrev pub invariant-loop-variable : goal.invariant-loop-variable
 invariant-loop-variable l = record {

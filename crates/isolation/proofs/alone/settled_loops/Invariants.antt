@@ -1,6 +1,6 @@
 use Rattle.std.proofs.Common.{◌≡◌, ℕ, ◌<◌, ◌≤◌, true, length}
-use Rattle.diagram_decision.proofs.Common.{block_at, is_marked, SettleInSweeps}
-use Rattle.diagram_decision.proofs.alone.settled_loops.Given as goal
+use Rattle.isolation.proofs.Common.{block_at, is_marked, SettleInSweeps}
+use Rattle.isolation.proofs.alone.settled_loops.Given as goal
 
 abbrev pub invariant-loop-place : goal.invariant-loop-place
 invariant-loop-place l = record {

@@ -1,11 +1,11 @@
 use Rattle.std.proofs.Common.{◌+◌, ◌*◌, ◌<◌, ap, subst, sym, arith}
-use Rattle.isolation.proofs.Common.{Arena}
+use Rattle.fixpoint.proofs.Common.{Arena}
 use Rattle.bdd_store.specs.Growth.{Grows}
 use Rattle.bdd_store.proofs.GrowthLemmas.{grows_then, grows_more, grows_answered}
 use Rattle.bdd_ops.specs.Least.{IsLayout}
-use Rattle.isolation.proofs.ColumnLemmas.{columns-more, columns-end}
-use Rattle.isolation.proofs.columns.column_rails.Goals as goal
-use Rattle.isolation.proofs.columns.column_rails.Goals.{After-var_rails}
+use Rattle.fixpoint.proofs.ColumnLemmas.{columns-more, columns-end}
+use Rattle.fixpoint.proofs.columns.column_rails.Goals as goal
+use Rattle.fixpoint.proofs.columns.column_rails.Goals.{After-var_rails}
 
 step : (c : After-var_rails) → Grows c.var_rails.result c.args.d.now c.var_rails.new.d (2 * c.loop-variable.variable + 2)
 step c = grows_then c.loop-variable.invariant.grows c.var_rails.ensures.grows

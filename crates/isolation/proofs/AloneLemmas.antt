@@ -1,14 +1,12 @@
 -- The blocks of a netlist, one after another.
 use Rattle.std.proofs.Common.{◌≡◌, ℕ, ◌+◌, ◌<◌, ◌≤◌, eqb, true, List, [], ◌∷◌, ◌++◌, length, get_or, subst, arith, Contains}
-use Rattle.diagram_decision.proofs.Common.{cases_lt, get_or_append_left, IsNetlist, block_at}
+use Rattle.isolation.proofs.Common.{cases_lt, get_or_append_left, Contains-get_or, IsNetlist, block_at, gate_home}
 use Rattle.std.proofs.lemmas.List.{get_or_push}
-use Rattle.std.proofs.lemmas.List.Elements.{Contains-get_or}
 use Rattle.std.proofs.lemmas.Map.Steps.{le-length_from_below}
 use Rattle.std.proofs.lemmas.Map.Views.{list_any-from_Contains}
 use Rattle.std.specs.Cmp.{nat_eq_equiv}
 use Rattle.std.specs.List.{list_any}
 use Rattle.loops.specs.Looped.{Looped, IsLooped}
-use Rattle.loops.proofs.Told.{gate_home}
 
 -- each has a gate, whose home it is
 pub few_blocks : (l : Looped) → IsLooped l → IsNetlist l.net → length l.blocks.list ≤ 4294967295

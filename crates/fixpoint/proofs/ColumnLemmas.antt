@@ -1,14 +1,14 @@
 -- The rails of columns, one variable after another.
 use Rattle.std.proofs.Common.{◌≡◌, ◌≢◌, inl, inr, ℕ, ◌+◌, ◌<◌, ◌≤◌, Bool, false, List, get_or, set, sym, ap, ◌∙◌, arith, length-set, get_or-set_same, get_or-set_other}
-use Rattle.isolation.proofs.Common.{cases_lt, ext_get_or, get_or-map, length-map, Arena, KeepsNodes, X, bit, bits, Rails, AreRailsOf, value_of, values_of, rails_at, unknown}
-use Rattle.std.proofs.lemmas.List.Elements.{All-set}
-use Rattle.bdd_ops.specs.Least.{IsLayout, by_variable}
+use Rattle.fixpoint.proofs.Common.{All-rails-kept, All-set, cases_lt, ext_get_or, get_or-map, length-map, Arena, IsLayout, KeepsNodes, X, Rails, AreRailsOf, value_of, value_of-kept, values_of, rails_at, unknown}
+use Rattle.bdd_ops.specs.Least.{by_variable}
 use Rattle.bdd_ops.specs.Operations.{bit_at}
 use Rattle.bdd_ops.proofs.PossibleLemmas.{by_variable-read}
-use Rattle.dual_rail.proofs.SurelyLemmas.{value_of-kept, values_of-kept, All-rails-kept}
+use Rattle.cyc_base.specs.Values.{bit, bits}
+use Rattle.dual_rail.proofs.SurelyLemmas.{values_of-kept}
 use Rattle.fixpoint.proofs.LayoutLemmas.{variable_of}
 use Rattle.fixpoint.proofs.WireLemmas.{rails_at-proper}
-use Rattle.isolation.specs.Columns.{AreFirstColumns, AreColumns}
+use Rattle.fixpoint.specs.Columns.{AreFirstColumns, AreColumns}
 
 -- one variable more
 pub columns-more : {s t : Arena} {columns : List ℕ} {first : ℕ} {rails : List Rails} → KeepsNodes s t → IsLayout s.vars columns → first < s.vars → AreFirstColumns s columns first rails →

@@ -1,7 +1,7 @@
 use Rattle.std.proofs.Common.{◌≡◌, ◌+◌, ◌∙◌, true, false, length, ap, arith}
-use Rattle.diagram_decision.proofs.Common.{Blocks, block_at, length_push, SettleInSweeps}
-use Rattle.diagram_decision.proofs.AloneLemmas.{each-more}
-use Rattle.diagram_decision.proofs.alone.settled_loops.Goals as goal
+use Rattle.isolation.proofs.Common.{Blocks, block_at, length_push, SettleInSweeps}
+use Rattle.isolation.proofs.AloneLemmas.{each-more}
+use Rattle.isolation.proofs.alone.settled_loops.Goals as goal
 
 pub loop-place-preserved : goal.loop-place-preserved
 loop-place-preserved c =

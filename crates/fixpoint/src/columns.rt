@@ -3,7 +3,7 @@
 ghost use Rattle.std.specs.Prelude.{◌*◌, IfOk};
 ghost use Rattle.bdd_store.specs.Growth.{Grows};
 ghost use Rattle.bdd_ops.specs.Least.{IsLayout};
-ghost use Rattle.isolation.specs.Columns.{AreColumns};
+ghost use Rattle.fixpoint.specs.Columns.{AreColumns};
 
 use bdd_ops::Diagrams;
 use bdd_store::{Node, StoreFault};

@@ -1,6 +1,6 @@
 use Rattle.std.proofs.Common.{arith}
-use Rattle.diagram_decision.proofs.Common.{eqb-true}
-use Rattle.diagram_decision.proofs.alone.settles_in_one_sweep.Goals as goal
+use Rattle.isolation.proofs.Common.{eqb-true}
+use Rattle.isolation.proofs.alone.settles_in_one_sweep.Goals as goal
 
 pub returns-in-Some : goal.returns-in-Some
 returns-in-Some c one =

@@ -3,10 +3,10 @@
 ghost use Rattle.std.specs.Prelude.{◌≡◌, ◌<◌, ◌≤◌, true, length, IfOk};
 ghost use Rattle.loops.specs.Blocks.{block_at};
 ghost use Rattle.isolation.specs.Settled.{SettleInSweeps};
-ghost use Rattle.diagram_decision.specs.Alone.{SettleInOneSweep};
+ghost use Rattle.isolation.specs.Alone.{SettleInOneSweep};
 
+use crate::settling::settles_alone;
 use cyc_base::MAX_NODES;
-use isolation::settles_alone;
 use loop_simulation::sweeps_at;
 use loops::{LoopedNetlist, gates_at};
 use std::alloc::{AllocError, Global};

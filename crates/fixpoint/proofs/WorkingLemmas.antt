@@ -2,23 +2,22 @@
 -- constants.
 use Rattle.std.proofs.Common.{◌≡◌, inl, inr, ℕ, zero, suc, ◌+◌, ◌<◌, ◌≤◌, Bool, true, false, ◌&&◌, ◌⊎◌, List, [], length, filter, get_or, sym, ap, ◌∙◌, arith, Contains}
 use Rattle.std.proofs.Math.Path.{fun_ext}
-use Rattle.isolation.proofs.Common.{and_parts, get_or-map, get_or_default, get_or-replicate, length-map, All, range_with_len, Node, Arena, den, Trit, X, bit, bits, Rails, AreRailsOf, value_of, values_of, Parts, Blocks, AreBlocksOf, block_at, AreLoopsOf, Loops, loops_of, first_gate, value_in, sweeps, loops_exist, same_within, Vectors, Contains-get_or}
-use Rattle.std.proofs.lemmas.List.Elements.{All-contains}
+use Rattle.fixpoint.proofs.Common.{All-contains, get_or-map, get_or_default, get_or-replicate, length-map, All, range_with_len, Node, Arena, den, Trit, X, Rails, AreRailsOf, value_of, values_of, is_bit, Parts, Blocks, AreBlocksOf, block_at, Cut, IsCutOf, cuts_of, first_gate, value_in, sweeps, AreStepsOf, IsGatePart, IsWorking, SweptLoop, Vectors, step_at}
+use Rattle.std.proofs.lemmas.Bool.{and_parts}
+use Rattle.std.proofs.lemmas.List.Elements.{Contains-get_or}
+use Rattle.cyc_base.specs.Values.{bit, bits}
 use Rattle.cyc_base.proofs.TruthLemmas.{same_truth}
 use Rattle.bdd_ops.specs.Operations.{bit_at}
-use Rattle.dual_rail.specs.WorkingLists.{is_bit}
-use Rattle.loops.specs.declared.structure.Cut.{Cut}
-use Rattle.loops.specs.Cuts.{IsCutOf}
-use Rattle.loops.specs.Sweeps.{cuts, cuts_of}
+use Rattle.loops.specs.Cuts.{AreLoopsOf, Loops}
+use Rattle.loops.specs.Found.{loops_of}
+use Rattle.loops.specs.Sweeps.{cuts}
+use Rattle.loops.proofs.Existence.{loops_exist}
 use Rattle.loops.proofs.Reading.{Contains-filter_from}
-use Rattle.loops.proofs.Sweeps.{same-sym, same-trans}
-use Rattle.fixpoint.specs.declared.solved.SweptLoop.{SweptLoop}
+use Rattle.loops.proofs.Sweeps.{same-sym, same-trans, same_within}
 use Rattle.fixpoint.specs.Counts.{IsStepNode}
-use Rattle.fixpoint.specs.Solved.{AreStepsOf, step_at}
-use Rattle.fixpoint.specs.Working.{IsGatePart, IsWorking}
 use Rattle.fixpoint.proofs.CutLemmas.{one-of, zero-of}
 use Rattle.fixpoint.proofs.WorkLemmas.{sweeps_are_working, gate_parts_agree}
-use Rattle.isolation.proofs.SettlingLemmas.{loops-are}
+use Rattle.fixpoint.proofs.ToldLemmas.{loops-are}
 
 -- ---- columns and parts of gates
 

@@ -1,7 +1,6 @@
 use Rattle.std.proofs.Common.{subst}
-use Rattle.loops.specs.Blocks.{block_at}
-use Rattle.isolation.specs.Settled.{SettleInSweeps}
-use Rattle.diagram_decision.proofs.alone.is_settled.Goals as goal
+use Rattle.isolation.proofs.Common.{block_at, SettleInSweeps}
+use Rattle.isolation.proofs.alone.is_settled.Goals as goal
 
 pub returns-clause-settled : goal.returns-clause-settled
 returns-clause-settled c one looped =
