@@ -7,11 +7,13 @@
 #![tactic(auto)]
 
 mod climbing;
+mod known;
 pub mod laws;
 mod looped_block;
 mod readers;
 mod simulating;
 
 pub use climbing::climb;
+pub use known::known_cut_wires;
 pub use looped_block::LoopedBlock;
 pub use simulating::{sweeps_at, sweeps_in};
