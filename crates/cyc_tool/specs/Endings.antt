@@ -25,9 +25,9 @@ use Rattle.refusals.specs.declared.observe.Observe.{Observe}
 use Rattle.refusals.specs.declared.observe.Observe.TheVariants.{All, Outputs}
 use Rattle.refusals.specs.declared.refusal.Refusal.{Refusal}
 use Rattle.refusals.specs.declared.refusal.Refusal.TheVariants.{Undetermined}
-use Rattle.accepted_loops.specs.Graphs.{told_graph}
-use Rattle.accepted_loops.specs.Lines.{told_loops}
-use Rattle.report.specs.Explanations.{explanation_text}
+use Rattle.explain_text.specs.Graphs.{told_graph}
+use Rattle.explain_text.specs.Lines.{told_loops}
+use Rattle.explain_text.specs.Explanations.{explanation_text}
 use Rattle.report.specs.Verdicts.{accepted_text, refusal_text, ring_line}
 use Rattle.rewriting.specs.Graphs.{graph_of, most_ands}
 use Rattle.loop_simulation.specs.Sweeping.{sweeps_needed}

@@ -13,7 +13,7 @@ use Rattle.loops.specs.Cuts.{IsCutOf, Loops, loops_by, in_one_loop}
 use Rattle.loops.specs.Found.{loops_of}
 use Rattle.loops.proofs.Counts.{count_is_of_loops}
 use Rattle.loops.proofs.Existence.{loops_exist}
-use Rattle.isolation.proofs.SettlingLemmas.{loops-are}
+use Rattle.fixpoint.proofs.ToldLemmas.{loops-are}
 use Rattle.care_sets.specs.Care.{CareSet, IsCareVector}
 use Rattle.refusals.proofs.RefusalLemmas.{length-bits}
 use Rattle.refusals.proofs.ShowingLemmas.{care_vector_is}

@@ -13,9 +13,8 @@ ghost use Rattle.ternary_clauses.specs.declared.fault.ClausesFault.TheVariants.{
 ghost use Rattle.ternary_clauses.specs.Rails.{Reads, AreWithin, unknown_rails as unknown_rails_of};
 ghost use Rattle.ternary_clauses.specs.Sweeps.{SaysSweep, AreCopies, IsSeen, IsCopyWithin, IsCopyOf, BindsCopy, AreCopied};
 
-use crate::encoding::diagram_of;
+use crate::binding::bind_cover;
 use crate::fault::ClausesFault;
-use crate::lifting::add_gate;
 use crate::rails::{Rails, new_wire};
 use clause_formulas::Formula;
 use cyc_base::Sig;
@@ -138,8 +137,7 @@ impl<'a> LoopCopy<'a> {
     {
         let read = self.net.gate(self.gates[place]);
         let pins = self.seen_pins(alloc, read)?;
-        let diagram = diagram_of(alloc, read)?;
-        add_gate(alloc, formula, &diagram, &pins, self.after[place])
+        bind_cover(alloc, formula, &read.cover, &pins, self.after[place])
     }
 
     // Binds the rails of each gate.

@@ -16,7 +16,7 @@ use crate::question::Question;
 use crate::scopes::scope_of;
 use clause_decision::{has_one_known_cut, needs_one_sweep, sweeps_fed_known, sweeps_needed};
 use cyc_base::Items;
-use diagram_decision::block_number;
+use isolation::block_number;
 use loops::{SweepCounts, gates_at};
 use std::alloc::{AllocError, Global};
 
