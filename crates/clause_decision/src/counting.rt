@@ -34,6 +34,12 @@ use ternary_clauses::{ClausesFault, Rails};
 /// How many times as large as a loop its netlist may be for the whole to be simulated for that loop's sake.
 const MOST_TIMES: usize = 256;
 
+/// The same of a loop with few cut wires, of which the solver is asked few questions.
+const MOST_TIMES_OF_FEW: usize = 32;
+
+/// So many cut wires aren't few.
+const MANY_CUTS: u32 = 8;
+
 /// What shows, at a care vector, that sweeps are too few.
 #[derive(Clone, Copy)]
 pub(crate) enum Sign {
@@ -98,7 +104,13 @@ fn ask_after(
 /// Whether a loop is a small part of its netlist. The solver, which has the clauses of the loop's cone alone, is then asked
 /// sooner than the whole is simulated.
 fn is_small_part(block: &LoopedBlock<'_>) -> bool {
-    block.gates().len() < block.net().gates() as usize / MOST_TIMES
+    let gates = block.gates().len();
+    let all = block.net().gates() as usize;
+    if block.cut_count() < MANY_CUTS {
+        gates < all / MOST_TIMES_OF_FEW
+    } else {
+        gates < all / MOST_TIMES
+    }
 }
 
 /// How many sweeps are needed at least, where so many are too few at the vector of a model: one more, and where that isn't
