@@ -64,4 +64,5 @@ pub use Rattle.diagram_decision.specs.Next.{next_within}
 pub use Rattle.diagram_decision.specs.Observed.{AreMarksOf}
 pub use Rattle.diagram_decision.specs.Sets.{AreFixed, BoundsBoth, BoundsStarts, ReadsWithin, Tells, difference, has_state_inside, model_of, starts}
 pub use Rattle.diagram_decision.specs.Solving.{AreColumnVectors}
-pub use Rattle.diagram_decision.specs.Judgements.{AreLoose, are_care_values}
+pub use Rattle.diagram_decision.specs.Judgements.{AreLoose}
+pub use Rattle.loop_simulation.specs.Sweeping.{are_care_values}

@@ -23,10 +23,10 @@ use bdd_ops::Diagrams;
 use bdd_store::{Node, StoreFault};
 use cyc_base::MAX_NODES;
 use dual_rail::Rails;
-use feedback_cuts::find_cut;
+use feedback_cuts::NetlistLoops;
 use fixpoint::laws::solutions;
 use fixpoint::{KeptRails, Solved, column_rails, keep_rails, order, rails_of, solve, sweeps};
-use loops::{Blocks, LoopedNetlist, find_blocks};
+use loops::{Blocks, LoopedNetlist};
 use netlist::Netlist;
 use std::alloc::{AllocError, Global};
 
@@ -163,11 +163,9 @@ fn settle(alloc: Global, net: &Netlist, budget: u32) -> Result<Option<u32>, Stor
     ensures unknown { IfOk result (λ found. IfNone found (HasUnknown net.now)) }
     ensures full { result ≡ Err StoreFault.Full → IsBelowEnough net.now budget }
 {
-    let blocks = find_blocks(alloc, net)?;
-    let cut = find_cut(alloc, net, &blocks)?;
-    let looped = LoopedNetlist::new(net, &blocks, &cut);
+    let loops = NetlistLoops::find(alloc, net)?;
     let mut d = Diagrams::new(alloc, net.columns(), budget)?;
-    settle_on(alloc, &mut d, &looped)
+    settle_on(alloc, &mut d, &loops.looped())
 }
 
 /// The same, and no number where the nodes were too few.

@@ -45,4 +45,5 @@ pub use Rattle.diagram_decision.specs.Enough.{AddsInDecision, IsFullFor}
 pub use Rattle.verdict.specs.Loose.{AreLoopCounts, AreScattered, AreUnknownMarks, AreCandidates}
 pub use Rattle.diagram_decision.specs.Observed.{AreMarksOf}
 pub use Rattle.verdict.specs.Scopes.{AreDriversBefore, MayGoOn}
-pub use Rattle.diagram_decision.specs.Judgements.{AreLoose, are_care_values}
+pub use Rattle.diagram_decision.specs.Judgements.{AreLoose}
+pub use Rattle.loop_simulation.specs.Sweeping.{are_care_values}
