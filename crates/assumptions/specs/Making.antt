@@ -21,7 +21,7 @@ use Rattle.care_rows.specs.declared.rows.Row.{Row}
 use Rattle.care_rows.specs.declared.rows.WireValue.{WireValue}
 use Rattle.loops.specs.Looped.{Looped}
 use Rattle.refusals.specs.declared.refusal.Refusal.{Refusal}
-use Rattle.diagram_decision.specs.Alone.{SettleInOneSweep}
+use Rattle.isolation.specs.Alone.{SettleInOneSweep}
 use Rattle.verdict.specs.Witnessed.{IsSomeRefusal}
 use Rattle.assumptions.specs.declared.assumption.Assumption.{Assumption}
 use Rattle.assumptions.specs.Assumptions.{AreFound, IsAssumption, IsAssumeModel, IsOpenRow, HasNewVector, IsStrengthened}

@@ -40,13 +40,13 @@ pub use Rattle.std.proofs.lemmas.List.{get_or-map, get_or-take, get_or_default, 
 pub use Rattle.std.proofs.lemmas.Result.{IfOk-weaker}
 pub use Rattle.std.specs.List.{list_all}
 pub use Rattle.std.specs.Option.{option_map_or}
-pub use Rattle.ternary_clauses.proofs.ClauseLemmas.{says-negation}
+pub use Rattle.clause_formulas.proofs.ClauseLemmas.{says-negation}
 pub use Rattle.ternary_clauses.proofs.ReadingLemmas.{All-within-more, ReadsAll-at, ReadsAll-more}
 pub use Rattle.ternary_clauses.specs.Columns.{SaysColumns}
 pub use Rattle.ternary_clauses.specs.Encoding.{IsClosed, IsWanted, SaysNetlist, gate_rails}
-pub use Rattle.ternary_clauses.specs.Formulas.{Grows, HasModelFrom, IsModel, negation, says}
+pub use Rattle.clause_formulas.specs.Formulas.{Grows, HasModelFrom, IsModel, negation, says}
 pub use Rattle.ternary_clauses.specs.Rails.{AreWithin, Reads, ReadsAll, is_known, is_one, no_rails, rails_at}
 pub use Rattle.ternary_clauses.specs.Sums.{SaysAny}
 pub use Rattle.ternary_clauses.specs.Sweeps.{ReadsPlaces}
-pub use Rattle.ternary_clauses.specs.declared.formula.Formula.{Formula}
-pub use Rattle.ternary_clauses.specs.declared.formula.Rails.{Rails}
+pub use Rattle.clause_formulas.specs.declared.formula.Formula.{Formula}
+pub use Rattle.ternary_clauses.specs.declared.rails.Rails.{Rails}

@@ -8,7 +8,7 @@ use Rattle.std.specs.Prelude.{Contains}
 use Rattle.cyc_base.proofs.ListLemmas.{Contains-here, Contains-there}
 use Rattle.cyc_base.proofs.TruthLemmas.{and_with_true}
 use Rattle.refusals.proofs.RefusalLemmas.{one_of_bit}
-use Rattle.ternary_clauses.specs.Formulas.{holds}
+use Rattle.clause_formulas.specs.Formulas.{holds}
 use Rattle.clause_decision.specs.Formulas.{IsCareFormula}
 
 -- ---- readings of lists

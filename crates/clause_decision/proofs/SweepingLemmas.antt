@@ -1,7 +1,7 @@
 -- Sweeps of a loop on top of a cone, and how many are needed.
 use Rattle.std.proofs.Common.{◌≡◌, inl, inr, ℕ, zero, suc, ◌<◌, ◌≤◌, ◌+◌, ◌-◌, ◌*◌, Bool, true, false, not, List, [], ◌∷◌, length, map, get_or, Contains, refl, sym, ap, subst, ◌∙◌, arith, true≢false}
 use Rattle.std.specs.List.{All, list_any}
-use Rattle.clause_decision.proofs.Common.{cases_lt, length-map, get_or_default, take_all, All-map, All-get_or, Contains-get_or, Sig, Trit, X, bit, bits, Parts, IsNetlist, count, gate_at, no_gate, signal, fix_gates, block_at, Loops, CutsAreFixed, cuts_of, first_gate, gate_of, sweeps, value_in, map_agree, cut_values_agree, fixed_cuts_give_fix, gate_home, CareSet, columns, IsCareVector, Formula, Rails, IsWanted, gate_rails, says, negation, IsModel, HasModelFrom, Grows, Reads, ReadsAll, AreWithin, no_rails, rails_at, is_known, SaysAny, ReadsPlaces, says-negation, All-within-more, problem, HasNoModelUnder, models-same, column_rails, vector_in, ReadsFix, IsCone, first_number, AreTooFewAt, NeedAtLeast, TellsTooFew, AreCutPlaces, LoopAt, IsLoopAt, gates_in, loops_in, is_marked, AreClosed, IsCountAt, IsLeastCount, IsSwept, All-contains, Below-known, IsModelUnder}
+use Rattle.clause_decision.proofs.Common.{cases_lt, length-map, get_or_default, take_all, All-map, All-get_or, Contains-get_or, Sig, Trit, X, bit, bits, Parts, IsNetlist, count, gate_at, no_gate, signal, fix_gates, block_at, Loops, is_cut, CutsAreFixed, cuts_of, first_gate, gate_of, sweeps, value_in, map_agree, cut_values_agree, fixed_cuts_give_fix, gate_home, CareSet, columns, IsCareVector, Formula, Rails, IsWanted, gate_rails, says, negation, IsModel, HasModelFrom, Grows, Reads, ReadsAll, AreWithin, no_rails, rails_at, is_known, SaysAny, ReadsPlaces, says-negation, All-within-more, problem, HasNoModelUnder, models-same, column_rails, vector_in, ReadsFix, IsCone, first_number, AreTooFewAt, NeedAtLeast, TellsTooFew, AreCutPlaces, LoopAt, IsLoopAt, gates_in, loops_in, is_marked, AreClosed, IsCountAt, IsLeastCount, IsSwept, All-contains, Below-known, IsModelUnder}
 use Rattle.std.proofs.lemmas.Bool.{and_from, le-leb}
 use Rattle.std.proofs.lemmas.List.{get_or-replicate, get_or_past}
 use Rattle.std.proofs.lemmas.List.Folds.{Any-from_list_any, list_any_at}
@@ -24,6 +24,7 @@ use Rattle.clause_decision.specs.Countings.{Serves}
 use Rattle.clause_decision.specs.Scopes.{AreKnownOnCare}
 use Rattle.clause_decision.specs.Sweepings.{open_literals, AreKnownAfter, IsOpenAt, SaysOpen, TellsOpen}
 use Rattle.clause_decision.proofs.ConeLemmas.{care-read, care-under, cone-grows}
+use Rattle.loop_simulation.specs.Known.{IsKnownSomewhere}
 use Rattle.loop_simulation.proofs.LoopLemmas.{are-loops, cut-of, cuts-enough, gate-fits, of-loop}
 use Rattle.clause_decision.proofs.SignalLemmas.{negation-within, signal-at, gate-read}
 use Rattle.clause_decision.proofs.UnknownLemmas.{unknown-value}
@@ -269,6 +270,20 @@ module _ (l : LoopAt) (is_loop : IsLoopAt l) where
 
   pub first-needed : (care : CareSet) (sign : Sign) → Serves sign l.net care (gates_in l) → NeedAtLeast l.net (loops_in l) care (gates_in l) (first_number sign)
   first-needed care sign serves = grind (arith, one-needed)
+
+  -- where a cut wire is known at a care vector, a sweep is needed: before the first it is unknown
+  pub known-needs-one : (care : CareSet) (wire : ℕ) → Contains (gates_in l) wire → is_cut l.cut.wires wire ≡ true → IsKnownSomewhere l.net care wire → NeedAtLeast l.net (loops_in l) care (gates_in l) 1
+  known-needs-one care wire inside cut known a j there low =
+      let none : j ≡ 0 = omega (arith, low) in
+      let v : List Trit = bits known.vector in
+      let first : value_in (sweeps l.net (loops_in l) v j) wire ≡ X =
+      ap (λ (i : ℕ). value_in (sweeps l.net (loops_in l) v i) wire) none ∙ get_or-replicate (length l.net.gates) wire X X (gate-fits l is_loop wire inside) in
+      record {
+        vector = known.vector;
+        counts = known.counts;
+        open_cuts = λ fixed.
+            known.known (sym (cut_values_agree l.net (loops_in l) (are-loops l is_loop) a (sweeps l.net (loops_in l) v j) (fix_gates l.net v) fixed wire ((of-loop l is_loop a there).1 wire inside) cut) ∙ first);
+      }
 
   pub few-needed : (care : CareSet) (k : ℕ) → k ≡ length l.cuts → NeedAtLeast l.net (loops_in l) care (gates_in l) k → (a : ℕ) → Contains (gates_in l) a → IsLeastCount l.net (loops_in l) care a k
   few-needed care k is more a inside = grind (arith, cuts-enough l is_loop)

@@ -8,8 +8,8 @@ use Rattle.netlist.specs.Walks.{Feeds}
 use Rattle.loops.specs.Cuts.{Loops}
 use Rattle.loops.specs.Sweeps.{sweeps, value_in}
 use Rattle.care_sets.specs.Care.{CareSet, IsCareVector}
-use Rattle.ternary_clauses.specs.declared.formula.Rails.{Rails}
-use Rattle.ternary_clauses.specs.Formulas.{negation}
+use Rattle.ternary_clauses.specs.declared.rails.Rails.{Rails}
+use Rattle.clause_formulas.specs.Formulas.{negation}
 use Rattle.ternary_clauses.specs.Rails.{rails_at}
 use Rattle.clause_queries.specs.declared.query.Reply.{Reply}
 use Rattle.clause_queries.specs.declared.query.Reply.TheVariants as replies

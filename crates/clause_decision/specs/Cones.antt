@@ -7,10 +7,10 @@ use Rattle.netlist.specs.Fixpoint.{fix_gates}
 use Rattle.netlist.specs.Netlists.{count, columns}
 use Rattle.loops.specs.Sweeps.{value_in}
 use Rattle.care_sets.specs.Care.{CareSet, is_allowed, is_in_invariant, state_of}
-use Rattle.ternary_clauses.specs.declared.formula.Formula.{Formula}
-use Rattle.ternary_clauses.specs.declared.formula.Rails.{Rails}
+use Rattle.clause_formulas.specs.declared.formula.Formula.{Formula}
+use Rattle.ternary_clauses.specs.declared.rails.Rails.{Rails}
 use Rattle.ternary_clauses.specs.Encoding.{IsWanted, ReadsGates}
-use Rattle.ternary_clauses.specs.Formulas.{says, IsModel, IsFormula}
+use Rattle.clause_formulas.specs.Formulas.{says, IsModel, IsFormula}
 use Rattle.ternary_clauses.specs.Rails.{ReadsAll, AreWithin}
 
 -- the vector that the columns' rails read

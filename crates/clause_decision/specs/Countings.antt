@@ -6,7 +6,7 @@ use Rattle.loops.specs.Cuts.{Loops}
 use Rattle.loops.specs.Sweeps.{CutsAreFixed}
 use Rattle.care_sets.specs.Care.{CareSet, IsCareVector}
 use Rattle.refusals.specs.Acceptance.{SomeCareVector}
-use Rattle.ternary_clauses.specs.declared.formula.Rails.{Rails}
+use Rattle.ternary_clauses.specs.declared.rails.Rails.{Rails}
 use Rattle.clause_queries.specs.declared.query.Reply.{Reply}
 use Rattle.clause_queries.specs.declared.query.Reply.TheVariants as replies
 use Rattle.clause_decision.specs.declared.counting.Needed.{Needed}

@@ -7,9 +7,9 @@ use Rattle.netlist.specs.declared.parts.Parts.{Parts}
 use Rattle.netlist.specs.Fixpoint.{outs}
 use Rattle.care_sets.specs.declared.model.CareModel.{CareModel}
 use Rattle.care_sets.specs.Care.{CareSet, is_one, is_allowed, is_in_invariant, state_of}
-use Rattle.ternary_clauses.specs.declared.formula.Formula.{Formula}
-use Rattle.ternary_clauses.specs.declared.formula.Rails.{Rails}
-use Rattle.ternary_clauses.specs.Formulas.{says, IsModel, IsFormula, HasModelFrom, Grows}
+use Rattle.clause_formulas.specs.declared.formula.Formula.{Formula}
+use Rattle.ternary_clauses.specs.declared.rails.Rails.{Rails}
+use Rattle.clause_formulas.specs.Formulas.{says, IsModel, IsFormula, HasModelFrom, Grows}
 use Rattle.ternary_clauses.specs.Rails.{ReadsAll, AreWithin}
 
 -- The new formula says in addition what a literal says: whether the values that the rails read pass a test.

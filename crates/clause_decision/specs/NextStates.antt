@@ -4,7 +4,7 @@ use Rattle.netlist.specs.declared.parts.Init.TheVariants.{Zero}
 use Rattle.netlist.specs.declared.parts.Latch.{Latch}
 use Rattle.netlist.specs.declared.parts.Parts.{Parts}
 use Rattle.netlist.specs.Netlists.{signal}
-use Rattle.ternary_clauses.specs.declared.formula.Rails.{Rails}
+use Rattle.ternary_clauses.specs.declared.rails.Rails.{Rails}
 use Rattle.ternary_clauses.specs.Rails.{rails_at}
 
 -- a latch that loads the first signal

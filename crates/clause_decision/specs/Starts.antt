@@ -3,7 +3,7 @@ use Rattle.std.specs.Prelude.{ℕ, List, [], ◌∷◌, ◌++◌}
 use Rattle.netlist.specs.declared.parts.Init.{Init}
 use Rattle.netlist.specs.declared.parts.Init.TheVariants.{Zero, One, Either}
 use Rattle.netlist.specs.declared.parts.Latch.{Latch}
-use Rattle.ternary_clauses.specs.declared.formula.Rails.{Rails}
+use Rattle.ternary_clauses.specs.declared.rails.Rails.{Rails}
 
 -- the literal that is true where the latch may start with its value, if its init asks for one
 abbrev pub asked_of : Init → Rails → List ℕ

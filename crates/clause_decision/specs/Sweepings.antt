@@ -8,10 +8,10 @@ use Rattle.netlist.specs.declared.parts.Parts.{Parts}
 use Rattle.loops.specs.Cuts.{Loops}
 use Rattle.loops.specs.Sweeps.{sweeps, value_in}
 use Rattle.care_sets.specs.Care.{CareSet, IsCareVector}
-use Rattle.ternary_clauses.specs.declared.formula.Formula.{Formula}
-use Rattle.ternary_clauses.specs.declared.formula.Rails.{Rails}
+use Rattle.clause_formulas.specs.declared.formula.Formula.{Formula}
+use Rattle.ternary_clauses.specs.declared.rails.Rails.{Rails}
 use Rattle.netlist.specs.Netlists.{count}
-use Rattle.ternary_clauses.specs.Formulas.{says, negation, IsFormula, IsModel, HasModelFrom, Grows}
+use Rattle.clause_formulas.specs.Formulas.{says, negation, IsFormula, IsModel, HasModelFrom, Grows}
 use Rattle.ternary_clauses.specs.Rails.{AreWithin, rails_at}
 use Rattle.ternary_clauses.specs.Sweeps.{ReadsOutside, ReadsPlaces}
 use Rattle.clause_queries.specs.declared.query.Reply.{Reply}

@@ -3,10 +3,10 @@ use Rattle.std.specs.Prelude.{◌≡◌, ◌<◌, ◌+◌, ◌*◌, ℕ, Bool, L
 use Rattle.std.specs.List.{list_any}
 use Rattle.netlist.specs.declared.parts.Parts.{Parts}
 use Rattle.care_sets.specs.Care.{CareSet}
-use Rattle.ternary_clauses.specs.declared.formula.Formula.{Formula}
-use Rattle.ternary_clauses.specs.declared.formula.Rails.{Rails}
+use Rattle.clause_formulas.specs.declared.formula.Formula.{Formula}
+use Rattle.ternary_clauses.specs.declared.rails.Rails.{Rails}
 use Rattle.ternary_clauses.specs.Encoding.{gate_rails}
-use Rattle.ternary_clauses.specs.Formulas.{says, negation, IsModel}
+use Rattle.clause_formulas.specs.Formulas.{says, negation, IsModel}
 use Rattle.clause_queries.specs.Clauses.{IsWithin}
 use Rattle.clause_queries.specs.Queries.{problem, AreRising}
 use Rattle.clause_decision.specs.declared.unknown.Unknowns.{Unknowns}

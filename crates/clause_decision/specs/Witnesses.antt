@@ -3,7 +3,7 @@ use Rattle.std.specs.Prelude.{◌≡◌, ◌<◌, ℕ, Bool, true, false, List, 
 use Rattle.netlist.specs.Netlists.{columns}
 use Rattle.netlist.specs.declared.parts.Parts.{Parts}
 use Rattle.care_sets.specs.Care.{CareSet}
-use Rattle.ternary_clauses.specs.Formulas.{says}
+use Rattle.clause_formulas.specs.Formulas.{says}
 use Rattle.clause_decision.specs.Cones.{vector_in}
 use Rattle.clause_decision.specs.declared.unknown.Unknowns.{Unknowns}
 use Rattle.refusals.specs.Tests.{is_unknown, is_unknown_at}

@@ -11,9 +11,10 @@ ghost use Rattle.clause_decision.specs.Questions.{IsQuestionOf};
 use crate::models::{add_assumption, add_invariant};
 use crate::question::{Question, ask_any};
 use care_sets::Care;
+use clause_formulas::Formula;
 use netlist::Netlist;
 use std::alloc::{AllocError, Global};
-use ternary_clauses::{ClausesFault, Formula, Rails, add_columns};
+use ternary_clauses::{ClausesFault, Rails, add_columns};
 
 /// Clauses over the columns of a netlist, with a literal that says whether a vector's state is in the invariant, and one
 /// that says whether the assumption allows it.

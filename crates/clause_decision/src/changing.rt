@@ -8,9 +8,10 @@ ghost use Rattle.clause_decision.specs.Sweepings.{IsOnCare};
 
 use crate::question::query_of;
 use crate::sweeping::Swept;
+use clause_formulas::negation;
 use clause_queries::{Query, Reply};
 use std::alloc::{AllocError, Global};
-use ternary_clauses::{Rails, negation};
+use ternary_clauses::Rails;
 
 /// The literal that says that a copy is known.
 fn known_at(copies: &[Rails], place: usize) -> u32

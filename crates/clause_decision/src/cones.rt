@@ -10,9 +10,10 @@ ghost use Rattle.clause_decision.specs.Scopes.{IsScopeOf};
 use crate::care::{CareFormula, care_formula};
 use crate::scope::Scope;
 use care_sets::Care;
+use clause_formulas::{Formula, value_of};
 use netlist::Netlist;
 use std::alloc::{AllocError, Global};
-use ternary_clauses::{ClausesFault, Formula, Rails, add_netlist, value_of};
+use ternary_clauses::{ClausesFault, Rails, add_netlist};
 
 /// Clauses over the columns of a netlist and its gates in a scope, with the literals of the care set.
 pub struct Cone {

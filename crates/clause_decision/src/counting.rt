@@ -14,6 +14,7 @@ ghost use Rattle.clause_decision.specs.Changes.{AreFedKnown};
 ghost use Rattle.clause_decision.specs.Cones.{vector_in};
 ghost use Rattle.clause_decision.specs.Countings.{first_number, AreTooFewAt, IsAskedAfter, IsCountedTo, Serves, TellsNeeded, TellsTooFew};
 ghost use Rattle.loop_simulation.specs.Climbing.{NeedAtLeast};
+ghost use Rattle.loop_simulation.specs.Known.{AreKnownSomewhere};
 ghost use Rattle.loop_simulation.specs.LoopsAt.{gates_in, loops_in};
 ghost use Rattle.clause_decision.specs.Scopes.{AreInScope, AreKnownOnCare, IsScopeOf};
 ghost use Rattle.loop_simulation.specs.Sweeping.{IsLeastCount};
@@ -291,6 +292,33 @@ pub fn needs_one_sweep(
 {
     let block = LoopedBlock::of(alloc, looped, block)?;
     Ok(block.cut_count() == 1)
+}
+
+/// Whether the loop at this place of the blocks has one cut wire, and that has a mark: it needs one sweep on care, since
+/// without any the wire would be unknown. That takes no question. Gates of the loop may be unknown at care vectors, and so may
+/// be gates that feed it.
+///
+/// The condition is that the block is a loop, and that there is a mark for each gate. What the answer tells holds for a care
+/// set of the netlist with a vector, for each marked gate, at which it is known.
+pub fn has_one_known_cut(
+    alloc: Global,
+    looped: &LoopedNetlist<'_>,
+    block: u32,
+    known: &[bool],
+) -> Result<bool, AllocError>
+    requires block { block < length looped.now.blocks.list }
+    requires looped { (block_at looped.now.blocks block).looped ≡ true }
+    requires width { length known.now ≡ length looped.now.net.gates }
+    ensures { (care : CareSet) → AreKnownSomewhere looped.now.net care known.now →
+        IfOk result (λ one. one ≡ true → (gate : ℕ) → Contains (block_at looped.now.blocks block).gates gate →
+        IsLeastCount looped.now.net (loops_by looped.now.blocks looped.now.cut) care gate 1) }
+{
+    let block = LoopedBlock::of(alloc, looped, block)?;
+    if block.cut_count() != 1 {
+        return Ok(false);
+    }
+    let wire = block.gates()[block.cuts()[0]];
+    Ok(known[wire as usize])
 }
 
 /// How many sweeps the loop at this place of the blocks needs on care, or none where the solver gives up after so many

@@ -1,7 +1,7 @@
 //! Initial states outside the invariant.
 
 ghost use Rattle.std.specs.Prelude.{◌≡◌, ◌∷◌, ◌++◌, length, IfOk, OnOk};
-ghost use Rattle.ternary_clauses.specs.Formulas.{negation as negation_of};
+ghost use Rattle.clause_formulas.specs.Formulas.{negation as negation_of};
 ghost use Rattle.care_sets.specs.Binding.{IsCareOf};
 ghost use Rattle.clause_queries.specs.Vectors.{IsFirstOf};
 ghost use Rattle.clause_decision.specs.Questions.{IsQuestionOf};
@@ -12,10 +12,11 @@ use crate::care::ones;
 use crate::models::add_invariant;
 use crate::question::{Question, ask_least};
 use care_sets::Care;
+use clause_formulas::{Formula, negation};
 use clause_queries::Found;
 use netlist::{Init, Netlist};
 use std::alloc::{AllocError, Global};
-use ternary_clauses::{ClausesFault, Formula, Rails, add_columns, negation};
+use ternary_clauses::{ClausesFault, Rails, add_columns};
 
 /// What an init asks of its latch.
 fn ask_start(init: Init, latch: Rails, assumed: &mut Vec<u32>) -> Result<(), AllocError>

@@ -17,10 +17,11 @@ use crate::models::add_model;
 use crate::question::{Question, ask_least};
 use crate::scope::Scope;
 use care_sets::Care;
+use clause_formulas::negation;
 use clause_queries::Found;
 use netlist::Netlist;
 use std::alloc::{AllocError, Global};
-use ternary_clauses::{ClausesFault, Rails, negation};
+use ternary_clauses::{ClausesFault, Rails};
 
 /// The rails of what the latch of a column loads.
 fn load_of(net: &Netlist, rails: &[Rails], column: u32) -> Rails

@@ -24,7 +24,7 @@ mod witness;
 pub use care::{CareFormula, care_formula, is_possible};
 pub use clause_queries::{First, Found};
 pub use cones::{Cone, cone_of};
-pub use counting::{needs_one_sweep, sweeps_fed_known, sweeps_needed};
+pub use counting::{has_one_known_cut, needs_one_sweep, sweeps_fed_known, sweeps_needed};
 pub use initial::least_outside;
 pub use leaving::least_leaving;
 pub use question::query_of;

@@ -4,14 +4,15 @@ ghost use Rattle.std.specs.Prelude.{◌≡◌, ◌≤◌, ◌-◌, ◌<◌, ◌*
 ghost use Rattle.netlist.specs.Netlists.{IsNetlist};
 ghost use Rattle.netlist.specs.Walks.{IsLoopFree};
 ghost use Rattle.care_sets.specs.Care.{is_allowed, is_in_invariant};
-ghost use Rattle.ternary_clauses.specs.Formulas.{IsFormula};
+ghost use Rattle.clause_formulas.specs.Formulas.{IsFormula};
 ghost use Rattle.ternary_clauses.specs.Rails.{AreWithin, rails_at};
 ghost use Rattle.clause_decision.specs.Formulas.{accepts, ReadsWithin, SaysTest};
 
 use care_sets::Care;
+use clause_formulas::Formula;
 use netlist::Netlist;
 use std::alloc::{AllocError, Global};
-use ternary_clauses::{ClausesFault, Formula, Rails, add_netlist};
+use ternary_clauses::{ClausesFault, Rails, add_netlist};
 
 /// The literal that is true in each model.
 const TRUE: u32 = 0;

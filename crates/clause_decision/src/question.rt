@@ -5,9 +5,9 @@ ghost use Rattle.clause_queries.specs.Queries.{problem};
 ghost use Rattle.clause_queries.specs.Vectors.{IsFirstOf, TellsWhetherAny};
 ghost use Rattle.clause_decision.specs.Questions.{IsAskable, IsQuestionOf};
 
+use clause_formulas::Formula;
 use clause_queries::{Found, Query, QueryFault};
 use std::alloc::{AllocError, Global};
-use ternary_clauses::Formula;
 
 /// Clauses, literals that are the columns of a vector, and literals that are assumed: the vectors of the models in which
 /// these are true are those that pass a test.

@@ -6,7 +6,7 @@ ghost use Rattle.netlist.specs.Netlists.{IsNetlist};
 ghost use Rattle.loops.specs.Cuts.{Loops};
 ghost use Rattle.care_sets.specs.Binding.{IsCareOf};
 ghost use Rattle.care_sets.specs.Care.{CareSet};
-ghost use Rattle.ternary_clauses.specs.Formulas.{IsFormula};
+ghost use Rattle.clause_formulas.specs.Formulas.{IsFormula};
 ghost use Rattle.ternary_clauses.specs.Rails.{AreWithin};
 ghost use Rattle.clause_queries.specs.Queries.{problem, IsReply};
 ghost use Rattle.clause_decision.specs.declared.scope.Scope.{Scope as TheScope};
@@ -18,12 +18,13 @@ use crate::cones::{Cone, cone_of};
 use crate::question::query_of;
 use crate::scope::Scope;
 use care_sets::Care;
+use clause_formulas::{Formula, negation};
 use clause_queries::Reply;
 use loop_simulation::LoopedBlock;
 use netlist::Netlist;
 use std::alloc::{AllocError, Global};
 use std::mem;
-use ternary_clauses::{ClausesFault, Formula, Rails, add_any, add_sweep, negation, unknown_rails};
+use ternary_clauses::{ClausesFault, Rails, add_any, add_sweep, unknown_rails};
 
 /// A loop after some sweeps from its cut wires, as clauses on top of a cone.
 pub(crate) struct Swept {

@@ -4,7 +4,7 @@ ghost use Rattle.std.specs.Prelude.{◌≡◌, ◌<◌, ◌∷◌, [], ℕ, Bool
 ghost use Rattle.care_sets.specs.Binding.{IsCareOf};
 ghost use Rattle.care_sets.specs.Care.{CareSet};
 ghost use Rattle.ternary_clauses.specs.Encoding.{gate_rails};
-ghost use Rattle.ternary_clauses.specs.Formulas.{negation as negation_of, IsFormula};
+ghost use Rattle.clause_formulas.specs.Formulas.{negation as negation_of, IsFormula};
 ghost use Rattle.ternary_clauses.specs.Rails.{AreWithin};
 ghost use Rattle.netlist.specs.declared.parts.Parts.{Parts};
 ghost use Rattle.netlist.specs.Netlists.{count, columns, is_marked};
@@ -24,10 +24,11 @@ use crate::cones::{Cone, cone_of};
 use crate::question::{Question, ask_least, query_of};
 use crate::scope::Scope;
 use care_sets::Care;
+use clause_formulas::negation;
 use clause_queries::{First, Found};
 use netlist::Netlist;
 use std::alloc::{AllocError, Global};
-use ternary_clauses::{ClausesFault, Rails, add_any, negation};
+use ternary_clauses::{ClausesFault, Rails, add_any};
 
 /// The literal that says that a gate is unknown.
 fn unknown_of(net: &Netlist, rails: &[Rails], gate: u32) -> u32

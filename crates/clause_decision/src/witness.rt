@@ -3,7 +3,7 @@
 ghost use Rattle.std.specs.Prelude.{◌≡◌, ◌<◌, ◌≤◌, ◌*◌, ◌-◌, ◌∷◌, [], ℕ, Bool, List, true, false, length, slice_index, All, IfOk};
 ghost use Rattle.care_sets.specs.Binding.{IsCareOf};
 ghost use Rattle.care_sets.specs.Care.{CareSet};
-ghost use Rattle.ternary_clauses.specs.Formulas.{says};
+ghost use Rattle.clause_formulas.specs.Formulas.{says};
 ghost use Rattle.netlist.specs.Netlists.{count, is_marked};
 ghost use Rattle.clause_queries.specs.Clauses.{IsWithin};
 ghost use Rattle.clause_queries.specs.Queries.{problem, IsReply};
@@ -16,10 +16,11 @@ use crate::question::query_of;
 use crate::scope::Scope;
 use crate::unknown::{Unknowns, unknowns_of};
 use care_sets::Care;
+use clause_formulas::value_of;
 use clause_queries::Reply;
 use netlist::Netlist;
 use std::alloc::{AllocError, Global};
-use ternary_clauses::{ClausesFault, value_of};
+use ternary_clauses::ClausesFault;
 
 /// What comes of a search for a care vector at which one of some gates is unknown.
 #[derive(Drop)]

@@ -6,10 +6,10 @@ use Rattle.clause_pairs.proofs.Common.{cases_lt, get_or_default, get_or-map, get
 use Rattle.std.proofs.lemmas.List.Folds.{list_any_none}
 use Rattle.std.proofs.lemmas.Slice.Zip.{all_zipped_more}
 use Rattle.ternary_clauses.specs.Apart.{SaysApart}
-use Rattle.ternary_clauses.specs.Formulas.{IsFormula}
+use Rattle.clause_formulas.specs.Formulas.{IsFormula}
 use Rattle.ternary_clauses.specs.Nodes.{agreed}
 use Rattle.ternary_clauses.specs.Rails.{exchanged, value_read, AreRailsOf}
-use Rattle.ternary_clauses.proofs.GrowthLemmas.{Grows-refl, Grows-chain, model-here, model-after}
+use Rattle.clause_formulas.proofs.GrowthLemmas.{Grows-refl, Grows-chain, model-here, model-after}
 use Rattle.ternary_clauses.proofs.NodeLemmas.{value-is}
 use Rattle.ternary_clauses.proofs.PickLemmas.{opposite, Reads-opposite}
 use Rattle.clause_queries.specs.Each.{AreNever, IsAnyPossible}

@@ -18,10 +18,10 @@ pub use Rattle.std.proofs.lemmas.List.Elements.{All-cons, All-get_or, All-map, A
 pub use Rattle.std.proofs.lemmas.List.{get_or-map, get_or-take, get_or_default, length-map, take_all, take_more}
 pub use Rattle.std.proofs.lemmas.Result.{IfOk-weaker}
 pub use Rattle.std.specs.Prelude.{IfOk}
-pub use Rattle.ternary_clauses.proofs.ClauseLemmas.{says-negation}
+pub use Rattle.clause_formulas.proofs.ClauseLemmas.{says-negation}
 pub use Rattle.ternary_clauses.proofs.ReadingLemmas.{ReadsAll-at}
 pub use Rattle.ternary_clauses.specs.Encoding.{IsWanted, gate_rails}
-pub use Rattle.ternary_clauses.specs.Formulas.{Grows, HasModelFrom, IsModel, says}
+pub use Rattle.clause_formulas.specs.Formulas.{Grows, HasModelFrom, IsModel, says}
 pub use Rattle.ternary_clauses.specs.Rails.{AreWithin, Reads, is_known, no_rails, rails_at}
-pub use Rattle.ternary_clauses.specs.declared.formula.Formula.{Formula}
-pub use Rattle.ternary_clauses.specs.declared.formula.Rails.{Rails}
+pub use Rattle.clause_formulas.specs.declared.formula.Formula.{Formula}
+pub use Rattle.ternary_clauses.specs.declared.rails.Rails.{Rails}

@@ -5,7 +5,7 @@ use Rattle.std.specs.List.{All}
 use Rattle.std.proofs.lemmas.List.{get_or-replicate, get_or_append_left, get_or-append-add, length-append, length-replicate}
 use Rattle.std.proofs.lemmas.List.Elements.{All-append}
 use Rattle.clause_pairs.proofs.Common.{get_or-map, length-map, models-same, All-nil, All-cons, All-get_or, All-map, All-push, Trit, X, bit, bits, Parts, CareSet, IsCareVector, Formula, Rails, says, says-negation, no_rails, rails_at, Reads, AreWithin, ReadsAll-at, IsWithin, Problem, HasNoModelUnder}
-use Rattle.ternary_clauses.specs.Formulas.{holds, IsFormula}
+use Rattle.clause_formulas.specs.Formulas.{holds, IsFormula}
 use Rattle.clause_queries.specs.Each.{AreNever}
 use Rattle.clause_queries.specs.Queries.{IsPossible}
 use Rattle.clause_decision.specs.declared.care.CareFormula.{CareFormula}

@@ -2,7 +2,7 @@
 use Rattle.std.proofs.Common.{◌≡◌, ℕ, Bool, true, ◌&&◌, List, [], ◌∷◌, ◌++◌, get_or, refl, sym, ◌∙◌, arith}
 use Rattle.std.specs.List.{All, list_any}
 use Rattle.clause_pairs.proofs.Common.{Formula, says, models-same, problem}
-use Rattle.ternary_clauses.specs.Formulas.{holds, IsFormula}
+use Rattle.clause_formulas.specs.Formulas.{holds, IsFormula}
 use Rattle.clause_pairs.specs.Pairs.{HaveNoModel, HoldsEach}
 use Rattle.clause_pairs.proofs.CubeLemmas.{All-parts}
 

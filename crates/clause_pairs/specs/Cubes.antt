@@ -2,8 +2,8 @@
 use Rattle.std.specs.Prelude.{◌≡◌, ◌<◌, ◌∷◌, [], ◌++◌, ℕ, Bool, true, false, List, length, slice_index_or, All, Any}
 use Rattle.netlist.specs.declared.parts.Parts.{Parts}
 use Rattle.care_sets.specs.Care.{CareSet, IsCareVector}
-use Rattle.ternary_clauses.specs.declared.formula.Formula.{Formula}
-use Rattle.ternary_clauses.specs.declared.formula.Rails.{Rails}
+use Rattle.clause_formulas.specs.declared.formula.Formula.{Formula}
+use Rattle.ternary_clauses.specs.declared.rails.Rails.{Rails}
 use Rattle.ternary_clauses.specs.Rails.{AreWithin}
 use Rattle.clause_queries.specs.Clauses.{IsWithin}
 use Rattle.clause_queries.specs.Queries.{Problem, problem}

@@ -4,9 +4,9 @@ use Rattle.std.specs.List.{AllZip}
 use Rattle.cyc_base.specs.declared.trit.Trit.{Trit}
 use Rattle.netlist.specs.declared.parts.Parts.{Parts}
 use Rattle.care_sets.specs.Care.{CareSet, IsCareVector}
-use Rattle.ternary_clauses.specs.declared.formula.Formula.{Formula}
-use Rattle.ternary_clauses.specs.declared.formula.Rails.{Rails}
-use Rattle.ternary_clauses.specs.Formulas.{says, IsFormula, IsModel, HasModelFrom, Grows}
+use Rattle.clause_formulas.specs.declared.formula.Formula.{Formula}
+use Rattle.ternary_clauses.specs.declared.rails.Rails.{Rails}
+use Rattle.clause_formulas.specs.Formulas.{says, IsFormula, IsModel, HasModelFrom, Grows}
 use Rattle.ternary_clauses.specs.Nodes.{agreed}
 use Rattle.ternary_clauses.specs.Rails.{is_known, rails_at, Reads, AreRailsOf}
 use Rattle.clause_queries.specs.Clauses.{IsWithin}

@@ -3,7 +3,7 @@
 ghost use Rattle.std.specs.Prelude.{◌≡◌, ◌<◌, ◌↔◌, [], true, IsTrue, length, map, All, IfOk, OnOk};
 ghost use Rattle.care_sets.specs.Binding.{IsCareOf};
 ghost use Rattle.ternary_clauses.specs.Apart.{SaysApart};
-ghost use Rattle.ternary_clauses.specs.Formulas.{IsFormula};
+ghost use Rattle.clause_formulas.specs.Formulas.{IsFormula};
 ghost use Rattle.ternary_clauses.specs.Rails.{rails_at};
 ghost use Rattle.netlist.specs.Pairs.{IsPairOf};
 ghost use Rattle.clause_pairs.specs.Apart.{IsPairIn, ArePairsIn, IsCubeOf, AreNeverApart, AreNeverApartIn};
@@ -14,10 +14,11 @@ ghost use Rattle.clause_decision.specs.Scopes.{IsScopeOf};
 use crate::pairs::{Budget, Fixed, Hint, PairSearch};
 use care_sets::Care;
 use clause_decision::{Cone, Scope, cone_of, query_of};
+use clause_formulas::Formula;
 use clause_queries::Query;
 use netlist::{Netlist, Pair};
 use std::alloc::{AllocError, Global};
-use ternary_clauses::{ClausesFault, Formula, Rails, add_apart, exchanged};
+use ternary_clauses::{ClausesFault, Rails, add_apart, exchanged};
 
 /// How many hints the solver may give up on: no more are asked for then.
 const FAILURES: usize = 1_000;

@@ -4,7 +4,7 @@ ghost use Rattle.std.specs.Prelude.{◌≡◌, ◌<◌, ◌∷◌, [], ◌++◌,
 ghost use Rattle.netlist.specs.declared.parts.Parts.{Parts};
 ghost use Rattle.care_sets.specs.Binding.{IsCareOf};
 ghost use Rattle.care_sets.specs.Care.{CareSet};
-ghost use Rattle.ternary_clauses.specs.Formulas.{IsFormula, IsModel};
+ghost use Rattle.clause_formulas.specs.Formulas.{IsFormula, IsModel};
 ghost use Rattle.ternary_clauses.specs.Rails.{AreWithin};
 ghost use Rattle.clause_queries.specs.Clauses.{IsWithin};
 ghost use Rattle.clause_queries.specs.Queries.{problem, HasNoModelUnder};
@@ -16,12 +16,13 @@ use crate::apart::{literal_of, literals_of_cube};
 use crate::pairs::Fixed;
 use care_sets::Care;
 use clause_decision::{CareFormula, care_formula, query_of};
+use clause_formulas::{Formula, negation};
 use clause_queries::Query;
 use cyc_base::Items;
 use netlist::Netlist;
 use std::alloc::{AllocError, Global};
 use std::marker::Model;
-use ternary_clauses::{ClausesFault, Formula, Rails, negation};
+use ternary_clauses::{ClausesFault, Rails};
 
 /// Columns with values. A vector that has these is in the cube.
 pub struct Cube {

@@ -1,6 +1,6 @@
 -- Where the first literal that can be true is.
 use Rattle.std.proofs.Common.{◌≡◌, ℕ, zero, suc, ◌+◌, ◌-◌, ◌<◌, ◌≤◌, Bool, true, List, [], ◌∷◌, ◌++◌, length, get_or, subst, arith}
-use Rattle.ternary_clauses.specs.Formulas.{says}
+use Rattle.clause_formulas.specs.Formulas.{says}
 use Rattle.clause_queries.specs.Queries.{Problem, is_model, IsModelUnder, HasModelUnder, HasNoModelUnder, AreRising, IsFirstAt}
 use Rattle.clause_queries.specs.Bisection.{IsOpen}
 use Rattle.clause_queries.proofs.DescentLemmas.{under-fewer, under-last, under-more}

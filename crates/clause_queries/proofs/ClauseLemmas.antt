@@ -6,8 +6,8 @@ use Rattle.std.proofs.lemmas.List.{map-append}
 use Rattle.std.proofs.lemmas.Bool.{eqb-true}
 use Rattle.std.proofs.lemmas.List.Elements.{All-map, All-same, All-push, All-tail, All-take, All-drop, All-contains, Contains-append_right}
 use Rattle.cyc_base.proofs.TruthLemmas.{and_with_true}
-use Rattle.ternary_clauses.specs.declared.formula.Formula.{Formula}
-use Rattle.ternary_clauses.specs.Formulas.{says, holds_from, holds as holds_all}
+use Rattle.clause_formulas.specs.declared.formula.Formula.{Formula}
+use Rattle.clause_formulas.specs.Formulas.{says, holds_from, holds as holds_all}
 use Rattle.sat.specs.Cnf.{literal}
 use Rattle.sat.specs.declared.lit.Lit.{Lit}
 use Rattle.clause_queries.specs.Clauses.{clauses_from, clauses_of, IsWithin, AreTaken}

@@ -7,8 +7,8 @@ use Rattle.std.proofs.lemmas.Bool.{not-true, false_from_ne_true}
 use Rattle.cyc_base.specs.Vectors.{vectors, AtMost}
 use Rattle.cyc_base.proofs.ListLemmas.{All-but_last}
 use Rattle.cyc_base.proofs.VectorLemmas.{find-none}
-use Rattle.ternary_clauses.specs.Formulas.{says, negation}
-use Rattle.ternary_clauses.proofs.ClauseLemmas.{says-negation}
+use Rattle.clause_formulas.specs.Formulas.{says, negation}
+use Rattle.clause_formulas.proofs.ClauseLemmas.{says-negation}
 use Rattle.clause_queries.specs.Clauses.{IsWithin}
 use Rattle.clause_queries.specs.Queries.{Problem, IsModelUnder, HasNoModelUnder, IsPossible}
 use Rattle.clause_queries.specs.Vectors.{vector_of, Asks, IsLeastVector, IsFound, IsFirstOf, TellsWhetherAny}

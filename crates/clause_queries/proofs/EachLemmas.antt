@@ -1,7 +1,7 @@
 -- Which of some literals can be true.
 use Rattle.std.proofs.Common.{◌≡◌, inl, inr, ℕ, ◌+◌, ◌<◌, Bool, true, false, ◌||◌, List, [], ◌∷◌, ◌++◌, length, get_or, refl, sym, ap, ◌∙◌, subst, arith, true≢false}
 use Rattle.std.proofs.lemmas.Bool.{cases_lt, or_right}
-use Rattle.ternary_clauses.specs.Formulas.{says}
+use Rattle.clause_formulas.specs.Formulas.{says}
 use Rattle.clause_queries.specs.Queries.{Problem, IsModelUnder}
 use Rattle.clause_queries.specs.Each.{CanBe, CannotBe, AreToldBelow}
 use Rattle.clause_queries.proofs.BisectionLemmas.{possible-earlier}

@@ -1,6 +1,6 @@
 -- The clauses of a formula one by one, and what a solver has room for.
 use Rattle.std.specs.Prelude.{◌≤◌, ◌<◌, ℕ, zero, suc, ◌*◌, List, [], ◌∷◌, ◌++◌, length, All}
-use Rattle.ternary_clauses.specs.declared.formula.Formula.{Formula}
+use Rattle.clause_formulas.specs.declared.formula.Formula.{Formula}
 
 -- the clause that is begun, of which so many literals are left, and the clauses after it
 abbrev pub clauses_from : ℕ → List ℕ → List ℕ → List (List ℕ)

@@ -1,7 +1,7 @@
 -- What a query's models are.
 use Rattle.std.specs.Prelude.{◌≡◌, Bool, List}
-use Rattle.ternary_clauses.specs.declared.formula.Formula.{Formula}
-use Rattle.ternary_clauses.specs.Formulas.{holds}
+use Rattle.clause_formulas.specs.declared.formula.Formula.{Formula}
+use Rattle.clause_formulas.specs.Formulas.{holds}
 use Rattle.clause_queries.specs.Queries.{problem, is_model}
 
 -- an assignment satisfies each clause of a formula exactly where it is a model of it

@@ -2,7 +2,7 @@
 use Rattle.std.specs.Prelude.{◌≡◌, ℕ, Bool, true, List, length, map, find, is_some, Some, None}
 use Rattle.std.specs.declared.option.Option.{Option}
 use Rattle.cyc_base.specs.Vectors.{vectors, AtMost}
-use Rattle.ternary_clauses.specs.Formulas.{says}
+use Rattle.clause_formulas.specs.Formulas.{says}
 use Rattle.clause_queries.specs.Queries.{Problem, IsModelUnder, HasNoModelUnder}
 use Rattle.clause_queries.specs.declared.least.Found.{Found}
 use Rattle.clause_queries.specs.declared.least.Found.TheVariants as founds

@@ -2,13 +2,13 @@
 //! questions do.
 
 ghost use Rattle.std.specs.Prelude.{◌≡◌, ◌<◌, ◌||◌, ℕ, false, length, slice_index, slice_index_or, IfOk, IfSome};
-ghost use Rattle.ternary_clauses.specs.Formulas.{says};
+ghost use Rattle.clause_formulas.specs.Formulas.{says};
 ghost use Rattle.clause_queries.specs.Clauses.{IsWithin};
 ghost use Rattle.clause_queries.specs.Each.{IsTold, TellEach};
 
 use crate::query::{Query, Reply};
+use clause_formulas::value_of;
 use std::alloc::{AllocError, Global};
-use ternary_clauses::value_of;
 
 // Notes which of the literals are true in a model.
 pub(crate) fn note(literals: &[u32], model: &[bool], found: &mut [bool])

@@ -1,14 +1,14 @@
 //! The first literal that can be true, by steps that double, and by bisection.
 
 ghost use Rattle.std.specs.Prelude.{ℕ, false, ◌≡◌, ◌<◌, ◌≤◌, ◌-◌, ◌*◌, ◌++◌, ◌∷◌, [], true, length, slice_index, IfOk};
-ghost use Rattle.ternary_clauses.specs.Formulas.{says};
+ghost use Rattle.clause_formulas.specs.Formulas.{says};
 ghost use Rattle.clause_queries.specs.Bisection.{IsOpen};
 ghost use Rattle.clause_queries.specs.Clauses.{IsWithin};
 ghost use Rattle.clause_queries.specs.Queries.{AreRising, IsFirst, IsReply};
 
 use crate::query::{Query, Reply};
+use clause_formulas::value_of;
 use std::alloc::{AllocError, Global};
-use ternary_clauses::value_of;
 
 /// What comes of a search for the first literal that can be true.
 #[derive(Clone, Copy)]

@@ -1,15 +1,15 @@
 //! The least vector of the models in some columns, column by column.
 
 ghost use Rattle.std.specs.Prelude.{◌≡◌, ◌<◌, ◌*◌, ◌++◌, ◌∷◌, [], ℕ, Bool, true, List, length, map, IfOk, OnOk};
-ghost use Rattle.ternary_clauses.specs.Formulas.{negation as negation_of};
+ghost use Rattle.clause_formulas.specs.Formulas.{negation as negation_of};
 ghost use Rattle.clause_queries.specs.Clauses.{IsWithin};
 ghost use Rattle.clause_queries.specs.Descent.{IsFixed};
 ghost use Rattle.clause_queries.specs.Queries.{IsModelUnder};
 ghost use Rattle.clause_queries.specs.Vectors.{vector_of, Asks, IsFirstOf, IsFound};
 
 use crate::query::{Query, Reply};
+use clause_formulas::{negation, value_of};
 use std::alloc::{AllocError, Global};
-use ternary_clauses::{negation, value_of};
 
 /// What comes of a search for the least vector.
 pub enum Found {

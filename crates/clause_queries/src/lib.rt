@@ -2,7 +2,7 @@
 //! columns, the first of some literals that can be true (by asking column by column, and by bisection), which of them can
 //! be, and which can't.
 //!
-//! It stands on `sat`, for the answers, and on `ternary_clauses`, for what formulas and their models are. The layer above
+//! It stands on `sat`, for the answers, and on `clause_formulas`, for what formulas and their models are. The layer above
 //! uses that what is answered is the first vector that passes a test, where the formula asks for the test (`Asks`).
 #![tactic(auto)]
 

@@ -2,7 +2,7 @@
 
 ghost use Rattle.std.specs.Prelude.{◌≡◌, ◌≤◌, ◌<◌, ◌*◌, ◌++◌, ◌∷◌, [], ◌↔◌, IsTrue, List, length, map, take, drop, All, IfOk, IfErr, OnOk};
 ghost use Rattle.std.specs.List.{range_with_len};
-ghost use Rattle.ternary_clauses.specs.declared.formula.Formula.{Formula};
+ghost use Rattle.clause_formulas.specs.declared.formula.Formula.{Formula};
 ghost use Rattle.clause_queries.specs.Clauses.{AreTaken, Fits, IsWithin};
 ghost use Rattle.clause_queries.specs.Loaded.{AreLoaded};
 ghost use Rattle.clause_queries.specs.Names.{own, value_by, AreNames, AreNumbered, HasNumber};
@@ -10,10 +10,10 @@ ghost use Rattle.clause_queries.specs.Queries.{problem, IsReply};
 ghost use Rattle.clause_queries.specs.declared.query.QueryFault.TheVariants.{TooMany, Memory};
 
 use crate::names::Names;
+use clause_formulas::{Formula, MAX_VARIABLES};
 use sat::{Answer, Lit, Solver};
 use std::alloc::{AllocError, Global};
 use std::marker::Model;
-use ternary_clauses::{Formula, MAX_VARIABLES};
 use thiserror::Error;
 
 /// The most clauses that a solver takes.

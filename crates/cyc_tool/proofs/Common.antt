@@ -21,7 +21,7 @@ pub use Rattle.netlist.specs.declared.parts.Parts.{Parts}
 pub use Rattle.refusals.specs.Refusals.{IsRefusalOf}
 pub use Rattle.refusals.specs.declared.refusal.Refusal.{Refusal}
 pub use Rattle.refusals.specs.declared.refusal.Refusal.TheVariants.{Undetermined}
-pub use Rattle.rewriting.specs.Rewriting.{sweeps_needed}
+pub use Rattle.loop_simulation.specs.Sweeping.{sweeps_needed}
 pub use Rattle.std.proofs.lemmas.Result.{IfOk-weaker, err_from_is_err_and}
 pub use Rattle.std.specs.Prelude.{IfOk, if◌then◌else◌, nat_le}
 pub use Rattle.std.specs.declared.option.Option.{Option}

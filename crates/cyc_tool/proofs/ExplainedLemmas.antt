@@ -8,7 +8,7 @@ use Rattle.cyc_base.proofs.OrderLemmas.{EachBelow-length}
 use Rattle.netlist.specs.Netlists.{signal, gate_sig, columns}
 use Rattle.explanations.specs.declared.explanation.Explanation.{Explanation}
 use Rattle.explanations.specs.Explained.{Explains, IsUnknown}
-use Rattle.report.specs.Explanations.{IsExplanationOf}
+use Rattle.dot_text.specs.ExplanationGraphs.{IsExplanationOf}
 use Rattle.cyc_tool.specs.Answer.{IsWireExplained}
 use Rattle.cyc_tool.specs.Endings.{wire_explained}
 use Rattle.plain_commands.specs.Plans.{Refuses}

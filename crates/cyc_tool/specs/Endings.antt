@@ -25,12 +25,13 @@ use Rattle.refusals.specs.declared.observe.Observe.{Observe}
 use Rattle.refusals.specs.declared.observe.Observe.TheVariants.{All, Outputs}
 use Rattle.refusals.specs.declared.refusal.Refusal.{Refusal}
 use Rattle.refusals.specs.declared.refusal.Refusal.TheVariants.{Undetermined}
-use Rattle.accepted_loops.specs.Graphs.{told_graph}
-use Rattle.accepted_loops.specs.Lines.{told_loops}
-use Rattle.report.specs.Explanations.{explanation_text}
+use Rattle.explain_text.specs.Graphs.{told_graph}
+use Rattle.explain_text.specs.Lines.{told_loops}
+use Rattle.explain_text.specs.Explanations.{explanation_text}
 use Rattle.report.specs.Verdicts.{accepted_text, refusal_text, ring_line}
 use Rattle.rewriting.specs.Graphs.{graph_of, most_ands}
-use Rattle.rewriting.specs.Rewriting.{rewritten, rewritten_size, sweeps_needed}
+use Rattle.loop_simulation.specs.Sweeping.{sweeps_needed}
+use Rattle.rewriting.specs.Rewriting.{rewritten, rewritten_size}
 use Rattle.miters.specs.Told.{are_equal, found_text}
 use Rattle.commands.specs.Words.{Purpose, Judges, Rewrites, WritesGraph, Explains, Demonstrates, Storms}
 use Rattle.plain_commands.specs.Plans.{Ending, Prints, Refuses, Declines, Outgrows, WantsRows, Decision, Comparison}

@@ -29,8 +29,7 @@ use care_sets::Care;
 use commands::Options;
 use cyc_base::{DEFAULT_NODES, Name};
 use cyc_io::{Failed, Shelf, TextSink};
-use feedback_cuts::find_cut;
-use loops::{LoopedNetlist, find_blocks};
+use feedback_cuts::NetlistLoops;
 use netlist::Netlist;
 use plain_commands::{
     Outcome, Stop, on_err, on_out, or_stop, read_care, read_netlist, status, tell_declined,
@@ -140,9 +139,8 @@ fn tell_sought(
     requires limit { limit ≤ most_nodes }
     ensures { IfOk result (λ told. IsSought record { net = net.now; care = care.now; limit = limit; observe = observe } d.new (outcome_of told)) }
 {
-    let blocks = find_blocks(alloc, net)?;
-    let cut = find_cut(alloc, net, &blocks)?;
-    let looped = LoopedNetlist::new(net, &blocks, &cut);
+    let loops = NetlistLoops::find(alloc, net)?;
+    let looped = loops.looped();
     let problem = Problem::new(&looped, care, limit, observe);
     tell_sought_in(alloc, &problem, d)
 }

@@ -33,8 +33,8 @@ use bdd_ops::Diagrams;
 use care_sets::Care;
 use commands::{Cells, Encoding, Form, Making, Purpose, Telling};
 use cyc_io::TextSink;
-use feedback_cuts::find_cut;
-use loops::{LoopedNetlist, find_blocks};
+use feedback_cuts::NetlistLoops;
+use loops::LoopedNetlist;
 use netlist::Netlist;
 use plain_commands::{
     Outcome, accepted_line, number_of_loops, on_err, on_out, status, tell_aiger, tell_declined,
@@ -412,9 +412,8 @@ pub(crate) fn tell_decision(
     ensures { IfOk result (λ told. IsDecided record { net = net.now; care = care.now; limit = task.limit; observe = task.observe }
         (purpose_seen task.purpose) d.new (outcome_of told)) }
 {
-    let blocks = find_blocks(alloc, net)?;
-    let cut = find_cut(alloc, net, &blocks)?;
-    let looped = LoopedNetlist::new(net, &blocks, &cut);
+    let loops = NetlistLoops::find(alloc, net)?;
+    let looped = loops.looped();
     let problem = Problem::new(&looped, care, task.limit, task.observe);
     match task.purpose {
         Purpose::Tell(telling) => tell_judged(alloc, &problem, telling, d),

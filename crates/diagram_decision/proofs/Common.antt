@@ -21,17 +21,17 @@ pub use Rattle.cyc_base.specs.declared.trit.Trit.TheVariants.{X}
 pub use Rattle.dual_rail.specs.Rails.{AreRailsOf, trit_of, value_of, values_of}
 pub use Rattle.dual_rail.specs.WorkingLists.{BoundsEach, IsWide, is_bit}
 pub use Rattle.dual_rail.specs.declared.rail.Rails.{Rails}
+pub use Rattle.fixpoint.proofs.ColumnLemmas.{AreColumns-kept}
 pub use Rattle.fixpoint.proofs.CutLemmas.{one-of, zero-of}
 pub use Rattle.fixpoint.proofs.LayoutLemmas.{by_column, length-by_column, variables-back}
 pub use Rattle.fixpoint.proofs.OrderLemmas.{order-is}
 pub use Rattle.fixpoint.proofs.WireLemmas.{rails_at-proper}
+pub use Rattle.fixpoint.specs.Columns.{AreColumns}
 pub use Rattle.fixpoint.specs.Kept.{rails_under}
 pub use Rattle.fixpoint.specs.Orders.{laid, order}
 pub use Rattle.fixpoint.specs.Solved.{IsSolution, Vectors}
 pub use Rattle.fixpoint.specs.Sweeping.{rails_at}
 pub use Rattle.fixpoint.specs.Working.{HasLargeCover, IsWorking, effort}
-pub use Rattle.isolation.proofs.ColumnLemmas.{AreColumns-kept}
-pub use Rattle.isolation.specs.Columns.{AreColumns}
 pub use Rattle.loops.proofs.Reading.{map_agree}
 pub use Rattle.loops.specs.Blocks.{AreBlocksOf, block_at, home_of}
 pub use Rattle.loops.specs.Cuts.{IsCutOf, Loops, loops_by}
@@ -64,5 +64,5 @@ pub use Rattle.diagram_decision.specs.Next.{next_within}
 pub use Rattle.diagram_decision.specs.Observed.{AreMarksOf}
 pub use Rattle.diagram_decision.specs.Sets.{AreFixed, BoundsBoth, BoundsStarts, ReadsWithin, Tells, difference, has_state_inside, model_of, starts}
 pub use Rattle.diagram_decision.specs.Solving.{AreColumnVectors}
-pub use Rattle.diagram_decision.specs.Judgements.{AreLoose, are_care_values}
-pub use Rattle.isolation.specs.Settled.{SettleInSweeps}
+pub use Rattle.diagram_decision.specs.Judgements.{AreLoose}
+pub use Rattle.loop_simulation.specs.Sweeping.{are_care_values}

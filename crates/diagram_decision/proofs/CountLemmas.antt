@@ -1,12 +1,11 @@
 -- Numbers of sweeps on the vectors of a care set.
-use Rattle.std.proofs.Common.{◌≡◌, ◌==◌, ℕ, zero, suc, ◌<◌, ◌≤◌, Bool, true, false, not, List, [], ◌∷◌, length, map, get_or, refl, sym, ap, ◌∙◌, subst, arith}
-use Rattle.diagram_decision.proofs.Common.{list_all, and_parts, and_from, eqb-true, length-map, Node, Arena, den, IsLayout, Trit, bits, Rails, values_of, Parts, Loops, IsCountOfSweeps, map_agree, CareSet, columns, is_one, is_care_vector, is_x, Tells, AreColumnVectors, AreColumns, order, laid, by_column, length-by_column, variables-back, order-is, Vectors, are_care_values, IsCareVector, care_vector_decides, care_vector_is}
-use Rattle.std.proofs.lemmas.Bool.{eq-eqb}
+use Rattle.std.proofs.Common.{◌≡◌, ℕ, zero, suc, ◌<◌, ◌≤◌, Bool, true, false, List, [], ◌∷◌, length, get_or, refl, sym, ap, ◌∙◌, subst, arith}
+use Rattle.diagram_decision.proofs.Common.{length-map, Node, Arena, den, IsLayout, Trit, bits, Rails, values_of, Parts, Loops, IsCountOfSweeps, map_agree, CareSet, columns, is_care_vector, Tells, AreColumnVectors, AreColumns, order, laid, by_column, length-by_column, variables-back, order-is, Vectors, are_care_values, care_vector_is}
 use Rattle.bdd_store.specs.declared.node.Entry.{Entry}
 use Rattle.bdd_store.specs.Arena.{index, is_marked, flipped, den_within}
 use Rattle.bdd_store.specs.Soundness.{IsSound}
 use Rattle.loops.specs.Sweeps.{CutsAreFixed}
-use Rattle.refusals.proofs.RefusalLemmas.{bits_back, length-bits}
+use Rattle.loop_simulation.proofs.NeededLemmas.{care-values, bits-of-care}
 use Rattle.diagram_decision.specs.Solving.{fit}
 
 -- ---- lists of any length
@@ -47,30 +46,6 @@ values_of-fit a sound rails bs = grind (arith, map_agree, den-fit a sound)
 
 pub column-vectors : (net : Parts) (a : Arena) (given : List Rails) → IsSound a.vars a.entries → a.vars ≡ columns net → AreColumns a (order net) given → AreColumnVectors net (values_of a given)
 column-vectors net a given sound vars are = grind (arith, length-map {B = Trit} given, values_of-fit a sound given)
-
--- ---- values of care vectors
-
-pub known-bits : (ts : List Trit) → list_all (λ value. not (is_x value)) ts ≡ true → ts ≡ bits (map is_one ts)
-known-bits [] e = refl
-known-bits (t ∷ ts) e = grind (arith, and_parts (not (is_x t)), known-bits ts)
-
-pub bits-known : (w : List Bool) → list_all (λ value. not (is_x value)) (bits w) ≡ true
-bits-known [] = refl
-bits-known (false ∷ w) = bits-known w
-bits-known (true ∷ w) = bits-known w
-
-pub care-values : (net : Parts) (care : CareSet) (w : List Bool) → length w ≡ columns net → is_care_vector net care w ≡ true → are_care_values net care (bits w) ≡ true
-care-values net care w wide counts =
-    and_from _ _ (bits-known w) (and_from _ _ (eq-eqb (length (bits w)) (columns net) (length-bits w ∙ wide)) (ap (is_care_vector net care) (bits_back w) ∙ counts))
-
--- values of a care vector as one
-pub record IsBitsOf (net : Parts) (care : CareSet) (v : List Trit) : Type 0 where
-  pub vector : List Bool
-  pub is : v ≡ bits vector
-  pub counts : IsCareVector net care vector
-
-pub bits-of-care : (net : Parts) (care : CareSet) (v : List Trit) → are_care_values net care v ≡ true → IsBitsOf net care v
-bits-of-care net care v is = grind (arith, and_parts, and_parts (length v == columns net) (is_care_vector net care (map is_one v)), known-bits v, care_vector_decides net care (map is_one v), length-map v is_one, eqb-true (length v) (columns net))
 
 -- a number of sweeps on the vectors of a set is one on care
 pub count-on-care : (net : Parts) (care : CareSet) (loops : Loops) (a : Arena) (points : Vectors) (set : Node) (gate k : ℕ) → IsSound a.vars a.entries → AreColumnVectors net points → a.vars ≡ columns net →

@@ -3,7 +3,7 @@ use Rattle.std.proofs.Common.{ℕ, ◌+◌, ◌*◌, ◌<◌, ◌≤◌, Option,
 use Rattle.diagram_decision.proofs.Common.{IsSomeAnd, option_map_or, IsWide, Parts, HasLargeCover, effort, CareModel, CareSet, columns, assume_effort, invariant_effort, decision_cost, IsLaid, HasCoverOver}
 use Rattle.std.proofs.lemmas.List.Sums.{get_or-le-sum_by}
 use Rattle.std.proofs.Math.Nat.{mul-le-mul_left}
-use Rattle.isolation.proofs.WidthLemmas.{effort-enough, gates-effort}
+use Rattle.fixpoint.proofs.EffortLemmas.{effort-enough, gates-effort}
 use Rattle.diagram_decision.specs.Enough.{enough, in_all}
 
 -- ---- the sum

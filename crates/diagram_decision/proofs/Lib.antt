@@ -1,4 +1,3 @@
-pub mod AloneLemmas
 pub mod CareLemmas
 pub mod CauseLemmas
 pub mod Common

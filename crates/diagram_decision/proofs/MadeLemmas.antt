@@ -5,7 +5,7 @@ use Rattle.bdd_ops.specs.Operations.{bit_at}
 use Rattle.dual_rail.proofs.WidthLemmas.{IsWide-fewer}
 use Rattle.loops.specs.Found.{loops_of}
 use Rattle.fixpoint.specs.Working.{IsGatePart}
-use Rattle.isolation.proofs.WorkingLemmas.{IsOfColumn, IsOfGate, column-bit, working-is}
+use Rattle.fixpoint.proofs.WorkingLemmas.{IsOfColumn, IsOfGate, column-bit, working-is}
 use Rattle.diagram_decision.proofs.SignalLemmas.{signal-is}
 
 -- it lists the columns, the care vectors, and what the netlist and the models of its care set work with

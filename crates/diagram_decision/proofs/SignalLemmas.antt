@@ -5,7 +5,7 @@ use Rattle.loops.specs.Found.{loops_of}
 use Rattle.loops.proofs.Existence.{loops_exist}
 use Rattle.fixpoint.proofs.WorkLemmas.{fix_is_working}
 use Rattle.refusals.proofs.RefusalLemmas.{length-bits}
-use Rattle.isolation.proofs.WorkingLemmas.{IsOfColumn, IsOfGate, working-is}
+use Rattle.fixpoint.proofs.WorkingLemmas.{IsOfColumn, IsOfGate, working-is}
 use Rattle.diagram_decision.specs.Solving.{fit}
 use Rattle.diagram_decision.proofs.CountLemmas.{length-fit, fit-whole}
 

@@ -8,7 +8,7 @@ use Rattle.fixpoint.specs.declared.solved.SweptLoop.{SweptLoop}
 use Rattle.fixpoint.specs.declared.solved.Solved.{Solved}
 use Rattle.fixpoint.specs.Solved.{AreStepsOf, AreKeptSteps, loop_under}
 use Rattle.fixpoint.specs.Counts.{IsStepNode, IsComparedIn}
-use Rattle.isolation.proofs.WorkingLemmas.{step-is_working}
+use Rattle.fixpoint.proofs.WorkingLemmas.{step-is_working}
 use Rattle.diagram_decision.proofs.DecisionLemmas.{IsMade, decision_list, decision-wide, made-constant, made-told}
 use Rattle.diagram_decision.proofs.MadeLemmas.{made-same, working-made, working-wide}
 

@@ -1,24 +1,17 @@
 -- The judgement of a netlist on a care set, and what the decision by diagrams finds on the way.
-use Rattle.std.specs.Prelude.{◌≡◌, ◌<◌, ◌==◌, ◌&&◌, ℕ, Bool, true, false, not, List, length, map, None, Some}
+use Rattle.std.specs.Prelude.{◌≡◌, ℕ, length, None, Some}
 use Rattle.std.specs.declared.option.Option.{Option}
-use Rattle.std.specs.List.{list_all}
 use Rattle.std.specs.Option.{option_or}
 use Rattle.netlist.specs.Netlists.{columns}
 use Rattle.bdd_store.specs.declared.node.Node.{Node}
 use Rattle.bdd_store.specs.Arena.{Arena}
-use Rattle.cyc_base.specs.declared.trit.Trit.{Trit}
 use Rattle.netlist.specs.declared.parts.Parts.{Parts}
 use Rattle.loops.specs.declared.structure.Blocks.{Blocks}
 use Rattle.loops.specs.declared.structure.Cut.{Cut}
-use Rattle.loops.specs.declared.structure.SweepCounts.{SweepCounts}
-use Rattle.loops.specs.Blocks.{block_at, home_of}
-use Rattle.loops.specs.Cuts.{loops_by}
-use Rattle.loops.specs.Sweeps.{IsCountOfSweeps}
-use Rattle.fixpoint.specs.Counts.{count_at}
 use Rattle.fixpoint.specs.Solved.{Vectors, IsSolution}
-use Rattle.care_sets.specs.Care.{CareSet, is_one, is_care_vector}
+use Rattle.care_sets.specs.Care.{CareSet, is_care_vector}
 use Rattle.refusals.specs.Acceptance.{Accepts}
-use Rattle.refusals.specs.Refusals.{is_x, initial_refusal, empty_refusal, undetermined_refusal, leaves_refusal, refusal, loose_gates}
+use Rattle.refusals.specs.Refusals.{initial_refusal, empty_refusal, undetermined_refusal, leaves_refusal, refusal, loose_gates}
 use Rattle.refusals.specs.declared.observe.Observe.{Observe}
 use Rattle.refusals.specs.declared.refusal.Refusal.{Refusal}
 use Rattle.diagram_decision.specs.declared.gate_verdict.GateVerdict.{GateVerdict}
@@ -30,18 +23,6 @@ use Rattle.diagram_decision.specs.declared.judgement.Judgement.TheVariants as ju
 use Rattle.diagram_decision.specs.Sets.{AreFixed, Tells}
 use Rattle.diagram_decision.specs.Solving.{AreColumnVectors}
 use Rattle.diagram_decision.specs.declared.solving.Fixpoint.{Fixpoint}
-
--- the values are known, and those of a care vector
-abbrev pub are_care_values : Parts → CareSet → List Trit → Bool
-are_care_values net care values =
-    list_all (λ value. not (is_x value)) values && (length values == columns net && is_care_vector net care (map is_one values))
-
--- each loop has the number of sweeps that it needs on care, and another block has 0
-pub record AreSweepsOnCare (net : Parts) (blocks : Blocks) (cut : Cut) (care : CareSet) (counts : SweepCounts) : Type 0 where
-  pub width : length counts.per_block ≡ length blocks.list
-  pub loops : (gate : ℕ) → gate < length net.gates → (block_at blocks (home_of blocks gate)).looped ≡ true →
-      IsCountOfSweeps net (loops_by blocks cut) (are_care_values net care) gate (count_at counts (home_of blocks gate))
-  pub others : (b : ℕ) → (block_at blocks b).looped ≡ false → count_at counts b ≡ 0
 
 -- so many gates are unknown at some care vector
 abbrev pub AreLoose : Parts → CareSet → ℕ → Type 0

@@ -6,7 +6,6 @@ pub mod Enough
 pub mod Solving
 pub mod Judgements
 pub mod Questions
-pub mod Alone
 pub mod Observed
 pub mod Laws
 -- The code's own: what its parts say to each other.

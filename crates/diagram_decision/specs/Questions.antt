@@ -13,7 +13,8 @@ use Rattle.care_sets.specs.Binding.{IsCareOf}
 use Rattle.care_sets.specs.Care.{CareSet}
 use Rattle.refusals.specs.declared.observe.Observe.{Observe}
 use Rattle.diagram_decision.specs.declared.judgement.Judgement.{Judgement}
-use Rattle.diagram_decision.specs.Judgements.{AreSweepsOnCare, IsJudgement}
+use Rattle.loop_simulation.specs.Sweeping.{AreSweepsOnCare}
+use Rattle.diagram_decision.specs.Judgements.{IsJudgement}
 
 pub record Asked : Type 0 where
   pub net : Parts

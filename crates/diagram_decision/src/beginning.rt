@@ -5,7 +5,7 @@ ghost use Rattle.netlist.specs.Netlists.{columns};
 ghost use Rattle.care_sets.specs.Care.{is_care_vector};
 ghost use Rattle.diagram_decision.specs.Costs.{assume_effort, invariant_effort, set_cost, start_cost};
 ghost use Rattle.diagram_decision.specs.Enough.{GrowsInDecision};
-ghost use Rattle.isolation.specs.Columns.{AreColumns};
+ghost use Rattle.fixpoint.specs.Columns.{AreColumns};
 ghost use Rattle.fixpoint.specs.Orders.{order as order_of};
 ghost use Rattle.diagram_decision.specs.Sets.{Tells, has_state_inside};
 ghost use Rattle.diagram_decision.specs.Judgements.{IsStart};

@@ -4,7 +4,7 @@ ghost use Rattle.std.specs.Prelude.{◌≡◌, ◌≤◌, ◌+◌, Err, IfOk, If
 ghost use Rattle.netlist.specs.Netlists.{columns};
 ghost use Rattle.care_sets.specs.Care.{is_care_vector};
 ghost use Rattle.fixpoint.specs.Orders.{order as order_of};
-ghost use Rattle.isolation.specs.Columns.{AreColumns};
+ghost use Rattle.fixpoint.specs.Columns.{AreColumns};
 ghost use Rattle.diagram_decision.specs.Costs.{counting_cost, solving_cost, sweeps_cost};
 ghost use Rattle.diagram_decision.specs.Enough.{AddsInDecision, GrowsInDecision, IsFullFor};
 ghost use Rattle.diagram_decision.specs.Judgements.{IsSolvedWhole};
@@ -20,8 +20,7 @@ use bdd_store::{Node, StoreFault};
 use cyc_base::MAX_NODES;
 use dual_rail::Rails;
 use fixpoint::laws::solutions;
-use fixpoint::sweeps;
-use isolation::column_rails;
+use fixpoint::{column_rails, sweeps};
 use loops::SweepCounts;
 use std::alloc::{AllocError, Global};
 

@@ -7,7 +7,7 @@ ghost use Rattle.fixpoint.specs.Orders.{order as order_of};
 ghost use Rattle.diagram_decision.specs.Costs.{care_cost, judging_cost, solving_cost, start_cost};
 ghost use Rattle.diagram_decision.specs.Enough.{AddsInDecision, GrowsInDecision};
 ghost use Rattle.diagram_decision.specs.Sets.{AreFixed, Tells};
-ghost use Rattle.isolation.specs.Columns.{AreColumns};
+ghost use Rattle.fixpoint.specs.Columns.{AreColumns};
 ghost use Rattle.diagram_decision.specs.Judgements.{refusal_on_care, IsCareStart, IsGateVerdict, IsSolvedWhole};
 ghost use Rattle.diagram_decision.specs.Questions.{IsJudgementOf};
 
@@ -21,7 +21,7 @@ use bdd_ops::Diagrams;
 use bdd_store::{Node, StoreFault};
 use cyc_base::MAX_NODES;
 use dual_rail::Rails;
-use isolation::column_rails;
+use fixpoint::column_rails;
 use std::alloc::{AllocError, Global};
 
 /// The refusal of an undetermined gate that is observed, or else of a state that leaves the invariant, or else how

@@ -7,7 +7,7 @@ ghost use Rattle.bdd_store.specs.Growth.{GrowsWithin, NoOtherCause};
 ghost use Rattle.cyc_base.specs.Values.{bit};
 ghost use Rattle.dual_rail.specs.Rails.{AreRailsOf, value_of};
 ghost use Rattle.refusals.specs.Refusals.{may_start as may_start_with};
-ghost use Rattle.isolation.specs.Columns.{AreColumns};
+ghost use Rattle.fixpoint.specs.Columns.{AreColumns};
 ghost use Rattle.fixpoint.specs.Orders.{laid, order as order_of};
 ghost use Rattle.diagram_decision.specs.Sets.{Tells, starts, BoundsStarts};
 

@@ -1,12 +1,11 @@
 //! The decision of a netlist on a care set by diagrams alone, for all vectors at once (Malik 1994; Shiple, Berry and
 //! Touati 1996): sets of care vectors, netlists solved on them, the refusal of the least one, and the sweeps of loops.
 //!
-//! It stands on `fixpoint`, `isolation` and the diagrams below them, and on the definitions of `refusals`. The layers above
-//! use that `judge_on` and `count_from_columns` answer as the definitions say, with the nodes that they add, which loops are
-//! settled by themselves, and a netlist that is solved beside a set (`solve_beside`).
+//! It stands on `fixpoint` and the diagrams below it, and on the definitions of `refusals`. The layers above use that
+//! `judge_on` and `count_from_columns` answer as the definitions say, with the nodes that they add, and a netlist that is
+//! solved beside a set (`solve_beside`).
 #![tactic(auto)]
 
-mod alone;
 mod beginning;
 mod care;
 mod counting;
@@ -23,7 +22,6 @@ mod refusing;
 mod sets;
 mod solving;
 
-pub use alone::{LOOP_NODES, block_number, settled_loops};
 pub use care::{assume_on, invariant_on};
 pub use counting::{count_from_columns, counts_by_diagrams};
 pub use diagrams::{judge_by_diagrams, judge_on};

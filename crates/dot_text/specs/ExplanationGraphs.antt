@@ -1,14 +1,14 @@
 -- Why a wire is undetermined, as a graph: the loop in which its cycle lies and the way from it, with the wires between these
 -- gates, and at each gate of the cycle and of the way a box with the values on its pins that hold it open. What is unknown is
 -- red, and wires between gates of the cycle are bold.
-use Rattle.std.specs.Prelude.{ℕ, ◌==◌, ◌&&◌, ◌||◌, Bool, true, false, nat_le, List, [], ◌++◌, filter, slice_index, slice_index_or, codes, if◌then◌else◌}
+use Rattle.std.specs.Prelude.{ℕ, ◌<◌, ◌≤◌, ◌==◌, ◌&&◌, ◌||◌, Bool, true, false, nat_le, List, [], ◌++◌, length, All, filter, slice_index, slice_index_or, codes, if◌then◌else◌}
 use Rattle.std.specs.List.{flat_map, list_any}
 use Rattle.cyc_base.specs.declared.sig.Sig.{Sig}
 use Rattle.cyc_base.specs.declared.trit.Trit.{Trit}
 use Rattle.cyc_base.specs.declared.trit.Trit.TheVariants.{X}
 use Rattle.netlist.specs.declared.parts.Parts.{Parts}
 use Rattle.netlist.specs.Fixpoint.{wire as value_of}
-use Rattle.netlist.specs.Netlists.{gate_at, gate_sig, signal_name}
+use Rattle.netlist.specs.Netlists.{count, gate_at, gate_sig, signal_name}
 use Rattle.loops.specs.Cuts.{Loops}
 use Rattle.loops.specs.Found.{loops_of}
 use Rattle.loops.specs.Listed.{gate_numbers}
@@ -133,6 +133,14 @@ picture_of net values why = record {
   needs = why.needs;
   also = why.also;
 }
+
+-- it speaks of gates, signals and columns of the netlist
+pub record IsExplanationOf (net : Parts) (why : Explanation) : Type 0 where
+  pub cycle : All (λ gate. gate < length net.gates) why.cycle
+  pub sides : length why.sides ≤ count net
+  pub needs : length why.needs ≤ count net
+  pub way : All (λ gate. gate < length net.gates) why.way
+  pub also : length why.also ≤ count net
 
 -- the graph of why this wire is undetermined
 abbrev pub explanation_graph : Parts → Sig → List Trit → Explanation → List ℕ

@@ -6,7 +6,7 @@ ghost use Rattle.loops.specs.Found.{loops_of};
 ghost use Rattle.loops.specs.Listed.{gate_numbers};
 ghost use Rattle.netlist.specs.Fixpoint.{fix};
 ghost use Rattle.netlist.specs.Netlists.{count, IsNetlist, is_marked};
-ghost use Rattle.report.specs.Explanations.{IsExplanationOf};
+ghost use Rattle.dot_text.specs.ExplanationGraphs.{IsExplanationOf};
 ghost use Rattle.dot_text.specs.ExplanationGraphs.{picture_of};
 ghost use Rattle.dot_text.specs.Marks.{AreMarksOf};
 

@@ -11,7 +11,7 @@ ghost use Rattle.explanations.specs.declared.pins.Pin.TheVariants.{Free};
 ghost use Rattle.loops.specs.Found.{loops_of};
 ghost use Rattle.netlist.specs.Fixpoint.{fix, wire as value_of};
 ghost use Rattle.netlist.specs.Netlists.{IsNetlist, IsSignal, gate_sig, is_marked};
-ghost use Rattle.report.specs.Explanations.{IsExplanationOf};
+ghost use Rattle.dot_text.specs.ExplanationGraphs.{IsExplanationOf};
 ghost use Rattle.dot_text.specs.Dot.{box, labelled_graph, quoted};
 ghost use Rattle.dot_text.specs.ExplanationGraphs.{explanation_graph, gate_box, gate_node, gate_opens as gate_opens_of, gate_wire, held_at, is_held as is_held_by, need_at, picture, pin_line, pin_wire, pin_wires, style as style_of, unknown_style as unknown_style_of, value_line};
 ghost use Rattle.dot_text.specs.RefusalGraphs.{wire_label};

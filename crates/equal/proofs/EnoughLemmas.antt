@@ -1,6 +1,6 @@
 -- What a comparison costs, added up, and why it finds the diagrams full.
 use Rattle.std.proofs.Common.{◌≡◌, inl, inr, ℕ, ◌+◌, ◌*◌, ◌<◌, ◌≤◌, List, Err, Result, length, subst, ◌∙◌, arith}
-use Rattle.isolation.proofs.WidthLemmas.{effort-enough}
+use Rattle.fixpoint.proofs.EffortLemmas.{effort-enough}
 use Rattle.bdd_store.specs.declared.fault.StoreFault.{StoreFault}
 use Rattle.bdd_store.specs.declared.fault.StoreFault.TheVariants.{Full}
 use Rattle.equal.proofs.Common.{Arena, IsWide, Parts, CareSet, columns, Pair, IsLaidBy}

@@ -13,9 +13,8 @@ use crate::least::{Early, FEW_CONFLICTS};
 use crate::whole::are_never_apart;
 use clause_pairs::{Budget, PairSearch};
 use cyc_base::Bits;
-use feedback_cuts::find_cut;
+use feedback_cuts::NetlistLoops;
 use inner_pairs::{BUDGET, JoinedPairs, PairsTold, whole_scope};
-use loops::{LoopedNetlist, find_blocks};
 use miters::{joined_netlist, steering_columns};
 use netlist::Netlist;
 use std::alloc::{AllocError, Global};
@@ -105,9 +104,8 @@ impl<'a> AcceptedNetlists<'a> {
         requires { net.now ≡ joined self.now.a self.now.b [] }
         ensures { IfOk result (IsFound (difference self.now.a self.now.b self.now.care)) }
     {
-        let blocks = find_blocks(alloc, net)?;
-        let cut = find_cut(alloc, net, &blocks)?;
-        let looped = LoopedNetlist::new(net, &blocks, &cut);
+        let loops = NetlistLoops::find(alloc, net)?;
+        let looped = loops.looped();
         let scope = whole_scope(alloc, net)?;
         let joined = JoinedPairs {
             a: self.a,

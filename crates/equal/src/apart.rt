@@ -6,7 +6,7 @@ ghost use Rattle.bdd_store.specs.Growth.{GrowsWithin, NoOtherCause};
 ghost use Rattle.dual_rail.specs.WorkingLists.{IsWide};
 ghost use Rattle.care_sets.specs.Binding.{IsCareOf};
 ghost use Rattle.care_sets.specs.Care.{is_care_vector};
-ghost use Rattle.isolation.specs.Columns.{AreColumns};
+ghost use Rattle.fixpoint.specs.Columns.{AreColumns};
 ghost use Rattle.diagram_decision.specs.Causes.{IsOutOfNodes};
 ghost use Rattle.equal.specs.Comparisons.{AddsInComparison, IsBelowEnoughFor, IsFullFor, IsLaidBy, pairs_cost, whole_cost};
 ghost use Rattle.miters.specs.Pairs.{least_apart as least_apart_of};
@@ -20,7 +20,7 @@ use bdd_store::StoreFault;
 use cyc_base::{Bits, MAX_NODES};
 use diagram_decision::{Fixpoint, solve_beside};
 use dual_rail::Rails;
-use isolation::column_rails;
+use fixpoint::column_rails;
 use std::alloc::Global;
 use verdict::DecideFault;
 

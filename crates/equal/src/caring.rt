@@ -5,7 +5,7 @@ ghost use Rattle.netlist.specs.Netlists.{columns};
 ghost use Rattle.bdd_store.specs.Growth.{GrowsWithin};
 ghost use Rattle.dual_rail.specs.WorkingLists.{IsWide};
 ghost use Rattle.loops.specs.Looped.{IsLooped};
-ghost use Rattle.isolation.specs.Columns.{AreColumns};
+ghost use Rattle.fixpoint.specs.Columns.{AreColumns};
 ghost use Rattle.care_sets.specs.Binding.{IsCareOf};
 ghost use Rattle.care_sets.specs.Care.{is_care_vector};
 ghost use Rattle.diagram_decision.specs.Causes.{HasModelOver};

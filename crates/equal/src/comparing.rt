@@ -20,8 +20,7 @@ use crate::least::least_difference;
 use bdd_ops::Diagrams;
 use care_sets::Care;
 use cyc_base::MAX_NODES;
-use feedback_cuts::find_cut;
-use loops::find_blocks;
+use feedback_cuts::NetlistLoops;
 use miters::{Answer, at_difference, first_unmatched, rebind};
 use netlist::Netlist;
 use refusals::Refusal;
@@ -46,9 +45,10 @@ fn refusal_of(
     ensures below { result ≡ Err (EqualFault.NodeLimit limit) → IsBelowEnough net.now care.now limit }
 {
     net.laws();
-    let blocks = find_blocks(alloc, net)?;
-    let cut = find_cut(alloc, net, &blocks)?;
-    match judge(alloc, d, net, &blocks, &cut, care, limit, Observe::All) {
+    let loops = NetlistLoops::find(alloc, net)?;
+    let looped = loops.looped();
+    let (blocks, cut) = (looped.blocks(), looped.cut());
+    match judge(alloc, d, net, blocks, cut, care, limit, Observe::All) {
         Ok(Judgement::Accepted { .. }) => Ok(None),
         Ok(Judgement::Refused(refusal)) => Ok(Some(refusal)),
         Err(fault) => Err(fault_of(fault)),

@@ -28,10 +28,10 @@ use bdd_ops::Diagrams;
 use care_sets::Care;
 use clause_decision::{Found, least_unknown};
 use cyc_base::{Bits, MAX_NODES};
-use feedback_cuts::find_cut;
+use feedback_cuts::NetlistLoops;
 use fixpoint::order;
 use inner_pairs::whole_scope;
-use loops::{LoopedNetlist, find_blocks};
+use loops::find_blocks;
 use miters::{find_columns, joined_netlist, joined_pairs, miter_of, stands_in_first};
 use netlist::Netlist;
 use refusals::Refusal;
@@ -124,9 +124,10 @@ fn refusal_within(
 {
     net.laws();
     let mut d = Diagrams::new(alloc, 0, 1)?;
-    let blocks = find_blocks(alloc, net)?;
-    let cut = find_cut(alloc, net, &blocks)?;
-    let judged = judge(alloc, &mut d, net, &blocks, &cut, care, limit, Observe::All);
+    let loops = NetlistLoops::find(alloc, net)?;
+    let looped = loops.looped();
+    let (blocks, cut) = (looped.blocks(), looped.cut());
+    let judged = judge(alloc, &mut d, net, blocks, cut, care, limit, Observe::All);
     match &judged {
         Ok(judgement) => early_of(alloc, judgement),
         Err(DecideFault::NodeLimit { .. }) => Ok(Early::Nothing),
@@ -207,9 +208,8 @@ impl<'a> AcceptedNetlists<'a> {
         ensures { FindsLeast self.now limit d.new result }
     {
         let net = joined_netlist(alloc, self.a, self.b, self.columns)?;
-        let blocks = find_blocks(alloc, &net)?;
-        let cut = find_cut(alloc, &net, &blocks)?;
-        let looped = LoopedNetlist::new(&net, &blocks, &cut);
+        let loops = NetlistLoops::find(alloc, &net)?;
+        let looped = loops.looped();
         let order = order(alloc, self.a)?;
         let comparison = Comparison {
             looped: &looped,

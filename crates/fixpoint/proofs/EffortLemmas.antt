@@ -1,8 +1,8 @@
--- What an order of gates costs: at most the effort of its netlist.
-use Rattle.std.proofs.Common.{◌≡◌, ℕ, suc, ◌+◌, ◌<◌, ◌≤◌, true, List, [], ◌∷◌, length, take, get_or, refl, ◌∙◌, subst, arith, Contains, true≢false}
-use Rattle.fixpoint.proofs.Common.{get_or_default, sum_by-take-le, size, Parts, no_gate, ReadsUncut, IsInOrder, cost, order_cost, effort}
+-- What the gates of a netlist cost: an order of them at most its effort, and the effort at most what is enough.
+use Rattle.std.proofs.Common.{◌≡◌, ℕ, suc, ◌+◌, ◌*◌, ◌<◌, ◌≤◌, true, List, [], ◌∷◌, length, take, get_or, refl, ◌∙◌, subst, arith, Contains, true≢false}
+use Rattle.fixpoint.proofs.Common.{get_or_default, sum_by, sum_by-take-le, size, Gate, Parts, no_gate, ReadsUncut, IsInOrder, cost, order_cost, effort}
 use Rattle.std.proofs.lemmas.List.Elements.{recursion_from_All}
-use Rattle.std.proofs.lemmas.List.Sums.{sum_by_more_le}
+use Rattle.std.proofs.lemmas.List.Sums.{sum_by-cons, sum_by_more_le}
 use Rattle.std.specs.List.{slice_index}
 use Rattle.netlist.specs.Orders.{IsGateOrder}
 use Rattle.fixpoint.proofs.CostLemmas.{order-total, total-all}
@@ -34,3 +34,16 @@ part-effort net order is i = omega (arith, order-effort net order is, sum_by-tak
 pub next-effort : (net : Parts) (order : List ℕ) → IsGateOrder net order → (i : ℕ) → i < length order →
     order_cost net (take i order) + cost net (slice_index order i) ≤ effort net
 next-effort net order is i inside = omega (arith, order-effort net order is, sum_by_more_le (cost net) order i 0 inside)
+
+-- ---- the effort itself
+
+-- each gate counts one at least
+pub gates-effort : (gates : List Gate) → length gates ≤ sum_by (λ gate. size gate.cover + 1) gates
+gates-effort [] = omega arith
+gates-effort (gate ∷ gates) =
+    let sum = sum_by-cons (λ (g : Gate). size g.cover + 1) gate gates in
+    omega (arith, gates-effort gates, sum)
+
+-- a limit that is below the effort is below what is enough
+pub effort-enough : (limit e w gates v : ℕ) → limit < e → v + 1 ≤ w → limit < 16 * w * (gates + 2) * (e + v + 4)
+effort-enough limit e w gates v less wide = grind arith

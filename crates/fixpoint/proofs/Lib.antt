@@ -8,10 +8,13 @@ mod LoopLemmas
 mod BlockLemmas
 mod MinimumLemmas
 pub mod WorkLemmas
+pub mod ToldLemmas
+pub mod WorkingLemmas
+pub mod ColumnLemmas
 mod CostLemmas
 mod BoundLemmas
 mod SolutionLemmas
-mod EffortLemmas
+pub mod EffortLemmas
 mod LiftLemmas
 pub mod OrderLemmas
 pub mod LayoutLemmas

@@ -1,5 +1,6 @@
 -- The chapter: what the contracts of public functions say.
 pub mod Orders
+pub mod Columns
 pub mod Kept
 pub mod Solved
 pub mod Counts

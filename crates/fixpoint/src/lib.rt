@@ -3,11 +3,13 @@
 //! gate by gate.
 //!
 //! It stands on `dual_rail`, for the exact extension of covers on rails, and on `loops`, for blocks, cut
-//! wires and the laws of sweeps. The layer above uses that `solve` and `lift_gates` give the fixpoint at every
-//! vector, and `sweeps` for each loop the least number of sweeps after which it stands still on a care set.
+//! wires and the laws of sweeps. The layers above use that `solve` and `lift_gates` give the fixpoint at every
+//! vector, and `sweeps` for each loop the least number of sweeps after which it stands still on a care set;
+//! `column_rails` makes the rails of the vectors.
 #![tactic(auto)]
 
 mod clearing;
+mod columns;
 mod counting;
 mod keeping;
 mod kept;
@@ -20,6 +22,7 @@ mod solving;
 mod sweeping;
 mod wires;
 
+pub use columns::column_rails;
 pub use counting::sweeps;
 pub use kept::{KeptRails, keep_rails, rails_of};
 pub use layout::order;

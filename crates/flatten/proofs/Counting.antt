@@ -2,7 +2,7 @@
 use Rattle.std.proofs.Common.{◌≡◌, ◌⊎◌, ℕ, zero, suc, ◌+◌, ◌-◌, ◌<◌, ◌≤◌, ◌||◌, List, [], ◌∷◌, ◌++◌, length, length-append, drop, get_or, refl, ap, sym, subst, ◌∙◌, arith, Ok, Err, IfOk, IfErr, OnOk}
 use Rattle.flatten.proofs.Common.{list_any-append, list_any, bytes_eq, Result, BlifModel, PartLine, Item, Part, FlatFault, TooLarge, mark_of, Instance, model_at, entered, pairs_fault, find_model, Event, FlatLines, gate, latch, opens, fails, events, decided, then_gate, then_latch, flat_lines, drop-item, Memory, or-false}
 use Rattle.std.proofs.lemmas.List.{drop_all}
-use Rattle.flatten.specs.Counting.{left_by, AreOpen, entered_below, Leave, LeavesTo, FailsBy}
+use Rattle.flatten.specs.Counting.{left_by, AreOpen, entered_below, Leave, LeavesTo, FailsBy, HasLines}
 use Rattle.flatten.proofs.Stepping.{find_name}
 use Rattle.flatten.proofs.Waiting.{events_fault, inside, IsLine, line_at, events_line, events_open, entry_ok}
 use Rattle.flatten.proofs.Names.{or_open}
@@ -33,6 +33,17 @@ decided_fault (suc room) (gate g ∷ es) fault e = ap (then_gate g) (decided_fau
 decided_fault (suc room) (latch l ∷ es) fault e = ap (then_latch l) (decided_fault room es fault e)
 decided_fault zero (event ∷ es) fault e = fault_same TooLarge fault e
 decided_fault (suc room) (opens ∷ es) fault e = decided_fault room es fault e
+
+-- and a walk without a fault has lines
+decided_left : (room : ℕ) (es : List Event) (left : ℕ) → left_by room es ≡ Ok left → (lines : FlatLines) × (decided room es ≡ Ok lines)
+decided_left zero [] left e = (record { latches = []; gates = [] }, refl)
+decided_left (suc room) [] left e = (record { latches = []; gates = [] }, refl)
+decided_left zero (fails fault ∷ es) left e = absurd (cc)
+decided_left (suc room) (fails fault ∷ es) left e = absurd (cc)
+decided_left (suc room) (gate g ∷ es) left e = let behind = decided_left room es left e in (record { latches = behind.0.latches; gates = g ∷ behind.0.gates }, ap (then_gate g) behind.1)
+decided_left (suc room) (latch l ∷ es) left e = let behind = decided_left room es left e in (record { latches = l ∷ behind.0.latches; gates = behind.0.gates }, ap (then_latch l) behind.1)
+decided_left zero (event ∷ es) left e = absurd (cc)
+decided_left (suc room) (opens ∷ es) left e = decided_left room es left e
 
 -- one event
 left_open : (room : ℕ) (es : List Event) → 0 < room → left_by room (opens ∷ es) ≡ left_by (room - 1) es
@@ -127,3 +138,12 @@ fault_of_walk depth limit models i trail body fault e f h =
     let none : depth - 0 ≡ depth = omega arith in
     let are = subst (λ (ts : List ℕ). AreOpen models top ts []) (sym e) (top_alone models i) in
     grind (arith, decided_fault limit (events depth depth models top m [] 1 (model_at models i).body) fault)
+
+pub lines_of_walk : (depth limit : ℕ) (models : List BlifModel) (i : ℕ) (trail : List ℕ) (body : List Item) (left : ℕ) → trail ≡ i ∷ [] → body ≡ (model_at models i).body → Leave depth models trail body limit (Ok left) → HasLines depth limit models i
+lines_of_walk depth limit models i trail body left e f h =
+    let top = (model_at models i).name in
+    let m = mark_of models in
+    let none : depth - 0 ≡ depth = omega arith in
+    let are = subst (λ (ts : List ℕ). AreOpen models top ts []) (sym e) (top_alone models i) in
+    let whole : left_by limit (events depth depth models top m [] 1 (model_at models i).body) ≡ Ok left = rw (f, none) at (h top m [] 1 are) in
+    decided_left limit (events depth depth models top m [] 1 (model_at models i).body) left whole

@@ -1,11 +1,11 @@
 -- The walk on a list comes to what the walk by recursion comes to.
-use Rattle.std.proofs.Common.{length-append, ◌*◌, ◌≡◌, inl, inr, ℕ, zero, suc, ◌+◌, ◌-◌, ◌<◌, ◌≤◌, Bool, List, [], ◌∷◌, ◌++◌, length, drop, reverse, refl, ap, sym, ◌∙◌, subst, arith, append_assoc, Some, Ok, Err, All, map}
-use Rattle.flatten.proofs.Common.{list_any-append, list_any, Result, BlifModel, GateLine, LatchLine, PartLine, Part, FlatFault, TooLarge, Level, mark_of, Instance, no_model, model_at, entered, pairs_fault, find_model, Event, FlatLines, gate, latch, opens, fails, events, decided, then_gate, then_latch, flat_lines, gate_by, latch_by, passed_line, passed_part, PassesPart, append-nil, Item, bytes_eq-true, NestedModels, own_gates, own_latches}
+use Rattle.std.proofs.Common.{length-append, ◌*◌, ◌≡◌, ℕ, zero, suc, ◌+◌, ◌-◌, ◌<◌, ◌≤◌, Bool, List, [], ◌∷◌, ◌++◌, length, drop, reverse, refl, ap, sym, ◌∙◌, subst, arith, append_assoc, Some, None, Ok, Err, All, map}
+use Rattle.flatten.proofs.Common.{list_any-append, list_any, Option, Result, BlifModel, GateLine, LatchLine, PartLine, Part, FlatFault, TooLarge, Level, mark_of, Instance, no_model, model_at, entered, entry, pairs_fault, find_model, Event, FlatLines, gate, latch, opens, fails, events, decided, then_gate, then_latch, flat_lines, gate_by, latch_by, passed_line, passed_part, PassesPart, append-nil, Item, bytes_eq-true, NestedModels, own_gates, own_latches}
 use Rattle.std.proofs.lemmas.Grind.{reverse_onto}
 use Rattle.std.proofs.lemmas.List.{reverse-append, length-reverse, reverse-reverse}
 use Rattle.blif_read.specs.Find.{has_name}
 use Rattle.flatten.specs.declared.walk.Walk.{Walk}
-use Rattle.flatten.specs.Levels.{entered_on, Waits, remaining, then_lines, PutsBack, PartFails, WalkingAt, WalkingWith, Goes, IsBegun, AddsLine, PassesLine}
+use Rattle.flatten.specs.Levels.{entered_on, Waits, remaining, then_lines, FitsSome, CanEnter, PutsBack, WalkingAt, WalkingWith, Goes, IsBegun, AddsLine, PassesLine}
 use Rattle.flatten.proofs.Waiting.{waits_size, waits_open, waits_within, top_of, end_step, fault_step, opens_step, open_step, IsLine, line_by, StandsAt, entry_ok, line_step}
 use Rattle.flatten.proofs.Names.{or_open}
 use Rattle.std.proofs.lemmas.List.Quantifiers.{position-Some}
@@ -105,14 +105,49 @@ module _ (h : NestedModels) (walk : Walk) (l : Level) (top : List ℕ) (answer :
       ∙ ap (then_lines walk.latches.items walk.gates.items) (no_room l.scope.prefix l.scope.table.entries x n.0)
       ∙ ap (λ f. Err f) (sym full.1)
 
-  pub fails_at_part : (p : PartLine) → StandsAt h.models l (Part p) → (fault : FlatFault) → PartFails h.depth h.models walk l p fault → answer ≡ Err fault
-  fails_at_part p e fault (inl f) =
+  refused_at_part : (p : PartLine) → StandsAt h.models l (Part p) → (fault : FlatFault) → entered_on h.depth h.models walk.levels.items l p ≡ Err fault → answer ≡ Err fault
+  refused_at_part p e fault f =
       let n = fault_step h.depth h.models top (mark_of h.models) l (reverse walk.levels.items) w.path w.rest p fault waits_at e (sym (entered_same p) ∙ f) in
       w.answers ∙ ap (λ es. then_lines walk.latches.items walk.gates.items (decided walk.room es)) n.1 ∙ fails_at walk.room fault n.0 walk.latches.items walk.gates.items
-  fails_at_part p e fault (inr f) = grind (arith, opens_step h.depth h.models top (mark_of h.models) l (reverse walk.levels.items) w.path w.rest p f.2.0 waits_at, waits_at, entered_same p)
 
-pub goes_at : (h : NestedModels) (walk : Walk) (l : Level) → Goes h walk l → (l.model < length h.models) × (l.parts ≤ l.next) × All (λ x. x.model < length h.models) walk.levels.items
-goes_at h walk l goes = walking_at h walk l goes.0 goes.1.0 goes.1.1
+  full_at_part : (p : PartLine) → StandsAt h.models l (Part p) → (i : ℕ) → entered_on h.depth h.models walk.levels.items l p ≡ Ok i → walk.room ≡ 0 → answer ≡ Err TooLarge
+  full_at_part p e i k none = grind (arith, opens_step h.depth h.models top (mark_of h.models) l (reverse walk.levels.items) w.path w.rest p i waits_at, waits_at, entered_same p)
+
+  -- where the walk has lines, there is room for each line, and each instance can be entered
+  module _ (lines : FlatLines) (is : answer ≡ Ok lines) where
+    some_room : (room : ℕ) → (room ≡ 0 → answer ≡ Err TooLarge) → 0 < room
+    some_room zero full = let e = full refl in absurd (cc)
+    some_room (suc room) full = omega arith
+
+    room_at_line : (x : Item) → IsLine x → StandsAt h.models l x → 0 < walk.room
+    room_at_line x line e = some_room walk.room (λ none. full_at_line x line e TooLarge (none, refl))
+
+    enters_by : (p : PartLine) → StandsAt h.models l (Part p) → (r : Result ℕ FlatFault) → entered_on h.depth h.models walk.levels.items l p ≡ r → (0 < walk.room) × CanEnter h.depth h.models walk.levels.items l p
+    enters_by p e (Err fault) k = let refused = refused_at_part p e fault k in absurd (cc)
+    enters_by p e (Ok i) k = (some_room walk.room (full_at_part p e i k), (i, k))
+
+pub goes_at : (h : NestedModels) (walk : Walk) (l : Level) → Goes h walk l → (l.model < length h.models) × (l.parts ≤ l.next)
+goes_at h walk l goes = let at = walking_at h walk l goes.0 (Ok goes.1.0) goes.1.1 in (at.0, at.1)
+
+pub room_for_line : (h : NestedModels) (walk : Walk) (l : Level) → Goes h walk l → (x : Item) → IsLine x → StandsAt h.models l x → 0 < walk.room
+room_for_line h walk l goes x = room_at_line h walk l goes.0 (Ok goes.1.0) goes.1.1 goes.1.0 refl x
+
+pub enters_at : (h : NestedModels) (walk : Walk) (l : Level) → Goes h walk l → (p : PartLine) → StandsAt h.models l (Part p) → (0 < walk.room) × CanEnter h.depth h.models walk.levels.items l p
+enters_at h walk l goes p e = enters_by h walk l goes.0 (Ok goes.1.0) goes.1.1 goes.1.0 refl p e (entered_on h.depth h.models walk.levels.items l p) refl
+
+-- an instance that can be entered has a model, and its pairs fit
+entry_fits : (name : List ℕ) (a b : Bool) (f : ℕ → Option FlatFault) (x : Option ℕ) (i : ℕ) → entry name a b f x ≡ Ok i → (x ≡ Some i) × (f i ≡ None)
+entry_fits name a b f x i e = grind arith
+
+module _ (depth : ℕ) (models : List BlifModel) (below : List Level) (level : Level) (p : PartLine) (can : CanEnter depth models below level p) where
+  found : (find_model models p.model ≡ Some can.0) × (pairs_fault (model_at models can.0) p.pairs ≡ None)
+  found = entry_fits p.model _ _ (λ i. pairs_fault (model_at models i) p.pairs) (find_model models p.model) can.0 can.1
+
+  pub fits_some : FitsSome models p
+  fits_some = (can.0, found.0, found.1)
+
+  pub entered_at : (i : ℕ) → find_model models p.model ≡ Some i → entered_on depth models below level p ≡ Ok i
+  entered_at i e = let same : can.0 ≡ i = (let both = found.0 in cc) in subst (λ (j : ℕ). entered_on depth models below level p ≡ Ok j) same can.1
 
 -- a line that was added, and its level put back
 pub line_passed : (old mid new : Walk) (level : Level) (x : Item) → AddsLine old level.scope x mid → PutsBack mid level new → PassesLine old level x new

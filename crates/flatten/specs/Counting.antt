@@ -1,5 +1,5 @@
 -- How many more gates, latches and instances may come behind a part of the walk.
-use Rattle.std.specs.Prelude.{◌≡◌, ◌-◌, nat_lt, ℕ, zero, suc, List, [], ◌∷◌, length, All, None, Some, Ok, Err}
+use Rattle.std.specs.Prelude.{◌≡◌, ◌-◌, nat_lt, ℕ, Bool, zero, suc, List, [], ◌∷◌, length, All, None, Some, Ok, Err}
 use Rattle.std.specs.declared.result.Result.{Result}
 use Rattle.std.specs.List.{list_any}
 use Rattle.std.specs.Str.{bytes_eq}
@@ -11,7 +11,7 @@ use Rattle.flatten.specs.declared.fault.FlatFault.{FlatFault}
 use Rattle.flatten.specs.declared.fault.FlatFault.TheVariants.{TooLarge}
 use Rattle.flatten.specs.Paths.{Instance}
 use Rattle.flatten.specs.Instances.{find_model, model_at, is_open, entry, pairs_fault}
-use Rattle.flatten.specs.Walk.{Event, gate, latch, opens, fails, events}
+use Rattle.flatten.specs.Walk.{Event, FlatLines, gate, latch, opens, fails, events, flat_lines}
 
 -- the room that is left behind these events, or their first fault
 abbrev pub left_by : ℕ → List Event → Result ℕ FlatFault
@@ -35,6 +35,10 @@ entered_below depth models trail part =
     entry part.model (list_any (λ i. bytes_eq (model_at models i).name part.model) trail) (nat_lt depth (length trail))
     (λ i. pairs_fault (model_at models i) part.pairs) (find_model models part.model)
 
+-- the place of the model of an instance, before its pairs are looked at
+abbrev pub chosen : List BlifModel → List ℕ → Bool → Bool → Result ℕ FlatFault
+chosen models name opened deep = entry name opened deep (λ i. None) (find_model models name)
+
 -- the pairs of an instance have no fault; the same of each instance in the file
 abbrev pub Fits : List BlifModel → Item → Type 0
 Fits models (Gate g) = Unit {0}
@@ -57,3 +61,7 @@ LeavesTo depth models trail item room left =
 
 abbrev pub FailsBy : ℕ → List BlifModel → List ℕ → Item → ℕ → FlatFault → Type 0
 FailsBy depth models trail item room fault = (rest : List Item) → Leave depth models trail (item ∷ rest) room (Err fault)
+
+-- the walk below the model at this place has no fault
+abbrev pub HasLines : ℕ → ℕ → List BlifModel → ℕ → Type 0
+HasLines depth limit models top = (lines : FlatLines) × (flat_lines depth limit models top ≡ Ok lines)

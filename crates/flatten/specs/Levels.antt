@@ -1,5 +1,5 @@
 -- The walk on a list: the instances that are open, and what is still to come.
-use Rattle.std.specs.Prelude.{◌*◌, ◌^◌, ◌≡◌, ◌≢◌, ℕ, suc, ◌+◌, ◌-◌, ◌<◌, ◌≤◌, ◌⊎◌, ◌||◌, nat_le, Bool, List, [], ◌∷◌, ◌++◌, length, map, drop, reverse, None, Ok, Err, option_map}
+use Rattle.std.specs.Prelude.{◌*◌, ◌^◌, ◌≡◌, ◌≢◌, ℕ, suc, ◌+◌, ◌-◌, ◌<◌, ◌≤◌, ◌||◌, nat_le, List, [], ◌∷◌, ◌++◌, length, map, drop, reverse, Some, None, Ok, Err, option_map}
 use Rattle.std.specs.List.{list_any}
 use Rattle.std.specs.Str.{bytes_eq}
 use Rattle.std.specs.Fmt.{decimal}
@@ -11,7 +11,6 @@ use Rattle.blif_read.specs.declared.models.LatchLine.{LatchLine}
 use Rattle.blif_read.specs.declared.models.PartLine.{PartLine}
 use Rattle.blif_read.specs.declared.models.Item.{Item}
 use Rattle.flatten.specs.declared.fault.FlatFault.{FlatFault}
-use Rattle.flatten.specs.declared.fault.FlatFault.TheVariants.{TooLarge}
 use Rattle.flatten.specs.declared.scope.NameScope.{NameScope}
 use Rattle.flatten.specs.declared.walk.Level.{Level}
 use Rattle.flatten.specs.declared.walk.FlatBody.{FlatBody}
@@ -50,9 +49,13 @@ entered_on depth models below level part =
     (bytes_eq (model_at models level.model).name part.model || list_any (λ l. bytes_eq (model_at models l.model).name part.model) below)
     (nat_le depth (length below)) (λ i. pairs_fault (model_at models i) part.pairs) (find_model models part.model)
 
--- the same before the pairs of an instance are looked at
-abbrev pub chosen : List BlifModel → List ℕ → Bool → Bool → Result ℕ FlatFault
-chosen models name opened deep = entry name opened deep (λ i. None) (find_model models name)
+-- the instance can be entered there
+abbrev pub CanEnter : ℕ → List BlifModel → List Level → Level → PartLine → Type 0
+CanEnter depth models below level part = (i : ℕ) × (entered_on depth models below level part ≡ Ok i)
+
+-- the model of the instance is in the file, and its pairs have no fault
+abbrev pub FitsSome : List BlifModel → PartLine → Type 0
+FitsSome models part = (i : ℕ) × (find_model models part.model ≡ Some i) × (pairs_fault (model_at models i) part.pairs ≡ None)
 
 -- a level behind its next gate or latch, and behind its next instance
 abbrev pub passed_line : Level → Level
@@ -142,12 +145,6 @@ pub record PassesPart (depth : ℕ) (models : List BlifModel) (m : List ℕ) (ol
   pub latches : new.latches.items ≡ old.latches.items
   pub gates : new.gates.items ≡ old.gates.items
 
--- where an instance fails: it can't be entered, or there is no room left
-abbrev pub PartFails : ℕ → List BlifModel → Walk → Level → PartLine → FlatFault → Type 0
-PartFails depth models old level part fault =
-    (entered_on depth models old.levels.items level part ≡ Err fault)
-    ⊎ ((old.room ≡ 0) × (fault ≡ TooLarge) × ((i : ℕ) × (entered_on depth models old.levels.items level part ≡ Ok i)))
-
 -- the walk at these values
 abbrev pub WalkingAt : ℕ → List BlifModel → List ℕ → List ℕ → Result FlatLines FlatFault → Walk → Type 0
 WalkingAt depth models top m answer walk =
@@ -158,21 +155,16 @@ abbrev pub WalkingWith : ℕ → List BlifModel → List ℕ → List ℕ → Re
 WalkingWith depth models top m answer walk level =
     Walking depth models top m (walk.levels.items ++ (level ∷ [])) walk.latches.items walk.gates.items walk.room answer
 
--- a walk that was begun somewhere
+-- a walk that was begun somewhere, and has no fault
 abbrev pub Goes : NestedModels → Walk → Level → Type 0
 Goes h walk level =
-    (top : List ℕ) × ((answer : Result FlatLines FlatFault) × WalkingWith h.depth h.models top (mark_of h.models) answer walk level)
+    (top : List ℕ) × ((lines : FlatLines) × WalkingWith h.depth h.models top (mark_of h.models) (Ok lines) walk level)
 
 -- a step leads on, and less is left to do
 abbrev pub StepsOn : NestedModels → Walk → Level → Walk → Type 0
 StepsOn h old level new =
     (top : List ℕ) (answer : Result FlatLines FlatFault) → WalkingWith h.depth h.models top (mark_of h.models) answer old level
     → WalkingAt h.depth h.models top (mark_of h.models) answer new × (new.room * 2 + length new.levels.items < old.room * 2 + (length old.levels.items + 1))
-
--- a step comes to the fault that is the answer
-abbrev pub StepsTo : NestedModels → Walk → Level → FlatFault → Type 0
-StepsTo h old level fault =
-    (top : List ℕ) (answer : Result FlatLines FlatFault) → WalkingWith h.depth h.models top (mark_of h.models) answer old level → answer ≡ Err fault
 
 -- a walk that stands before the first item of the model at this place
 pub record IsBegun (model room : ℕ) (walk : Walk) : Type 0 where

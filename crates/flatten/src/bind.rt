@@ -5,13 +5,11 @@ ghost use Rattle.flatten.specs.declared.fault.FlatFault.TheVariants.{OpenInput};
 ghost use Rattle.flatten.specs.Paths.{actual_of};
 ghost use Rattle.flatten.specs.Instances.{model_at, formal_fault, pair_fault, first_open as first_open_by, pairs_fault};
 ghost use Rattle.flatten.specs.Laws.{resolved, bound};
-ghost use Rattle.flatten.specs.Levels.{chosen, entered_on};
 
 use crate::fault::FlatFault;
 use crate::hierarchy::Hierarchy;
 use crate::scope::{NameScope, resolve};
-use crate::walk::Level;
-use blif_read::{BlifModel, PartLine};
+use blif_read::BlifModel;
 use cyc_base::Name;
 use indexmap::{IndexMap, IndexSet};
 use std::alloc::{AllocError, Global};
@@ -77,24 +75,6 @@ fn bind_pairs(
     Ok(())
 }
 
-/// The table of an instance: each formal with the printed name of its actual.
-fn bind(
-    alloc: Global,
-    scope: &NameScope,
-    formals: &IndexSet<Name>,
-    pairs: &[(Name, Name)],
-) -> Result<IndexMap<Name, Name>, FlatFault>
-    ensures table { IfOk result
-        (λ table. table.entries ≡ bound scope.now.prefix scope.now.table.entries pairs.now) }
-    ensures fits { OnOk result (pair_fault formals.now.keys [] pairs.now ≡ None) }
-    ensures fault { IfErr result
-        (λ fault. (fault ≡ FlatFault.Memory) ⊎ (pair_fault formals.now.keys [] pairs.now ≡ Some fault)) }
-{
-    let mut table = IndexMap::new(alloc);
-    bind_pairs(alloc, scope, formals, &mut table, pairs)?;
-    Ok(table)
-}
-
 /// The first input, or else the first clock, of the model that the table doesn't have.
 fn first_open<'a>(table: &IndexMap<Name, Name>, model: &'a BlifModel) -> Option<&'a Name>
     ensures { option_copied result ≡ first_open_by table.now.entries (model.now.inputs ++ model.now.clocks) }
@@ -117,90 +97,24 @@ fn check_open(table: &IndexMap<Name, Name>, model: &BlifModel) -> Result<(), Fla
     }
 }
 
-/// The table of an instance of the model at this place that binds each input and each clock of it.
-pub(crate) fn full_table(
+/// Fills the table of an instance of the model at this place: each formal with the printed name of its actual. It is to bind
+/// each input and each clock of the model.
+pub(crate) fn fill_table(
     alloc: Global,
     hierarchy: &Hierarchy<'_>,
     scope: &NameScope,
     place: usize,
     pairs: &[(Name, Name)],
-) -> Result<IndexMap<Name, Name>, FlatFault>
-    requires { place < length hierarchy.now.models }
-    ensures table { IfOk result
-        (λ table. table.entries ≡ bound scope.now.prefix scope.now.table.entries pairs.now) }
+    table: &mut IndexMap<Name, Name>,
+) -> Result<(), FlatFault>
+    requires place { place < length hierarchy.now.models }
+    requires table { table.old.entries ≡ [] }
+    ensures table { OnOk result
+        (table.new.entries ≡ bound scope.now.prefix scope.now.table.entries pairs.now) }
     ensures fits { OnOk result (pairs_fault (model_at hierarchy.now.models place) pairs.now ≡ None) }
     ensures fault { IfErr result (λ fault. (fault ≡ FlatFault.Memory)
         ⊎ (pairs_fault (model_at hierarchy.now.models place) pairs.now ≡ Some fault)) }
 {
-    let table = bind(alloc, scope, hierarchy.formals(place), pairs)?;
-    check_open(&table, hierarchy.model(place))?;
-    Ok(table)
-}
-
-fn is_open(hierarchy: &Hierarchy<'_>, levels: &[Level], name: &Name) -> bool
-    requires { All (λ l. l.model < length hierarchy.now.models) levels.now }
-    ensures { result ≡ list_any (λ l. bytes_eq (model_at hierarchy.now.models l.model).name name.now) levels.now }
-{
-    levels
-        .iter()
-        .any(|level| hierarchy.model(level.model).name == *name)
-}
-
-/// Whether the model of this name is that of the level or of one below it.
-fn stands_in(hierarchy: &Hierarchy<'_>, below: &[Level], level: &Level, name: &Name) -> bool
-    requires within { All (λ l. l.model < length hierarchy.now.models) below.now }
-    requires here { level.now.model < length hierarchy.now.models }
-    ensures { result ≡ (bytes_eq (model_at hierarchy.now.models level.now.model).name name.now
-        || list_any (λ l. bytes_eq (model_at hierarchy.now.models l.model).name name.now) below.now) }
-{
-    hierarchy.model(level.model).name == *name || is_open(hierarchy, below, name)
-}
-
-/// The place of the model of this name, which is to be neither open nor too deep.
-pub(crate) fn choose(
-    hierarchy: &Hierarchy<'_>,
-    name: &Name,
-    opened: bool,
-    deep: bool,
-) -> Result<usize, FlatFault>
-    ensures model { IfOk result (λ i. chosen hierarchy.now.models name.now opened deep ≡ Ok i) }
-    ensures within { IfOk result (λ i. i < length hierarchy.now.models) }
-    ensures fault { IfErr result (λ fault. (fault ≡ FlatFault.Memory)
-        ⊎ (chosen hierarchy.now.models name.now opened deep ≡ Err fault)) }
-{
-    let Some(model) = hierarchy.find(name) else {
-        return Err(FlatFault::UnknownModel { name: name.copy()? });
-    };
-    if opened {
-        return Err(FlatFault::Recursive { name: name.copy()? });
-    }
-    if deep {
-        return Err(FlatFault::TooDeep { name: name.copy()? });
-    }
-    Ok(model)
-}
-
-/// The place of the instance's model, and its table. The instance stands in `level`, and the levels below it
-/// are open too.
-pub(crate) fn enter(
-    alloc: Global,
-    hierarchy: &Hierarchy<'_>,
-    below: &[Level],
-    level: &Level,
-    part: &PartLine,
-) -> Result<(usize, IndexMap<Name, Name>), FlatFault>
-    requires within { All (λ l. l.model < length hierarchy.now.models) below.now }
-    requires here { level.now.model < length hierarchy.now.models }
-    ensures model { IfOk result
-        (λ inner. entered_on hierarchy.now.depth hierarchy.now.models below.now level.now part.now ≡ Ok inner.0) }
-    ensures table { IfOk result
-        (λ inner. inner.1.entries ≡ bound level.now.scope.prefix level.now.scope.table.entries part.now.pairs) }
-    ensures fault { IfErr result (λ fault. (fault ≡ FlatFault.Memory)
-        ⊎ (entered_on hierarchy.now.depth hierarchy.now.models below.now level.now part.now ≡ Err fault)) }
-{
-    let name = &part.model;
-    let opened = stands_in(hierarchy, below, level, name);
-    let model = choose(hierarchy, name, opened, hierarchy.depth() <= below.len())?;
-    let table = full_table(alloc, hierarchy, &level.scope, model, part.pairs.items())?;
-    Ok((model, table))
+    bind_pairs(alloc, scope, hierarchy.formals(place), table, pairs)?;
+    check_open(table, hierarchy.model(place))
 }

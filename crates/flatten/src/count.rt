@@ -8,14 +8,15 @@ ghost use Rattle.std.specs.Str.{bytes_eq};
 ghost use Rattle.blif_read.specs.declared.models.Item.TheVariants.{Part};
 ghost use Rattle.flatten.specs.Instances.{model_at, pairs_fault};
 ghost use Rattle.flatten.specs.Walk.{flat_lines as flat_lines_by};
-ghost use Rattle.flatten.specs.Counting.{Fits, AllFit, entered_below, Leave, LeavesTo, FailsBy};
+ghost use Rattle.flatten.specs.Counting.{Fits, AllFit, entered_below, chosen, Leave, LeavesTo, FailsBy, HasLines};
 
-use crate::bind::{choose, full_table};
+use crate::bind::fill_table;
 use crate::fault::FlatFault;
 use crate::hierarchy::Hierarchy;
 use crate::scope::top_scope;
 use blif_read::{Item, PartLine};
 use cyc_base::Name;
+use indexmap::IndexMap;
 use std::alloc::Global;
 
 /// Whether the model of this name is open.
@@ -40,20 +41,27 @@ fn check_pairs(
     ensures fault { IfErr result (λ fault. (fault ≡ FlatFault.Memory)
         ⊎ (pairs_fault (model_at hierarchy.now.models model) pairs.now ≡ Some fault)) }
 {
-    let _table = full_table(alloc, hierarchy, &top_scope(alloc), model, pairs)?;
-    Ok(())
+    let mut table = IndexMap::new(alloc);
+    fill_table(
+        alloc,
+        hierarchy,
+        &top_scope(alloc),
+        model,
+        pairs,
+        &mut table,
+    )
 }
 
 /// Whether the pairs of an instance are found to have no fault.
 fn fits(alloc: Global, hierarchy: &Hierarchy<'_>, item: &Item) -> bool
     ensures { result ≡ true → Fits hierarchy.now.models item.now }
 {
-    let Item::Part(part) = item else {
-        return true;
-    };
-    match hierarchy.find(&part.model) {
-        Some(model) => check_pairs(alloc, hierarchy, model, part.pairs.items()).is_ok(),
-        None => false,
+    match item {
+        Item::Gate(_) | Item::Latch(_) => true,
+        Item::Part(part) => match hierarchy.find(&part.model) {
+            Some(model) => check_pairs(alloc, hierarchy, model, part.pairs.items()).is_ok(),
+            None => false,
+        },
     }
 }
 
@@ -91,6 +99,26 @@ fn check_unknown_pairs(
         return Ok(());
     }
     check_pairs(alloc, hierarchy, model, pairs)
+}
+
+/// The place of the model of this name, which is to be neither open nor too deep.
+fn choose(
+    hierarchy: &Hierarchy<'_>,
+    name: &Name,
+    opened: bool,
+    deep: bool,
+) -> Result<usize, FlatFault>
+    ensures model { IfOk result (λ i. chosen hierarchy.now.models name.now opened deep ≡ Ok i) }
+    ensures within { IfOk result (λ i. i < length hierarchy.now.models) }
+    ensures fault { IfErr result (λ fault. (fault ≡ FlatFault.Memory)
+        ⊎ (chosen hierarchy.now.models name.now opened deep ≡ Err fault)) }
+{
+    match hierarchy.find(name) {
+        None => Err(FlatFault::UnknownModel { name: name.copy()? }),
+        Some(_) if opened => Err(FlatFault::Recursive { name: name.copy()? }),
+        Some(_) if deep => Err(FlatFault::TooDeep { name: name.copy()? }),
+        Some(model) => Ok(model),
+    }
 }
 
 /// The place of the model of an instance that can be entered. Its pairs are looked at unless all are known to fit.
@@ -207,7 +235,7 @@ fn room_behind(
     Ok(left)
 }
 
-/// That the walk below the model at this place has no fault, as `flat_lines` finds it. No line is made.
+/// That the walk below the model at this place has no fault. No line is made.
 pub(crate) fn check_walk(
     alloc: Global,
     hierarchy: &Hierarchy<'_>,
@@ -215,7 +243,8 @@ pub(crate) fn check_walk(
     limit: u32,
 ) -> Result<(), FlatFault>
     requires top { top < length hierarchy.now.models }
-    ensures { IfErr result
+    ensures lines { OnOk result (HasLines hierarchy.now.depth limit hierarchy.now.models top) }
+    ensures fault { IfErr result
         (λ fault. (fault ≡ FlatFault.Memory)
         ⊎ (flat_lines_by hierarchy.now.depth limit hierarchy.now.models top ≡ Err fault)) }
 {

@@ -55,7 +55,7 @@ fn flat_parts(
     hierarchy.laws();
     check_walk(alloc, hierarchy, place, limit)?;
     let lines = flat_lines(alloc, hierarchy, place, limit)?;
-    Ok(link(alloc, hierarchy.model(place), lines)?)
+    link(alloc, hierarchy.model(place), lines)
 }
 
 /// The parts of the flat netlist of the model of this name.

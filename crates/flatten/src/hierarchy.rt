@@ -16,12 +16,22 @@ use std::alloc::{AllocError, Global};
 use std::marker::Model;
 
 /// The models of a file, and how many instances may lie in one another.
-#[derive(Drop)]
 pub(crate) struct Hierarchy<'a> {
     models: &'a [BlifModel],
     library: Library,
     mark: Name,
     depth: usize,
+}
+
+impl<'a> Drop for Hierarchy<'a> {
+    fn drop(self) {
+        let Hierarchy {
+            models: _,
+            library: _,
+            mark: _,
+            depth: _,
+        } = self;
+    }
 }
 
 impl<'a> Model for Hierarchy<'a> {

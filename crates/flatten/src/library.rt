@@ -1,4 +1,4 @@
-ghost use Rattle.std.specs.Prelude.{◌≡◌, [], not, map, fold, IfOk, OnOk};
+ghost use Rattle.std.specs.Prelude.{◌≡◌, ◌++◌, [], ◌∷◌, not, map, fold, IfOk, OnOk};
 ghost use Rattle.std.specs.List.{IsDistinct};
 ghost use Rattle.std.specs.Str.{bytes_eq};
 ghost use Rattle.flatten.specs.Instances.{formals, is_among};
@@ -66,34 +66,29 @@ fn formals_of(alloc: Global, model: &BlifModel) -> Result<IndexSet<Name>, AllocE
     Ok(set)
 }
 
-fn all_formals(alloc: Global, models: &[BlifModel]) -> Result<Vec<IndexSet<Name>>, AllocError>
-    ensures { IfOk result (λ sets.
-        map (λ set. set.keys) sets.items ≡ map (λ model. each_once (formals model)) models.now) }
+/// Adds a model: its name, and what its instances may bind.
+fn add_model(alloc: Global, library: &mut Library, model: &BlifModel) -> Result<(), AllocError>
+    ensures places { OnOk result (library.new.places.keys ≡ insert_key bytes_eq library.old.places.keys model.now.name) }
+    ensures formals { OnOk result
+        (map (λ set. set.keys) library.new.formals.items ≡ map (λ set. set.keys) library.old.formals.items ++ each_once (formals model.now) ∷ []) }
 {
-    let mut sets = Vec::with_capacity(alloc, models.len())?;
-    for model in models {
-        sets.push(formals_of(alloc, model)?)?;
-    }
-    Ok(sets)
-}
-
-#[tactic(auto, using(crate::proofs::Libraries::names_taken))]
-fn add_model_names(set: &mut IndexSet<Name>, models: &[BlifModel]) -> Result<(), AllocError>
-    requires { set.old.keys ≡ [] }
-    ensures { OnOk result (set.new.keys ≡ each_once (map (λ model. model.name) models.now)) }
-{
-    for model in models {
-        add_copy(set, &model.name)?;
-    }
+    add_copy(&mut library.places, &model.name)?;
+    library.formals.push(formals_of(alloc, model)?)?;
     Ok(())
 }
 
-fn places_of(alloc: Global, models: &[BlifModel]) -> Result<IndexSet<Name>, AllocError>
-    ensures { IfOk result (λ set. set.keys ≡ each_once (map (λ model. model.name) models.now)) }
+#[tactic(auto, using(crate::proofs::Libraries::names_taken))]
+fn add_models(alloc: Global, library: &mut Library, models: &[BlifModel]) -> Result<(), AllocError>
+    requires places { library.old.places.keys ≡ [] }
+    requires formals { library.old.formals.items ≡ [] }
+    ensures places { OnOk result (library.new.places.keys ≡ each_once (map (λ model. model.name) models.now)) }
+    ensures formals { OnOk result
+        (map (λ set. set.keys) library.new.formals.items ≡ map (λ model. each_once (formals model)) models.now) }
 {
-    let mut set = IndexSet::new(alloc);
-    add_model_names(&mut set, models)?;
-    Ok(set)
+    for model in models {
+        add_model(alloc, library, model)?;
+    }
+    Ok(())
 }
 
 /// The tables of these models.
@@ -101,7 +96,11 @@ pub(crate) fn library_of(alloc: Global, models: &[BlifModel]) -> Result<Library,
     requires { IsDistinct bytes_eq (map (λ model. model.name) models.now) }
     ensures { IfOk result (λ library. IsLibraryOf models.now library) }
 {
-    let places = places_of(alloc, models)?;
-    let formals = all_formals(alloc, models)?;
-    Ok(Library { places, formals })
+    let formals = Vec::with_capacity(alloc, models.len())?;
+    let mut library = Library {
+        places: IndexSet::new(alloc),
+        formals,
+    };
+    add_models(alloc, &mut library, models)?;
+    Ok(library)
 }

@@ -4,7 +4,6 @@ ghost use Rattle.std.specs.Option.{option_or};
 ghost use Rattle.flatten.specs.Linking.{reads, drivers, own_clocks, twice_after, first_twice, edge_eq, has_control, first_control as first_control_by, is_clock_of, has_bad_control, is_other_control, has_other_control, declared_twice, driven_twice, latch_with, gate_with, netlist_by, linked};
 ghost use Rattle.flatten.specs.Drivers.{IsDriversOf, HasSignals, sig_of_place as sig_of_place_by, sig_or, undriven_among, bad_clock_among, AreRead};
 ghost use Rattle.flatten.specs.Levels.{lines_of};
-ghost use Rattle.flatten.specs.Walk.{FlatLines};
 
 use crate::fault::FlatFault;
 use crate::library::{add_all, add_copy};
@@ -15,6 +14,7 @@ use cyc_base::{Items, MAX_FLAT_ITEMS, Name, Sig};
 use indexmap::IndexSet;
 use netlist::{Clock, Edge, Gate, Latch, Parts};
 use std::alloc::{AllocError, Global};
+use std::mem;
 
 /// The drivers of a flat netlist, in their order: the top's inputs, its clocks that aren't inputs, the latches
 /// and the gates. The clocks are no signals.
@@ -50,46 +50,35 @@ fn declare(set: &mut IndexSet<Name>, names: &[Name]) -> Result<(), FlatFault>
     Ok(())
 }
 
-/// The names that a line of the top declares, all of them different.
-fn declared_names(alloc: Global, names: &[Name]) -> Result<IndexSet<Name>, FlatFault>
-    ensures all { IfOk result (λ set. set.keys ≡ names.now) }
-    ensures once { OnOk result (first_twice names.now ≡ None) }
+/// That no name stands twice among the outputs of the top.
+fn check_outputs(alloc: Global, top: &BlifModel) -> Result<(), FlatFault>
+    ensures once { OnOk result (first_twice top.now.outputs ≡ None) }
     ensures fault { IfErr result (λ fault. (fault ≡ FlatFault.Memory)
-        ⊎ (option_map FlatFault.DeclaredTwice (first_twice names.now) ≡ Some fault)) }
+        ⊎ (option_map FlatFault.DeclaredTwice (first_twice top.now.outputs) ≡ Some fault)) }
 {
-    let mut set = IndexSet::new(alloc);
-    declare(&mut set, names)?;
-    Ok(set)
+    let mut outputs = IndexSet::new(alloc);
+    declare(&mut outputs, top.outputs.items())
 }
 
-/// The inputs of the top, where neither they nor its outputs have a name twice.
-fn declared_inputs(alloc: Global, top: &BlifModel) -> Result<IndexSet<Name>, FlatFault>
-    ensures all { IfOk result (λ set. set.keys ≡ top.now.inputs) }
-    ensures inputs { OnOk result (first_twice top.now.inputs ≡ None) }
-    ensures once { OnOk result (declared_twice top.now ≡ None) }
-    ensures fault { IfErr result
-        (λ fault. (fault ≡ FlatFault.Memory) ⊎ (declared_twice top.now ≡ Some fault)) }
-{
-    let inputs = declared_names(alloc, top.inputs.items())?;
-    declared_names(alloc, top.outputs.items())?;
-    Ok(inputs)
-}
-
-/// The same, with room for the names of so many lines, so that the table needn't grow with them.
-fn inputs_with_room(
+/// Adds the inputs of the top, where neither they nor its outputs have a name twice. There is then room for so many
+/// more names, so that the table needn't grow with them.
+fn add_inputs(
     alloc: Global,
+    set: &mut IndexSet<Name>,
     top: &BlifModel,
-    lines: usize,
-) -> Result<IndexSet<Name>, FlatFault>
-    ensures all { IfOk result (λ set. set.keys ≡ top.now.inputs) }
+    room: usize,
+) -> Result<(), FlatFault>
+    requires { set.old.keys ≡ [] }
+    ensures all { OnOk result (set.new.keys ≡ top.now.inputs) }
     ensures inputs { OnOk result (first_twice top.now.inputs ≡ None) }
     ensures once { OnOk result (declared_twice top.now ≡ None) }
     ensures fault { IfErr result
         (λ fault. (fault ≡ FlatFault.Memory) ⊎ (declared_twice top.now ≡ Some fault)) }
 {
-    let mut inputs = declared_inputs(alloc, top)?;
-    inputs.reserve(lines)?;
-    Ok(inputs)
+    declare(set, top.inputs.items())?;
+    check_outputs(alloc, top)?;
+    set.reserve(room)?;
+    Ok(())
 }
 
 /// Adds the clocks of the top that aren't inputs to the inputs, and answers how many they are.
@@ -353,20 +342,21 @@ fn copy_control(latches: &[LatchLine]) -> Result<Option<Clock>, AllocError>
     }
 }
 
-/// Adds the other drivers to the inputs, and answers how many of them are clocks. All drivers are to differ.
+/// Adds the drivers of these lines, and answers how many of them are clocks. All drivers are to differ.
 fn add_drivers(
+    alloc: Global,
     set: &mut IndexSet<Name>,
     top: &BlifModel,
     lines: &FlatBody,
 ) -> Result<usize, FlatFault>
-    requires inputs { set.old.keys ≡ top.now.inputs }
-    requires once { first_twice top.now.inputs ≡ None }
+    requires { set.old.keys ≡ [] }
     ensures all { OnOk result (set.new.keys ≡ drivers top.now (lines_of lines.now)) }
     ensures clocks { IfOk result (λ clocks. clocks ≡ length (own_clocks top.now)) }
-    ensures once { OnOk result (driven_twice top.now (lines_of lines.now) ≡ None) }
+    ensures once { OnOk result (option_or (declared_twice top.now) (driven_twice top.now (lines_of lines.now)) ≡ None) }
     ensures fault { IfErr result (λ fault. (fault ≡ FlatFault.Memory)
-        ⊎ (driven_twice top.now (lines_of lines.now) ≡ Some fault)) }
+        ⊎ (option_or (declared_twice top.now) (driven_twice top.now (lines_of lines.now)) ≡ Some fault)) }
 {
+    add_inputs(alloc, set, top, lines.latches.len() + lines.gates.len())?;
     let clocks = add_clocks(set, top)?;
     add_latches(set, &lines.latches)?;
     add_gates(set, &lines.gates)?;
@@ -380,8 +370,8 @@ fn drivers_of(alloc: Global, top: &BlifModel, lines: &FlatBody) -> Result<Driver
     ensures fault { IfErr result (λ fault. (fault ≡ FlatFault.Memory)
         ⊎ (option_or (declared_twice top.now) (driven_twice top.now (lines_of lines.now)) ≡ Some fault)) }
 {
-    let mut names = inputs_with_room(alloc, top, lines.latches.len() + lines.gates.len())?;
-    let clocks = add_drivers(&mut names, top, lines)?;
+    let mut names = IndexSet::new(alloc);
+    let clocks = add_drivers(alloc, &mut names, top, lines)?;
     Ok(Drivers {
         names,
         inputs: top.inputs.items().len(),
@@ -406,30 +396,30 @@ fn bare_parts(alloc: Global, top: &BlifModel, latches: &[LatchLine]) -> Result<P
     })
 }
 
-/// The parts of the netlist: its signals are the inputs, the latches and the gates. Each wire that is read is looked
-/// up once, in the order of the reads, and the first clock among them is noted.
-fn parts_of(
+/// Adds the outputs, the latches and the gates to parts of the netlist: its signals are the inputs, the latches and the
+/// gates. Each wire that is read is looked up once, in the order of the reads, and the first clock among them is noted. The
+/// gates are taken out of the lines.
+fn fill_lines(
     alloc: Global,
     drivers: &Drivers,
     top: &BlifModel,
-    latches: &[LatchLine],
-    gates: Vec<GateLine>,
+    lines: &mut FlatBody,
+    parts: &mut Parts,
     clock: &mut Option<Name>,
-) -> Result<Parts, FlatFault>
-    requires { HasSignals drivers.now }
-    ensures parts { let lines : FlatLines = record { latches = latches.now; gates = gates.items } in
-        IfOk result (λ parts. parts ≡ netlist_by (sig_or drivers.now) top.now lines) }
-    ensures read { let lines : FlatLines = record { latches = latches.now; gates = gates.items } in
-        OnOk result (AreRead drivers.now (reads top.now lines) clock.old clock.new) }
-    ensures fault { let lines : FlatLines = record { latches = latches.now; gates = gates.items } in
-        IfErr result (λ fault. (fault ≡ FlatFault.Memory)
-        ⊎ (undriven_among drivers.now (reads top.now lines) ≡ Some fault)) }
+) -> Result<(), FlatFault>
+    requires signals { HasSignals drivers.now }
+    requires bare { parts.old ≡ record { name = top.now.name; inputs = top.now.inputs; clock = first_control_by lines.old.latches.items; latches = []; gates = []; outputs = [] } }
+    ensures parts { OnOk result (parts.new ≡ netlist_by (sig_or drivers.now) top.now (lines_of lines.old)) }
+    ensures latches { lines.new.latches.items ≡ lines.old.latches.items }
+    ensures read { OnOk result (AreRead drivers.now (reads top.now (lines_of lines.old)) clock.old clock.new) }
+    ensures fault { IfErr result (λ fault. (fault ≡ FlatFault.Memory)
+        ⊎ (undriven_among drivers.now (reads top.now (lines_of lines.old)) ≡ Some fault)) }
 {
-    let mut parts = bare_parts(alloc, top, latches)?;
     parts.outputs = Items::of(read_all(alloc, drivers, top.outputs.items(), clock)?);
-    parts.latches = Items::of(flat_latches(alloc, drivers, latches, clock)?);
+    parts.latches = Items::of(flat_latches(alloc, drivers, &lines.latches, clock)?);
+    let gates = mem::replace(&mut lines.gates, Vec::new(alloc));
     parts.gates = Items::of(flat_gates(alloc, drivers, gates, clock)?);
-    Ok(parts)
+    Ok(())
 }
 
 /// That the controls are one clock of the top, and that no clock was read.
@@ -449,8 +439,48 @@ fn check_clocks(top: &BlifModel, latches: &[LatchLine], read: Option<Name>) -> R
     }
 }
 
+/// The same, where the controls are one clock of the top, and no clock is read.
+fn fill_parts(
+    alloc: Global,
+    drivers: &Drivers,
+    top: &BlifModel,
+    lines: &mut FlatBody,
+    parts: &mut Parts,
+) -> Result<(), FlatFault>
+    requires drivers { IsDriversOf top.now (lines_of lines.old) drivers.now }
+    requires once { option_or (declared_twice top.now) (driven_twice top.now (lines_of lines.old)) ≡ None }
+    requires signals { HasSignals drivers.now }
+    requires bare { parts.old ≡ record { name = top.now.name; inputs = top.now.inputs; clock = first_control_by lines.old.latches.items; latches = []; gates = []; outputs = [] } }
+    ensures parts { OnOk result (linked top.now (lines_of lines.old) ≡ Ok parts.new) }
+    ensures fault { IfErr result
+        (λ fault. (fault ≡ FlatFault.Memory) ⊎ (linked top.now (lines_of lines.old) ≡ Err fault)) }
+{
+    let mut clock = None;
+    fill_lines(alloc, drivers, top, lines, parts, &mut clock)?;
+    check_clocks(top, &lines.latches, clock)
+}
+
+/// The parts of the netlist of these lines, which have these drivers, or their first fault behind that of the drivers.
+fn parts_of(
+    alloc: Global,
+    drivers: &Drivers,
+    top: &BlifModel,
+    lines: &mut FlatBody,
+) -> Result<Parts, FlatFault>
+    requires drivers { IsDriversOf top.now (lines_of lines.old) drivers.now }
+    requires once { option_or (declared_twice top.now) (driven_twice top.now (lines_of lines.old)) ≡ None }
+    requires signals { HasSignals drivers.now }
+    ensures parts { IfOk result (λ parts. linked top.now (lines_of lines.old) ≡ Ok parts) }
+    ensures fault { IfErr result
+        (λ fault. (fault ≡ FlatFault.Memory) ⊎ (linked top.now (lines_of lines.old) ≡ Err fault)) }
+{
+    let mut parts = bare_parts(alloc, top, &lines.latches)?;
+    fill_parts(alloc, drivers, top, lines, &mut parts)?;
+    Ok(parts)
+}
+
 /// The parts of the netlist of these lines, or their first fault.
-pub(crate) fn link(alloc: Global, top: &BlifModel, lines: FlatBody) -> Result<Parts, FlatFault>
+pub(crate) fn link(alloc: Global, top: &BlifModel, mut lines: FlatBody) -> Result<Parts, FlatFault>
     requires inputs { length top.now.inputs ≤ 4000000000 }
     requires lines { length lines.latches.items + length lines.gates.items ≤ MAX_FLAT_ITEMS }
     ensures parts { IfOk result (λ parts. linked top.now (lines_of lines) ≡ Ok parts) }
@@ -458,9 +488,5 @@ pub(crate) fn link(alloc: Global, top: &BlifModel, lines: FlatBody) -> Result<Pa
         (λ fault. (fault ≡ FlatFault.Memory) ⊎ (linked top.now (lines_of lines) ≡ Err fault)) }
 {
     let drivers = drivers_of(alloc, top, &lines)?;
-    let (latches, gates) = lines.into_lines();
-    let mut clock = None;
-    let parts = parts_of(alloc, &drivers, top, &latches, gates, &mut clock)?;
-    check_clocks(top, &latches, clock)?;
-    Ok(parts)
+    parts_of(alloc, &drivers, top, &mut lines)
 }

@@ -1,16 +1,19 @@
-ghost use Rattle.std.specs.Prelude.{◌≡◌, ◌<◌, ◌≤◌, ◌⊎◌, ◌^◌, ◌++◌, ◌+◌, [], ◌∷◌, suc, length, drop, All, Ok, Err, IfOk, IfErr, OnOk, MatchOption};
-ghost use Rattle.flatten.specs.Instances.{model_at};
+ghost use Rattle.std.specs.Prelude.{◌≡◌, ◌<◌, ◌≤◌, ◌^◌, ◌++◌, ◌+◌, [], ◌∷◌, suc, length, drop, None, Some, Ok, IfOk, IfErr, OnOk, MatchOption};
+ghost use Rattle.std.specs.Fmt.{decimal};
+ghost use Rattle.flatten.specs.Instances.{find_model, model_at, pairs_fault};
+ghost use Rattle.flatten.specs.Laws.{bound};
+ghost use Rattle.flatten.specs.Counting.{HasLines};
 ghost use Rattle.flatten.specs.Wires.{mark_of};
 ghost use Rattle.flatten.specs.Walk.{flat_lines as flat_lines_by};
 ghost use Rattle.flatten.specs.Printable.{PrintsOn, ArePrintedLines};
-ghost use Rattle.flatten.specs.Levels.{entered_on, IsInner, AddsLine, PutsBack, Opens, PartFails, PassesLine, PassesPart, Goes, StepsOn, StepsTo, IsBegun, lines_of};
+ghost use Rattle.flatten.specs.Levels.{FitsSome, CanEnter, IsInner, AddsLine, PutsBack, Opens, PassesLine, PassesPart, Goes, StepsOn, IsBegun, lines_of};
 
-use crate::bind::enter;
+use crate::bind::fill_table;
 use crate::fault::FlatFault;
 use crate::hierarchy::Hierarchy;
 use crate::scope::{NameScope, flat_gate, flat_latch, inner_prefix, top_scope};
 use blif_read::{GateLine, Item, LatchLine, PartLine};
-use cyc_base::Name;
+use indexmap::IndexMap;
 use std::alloc::{AllocError, Global};
 
 /// The top or an open instance: its model, the next item of the body, how many instances of the body were
@@ -78,14 +81,15 @@ fn put_back(walk: &mut Walk, mut level: Level) -> Result<(), AllocError>
 }
 
 /// Adds a gate or a latch to the lines, by its printed names.
-fn add_line(alloc: Global, walk: &mut Walk, scope: &NameScope, line: &Item) -> Result<(), FlatFault>
-    ensures added { OnOk result (AddsLine walk.old scope.now line.now walk.new) }
-    ensures fault { IfErr result
-        (λ fault. (fault ≡ FlatFault.Memory) ⊎ ((walk.old.room ≡ 0) × (fault ≡ FlatFault.TooLarge))) }
+fn add_line(
+    alloc: Global,
+    walk: &mut Walk,
+    scope: &NameScope,
+    line: &Item,
+) -> Result<(), AllocError>
+    requires { 0 < walk.old.room }
+    ensures { OnOk result (AddsLine walk.old scope.now line.now walk.new) }
 {
-    if walk.room == 0 {
-        return Err(FlatFault::TooLarge);
-    }
     walk.room -= 1;
     match line {
         Item::Gate(gate) => walk.gates.push(flat_gate(alloc, scope, gate)?)?,
@@ -96,50 +100,66 @@ fn add_line(alloc: Global, walk: &mut Walk, scope: &NameScope, line: &Item) -> R
 }
 
 fn pass_line(alloc: Global, walk: &mut Walk, level: Level, line: &Item) -> Result<(), FlatFault>
-    requires { suc level.next < 2 ^ 64 }
+    requires fits { suc level.next < 2 ^ 64 }
+    requires room { 0 < walk.old.room }
     ensures passed { OnOk result (PassesLine walk.old level line.now walk.new) }
-    ensures fault { IfErr result
-        (λ fault. (fault ≡ FlatFault.Memory) ⊎ ((walk.old.room ≡ 0) × (fault ≡ FlatFault.TooLarge))) }
+    ensures fault { IfErr result (λ fault. fault ≡ FlatFault.Memory) }
 {
     add_line(alloc, walk, &level.scope, line)?;
     Ok(put_back(walk, level)?)
+}
+
+/// How the names of an instance of the model at this place are resolved, which stands in `level`.
+fn inner_scope(
+    alloc: Global,
+    hierarchy: &Hierarchy<'_>,
+    level: &Level,
+    model: usize,
+    part: &PartLine,
+) -> Result<NameScope, FlatFault>
+    requires model { model < length hierarchy.now.models }
+    requires number { suc level.now.parts < 2 ^ 64 }
+    requires fits { pairs_fault (model_at hierarchy.now.models model) part.now.pairs ≡ None }
+    ensures prefix { IfOk result
+        (λ scope. scope.prefix ≡ level.now.scope.prefix ++ (decimal (level.now.parts + 1) ++ mark_of hierarchy.now.models)) }
+    ensures table { IfOk result
+        (λ scope. scope.table.entries ≡ bound level.now.scope.prefix level.now.scope.table.entries part.now.pairs) }
+    ensures fault { IfErr result (λ fault. fault ≡ FlatFault.Memory) }
+{
+    let outer = &level.scope;
+    let prefix = inner_prefix(alloc, &outer.prefix, level.parts + 1, hierarchy.mark())?;
+    let mut scope = NameScope {
+        prefix,
+        table: IndexMap::new(alloc),
+    };
+    let pairs = part.pairs.items();
+    fill_table(alloc, hierarchy, outer, model, pairs, &mut scope.table)?;
+    Ok(scope)
 }
 
 /// The level of an instance that stands in `level`.
 fn inner_level(
     alloc: Global,
     hierarchy: &Hierarchy<'_>,
-    walk: &Walk,
     level: &Level,
     part: &PartLine,
 ) -> Result<Level, FlatFault>
-    requires within { All (λ l. l.model < length hierarchy.now.models) walk.now.levels.items }
-    requires here { level.now.model < length hierarchy.now.models }
     requires number { suc level.now.parts < 2 ^ 64 }
-    ensures model { IfOk result
-        (λ inner. entered_on hierarchy.now.depth hierarchy.now.models walk.now.levels.items level.now part.now ≡ Ok inner.model) }
+    requires fits { FitsSome hierarchy.now.models part.now }
+    ensures model { IfOk result (λ inner. find_model hierarchy.now.models part.now.model ≡ Some inner.model) }
     ensures inside { IfOk result (IsInner (mark_of hierarchy.now.models) level.now part.now) }
-    ensures some { OnOk result (0 < walk.now.room) }
-    ensures fault { IfErr result
-        (λ fault. (fault ≡ FlatFault.Memory)
-        ⊎ PartFails hierarchy.now.depth hierarchy.now.models walk.now level.now part.now fault) }
+    ensures fault { IfErr result (λ fault. fault ≡ FlatFault.Memory) }
 {
-    let below = walk.levels.as_slice();
-    let (model, table) = enter(alloc, hierarchy, below, level, part)?;
-    if walk.room == 0 {
-        return Err(FlatFault::TooLarge);
-    }
-    let prefix = inner_prefix(
-        alloc,
-        &level.scope.prefix,
-        level.parts + 1,
-        hierarchy.mark(),
-    )?;
+    let model = match hierarchy.find(&part.model) {
+        Some(model) => model,
+        None => unreachable!(),
+    };
+    let scope = inner_scope(alloc, hierarchy, level, model, part)?;
     Ok(Level {
         model,
         next: 0,
         parts: 0,
-        scope: NameScope { prefix, table },
+        scope,
     })
 }
 
@@ -165,17 +185,15 @@ fn pass_part(
     level: Level,
     part: &PartLine,
 ) -> Result<(), FlatFault>
-    requires within { All (λ l. l.model < length hierarchy.now.models) walk.old.levels.items }
-    requires here { level.model < length hierarchy.now.models }
     requires counted { level.parts ≤ level.next }
     requires fits { suc level.next < 2 ^ 64 }
+    requires room { 0 < walk.old.room }
+    requires enters { CanEnter hierarchy.now.depth hierarchy.now.models walk.old.levels.items level part.now }
     ensures passed { OnOk result
         (PassesPart hierarchy.now.depth hierarchy.now.models (mark_of hierarchy.now.models) walk.old level part.now walk.new) }
-    ensures fault { IfErr result
-        (λ fault. (fault ≡ FlatFault.Memory)
-        ⊎ PartFails hierarchy.now.depth hierarchy.now.models walk.old level part.now fault) }
+    ensures fault { IfErr result (λ fault. fault ≡ FlatFault.Memory) }
 {
-    let inner = inner_level(alloc, hierarchy, walk, &level, part)?;
+    let inner = inner_level(alloc, hierarchy, &level, part)?;
     Ok(open(walk, level, inner)?)
 }
 
@@ -189,8 +207,7 @@ fn step(
     requires goes { Goes hierarchy.now walk.old level }
     ensures on { OnOk result (StepsOn hierarchy.now walk.old level walk.new) }
     ensures prints { OnOk result (PrintsOn hierarchy.now.models walk.old level walk.new) }
-    ensures fault { IfErr result
-        (λ fault. (fault ≡ FlatFault.Memory) ⊎ StepsTo hierarchy.now walk.old level fault) }
+    ensures fault { IfErr result (λ fault. fault ≡ FlatFault.Memory) }
 {
     match item_at(hierarchy, level.model, level.next) {
         None => Ok(()),
@@ -213,16 +230,6 @@ impl Drop for FlatBody {
             latches: _,
             gates: _,
         } = self;
-    }
-}
-
-impl FlatBody {
-    /// The latches and the gates, handed over.
-    pub(crate) fn into_lines(self) -> (Vec<LatchLine>, Vec<GateLine>)
-        ensures { result ≡ (self.latches, self.gates) }
-    {
-        let FlatBody { latches, gates } = self;
-        (latches, gates)
     }
 }
 
@@ -259,8 +266,8 @@ fn begun(alloc: Global, model: usize, room: u32) -> Result<Walk, AllocError>
     })
 }
 
-/// The lines below the model at this place, or the first fault of the walk. At most `depth` instances may lie
-/// in one another, and at most `limit` gates, latches and instances may come.
+/// The lines below the model at this place, where the walk has no fault. At most `depth` instances lie in one another, and
+/// at most `limit` gates, latches and instances come.
 pub(crate) fn flat_lines(
     alloc: Global,
     hierarchy: &Hierarchy<'_>,
@@ -268,12 +275,11 @@ pub(crate) fn flat_lines(
     limit: u32,
 ) -> Result<FlatBody, FlatFault>
     requires top { top < length hierarchy.now.models }
+    requires lines { HasLines hierarchy.now.depth limit hierarchy.now.models top }
     ensures lines { IfOk result
         (λ lines. flat_lines_by hierarchy.now.depth limit hierarchy.now.models top ≡ Ok (lines_of lines)) }
     ensures printed { IfOk result (λ lines. ArePrintedLines (lines_of lines)) }
-    ensures fault { IfErr result
-        (λ fault. (fault ≡ FlatFault.Memory)
-        ⊎ (flat_lines_by hierarchy.now.depth limit hierarchy.now.models top ≡ Err fault)) }
+    ensures fault { IfErr result (λ fault. fault ≡ FlatFault.Memory) }
 {
     hierarchy.laws();
     let mut walk = begun(alloc, top, limit)?;

@@ -7,11 +7,10 @@ ghost use Rattle.netlist.specs.Netlists.{count};
 use crate::words::{Word, gate_word, word_at};
 use care_sets::Care;
 use clause_pairs::Fixed;
-use feedback_cuts::find_cut;
-use loops::{Blocks, Cut, LoopedNetlist, find_blocks, gates_at};
+use feedback_cuts::NetlistLoops;
+use loops::{LoopedNetlist, gates_at};
 use netlist::{Netlist, Pair, mixed};
 use std::alloc::{AllocError, Global};
-use std::marker::Model;
 
 /// How many words of 64 vectors are tried.
 const WORDS: u32 = 8;
@@ -117,21 +116,9 @@ fn words_of_columns(
 /// A care model, as it is simulated.
 #[derive(Drop)]
 struct SimulatedModel<'a> {
-    net: &'a Netlist,
+    loops: NetlistLoops<'a>,
     /// The columns that its inputs read.
     columns: &'a [u32],
-    blocks: Blocks,
-    cut: Cut,
-}
-
-impl<'a> Model for SimulatedModel<'a> {
-    ghost use Rattle.loops.specs.Looped.{Looped, IsLooped};
-
-    ghost Value = { Looped };
-
-    ghost view = { λ m. record { net = m.net.now; blocks = m.blocks; cut = m.cut } };
-
-    ghost invariant = { λ m. IsLooped (record { net = m.net.now; blocks = m.blocks; cut = m.cut }) };
 }
 
 impl<'a> SimulatedModel<'a> {
@@ -141,23 +128,18 @@ impl<'a> SimulatedModel<'a> {
         net: &'a Netlist,
         columns: &'a [u32],
     ) -> Result<SimulatedModel<'a>, AllocError> {
-        let blocks = find_blocks(alloc, net)?;
-        let cut = find_cut(alloc, net, &blocks)?;
-        Ok(SimulatedModel {
-            net,
-            columns,
-            blocks,
-            cut,
-        })
+        let loops = NetlistLoops::find(alloc, net)?;
+        Ok(SimulatedModel { loops, columns })
     }
 
     /// At which vectors its output is 1, where the columns have these words.
     fn allowed(&self, alloc: Global, words: &[Word]) -> Result<u64, AllocError> {
-        let looped = LoopedNetlist::new(self.net, &self.blocks, &self.cut);
+        let looped = self.loops.looped();
+        let net = looped.net();
         let mut own = words_of_columns(alloc, words, self.columns)?;
-        own.resize(self.net.count() as usize, Word::UNKNOWN)?;
+        own.resize(net.count() as usize, Word::UNKNOWN)?;
         settle(&looped, &mut own);
-        match self.net.outputs().first() {
+        match net.outputs().first() {
             Some(output) => Ok(word_at(&own, output.0 as usize).ones),
             None => Ok(u64::MAX),
         }

@@ -19,6 +19,7 @@ pub use Rattle.fixpoint.specs.Solved.{Vectors}
 pub use Rattle.fixpoint.specs.Sweeping.{rails_at, unknown}
 pub use Rattle.isolation.specs.Building.{AreClosed, AreCopies, AreNumbersOf, IsLoopNetlist, name_at}
 pub use Rattle.isolation.specs.Excerpts.{IsExcerpt, gate_in, inputs_in, origin, origins}
+pub use Rattle.isolation.specs.Settled.{SettleInSweeps}
 pub use Rattle.isolation.specs.Settling.{AreKnown, BoundsKnown, HasUnknownRails, IsSolvedNetlist}
 pub use Rattle.isolation.specs.Unsettled.{IsLaid}
 pub use Rattle.loops.proofs.Existence.{loops_exist}
@@ -33,12 +34,12 @@ pub use Rattle.loops.specs.Sweeps.{CutsAreFixed, first_gate, gate_of, sweeps, va
 pub use Rattle.loops.specs.Walks.{IsUpstream}
 pub use Rattle.loops.specs.declared.structure.Blocks.{Blocks}
 pub use Rattle.netlist.specs.Fixpoint.{fix, fix_gates, wire}
-pub use Rattle.netlist.specs.Netlists.{IsNetlist, count, gate_at, gate_sig, no_gate, signal}
+pub use Rattle.netlist.specs.Netlists.{IsNetlist, count, gate_at, gate_sig, is_marked, no_gate, signal}
 pub use Rattle.netlist.specs.Walks.{Feeds}
 pub use Rattle.netlist.specs.declared.parts.Gate.{Gate}
 pub use Rattle.netlist.specs.declared.parts.Parts.{Parts}
 pub use Rattle.std.proofs.lemmas.Bool.{and_parts, cases_Bool, cases_eq, cases_lt, eq-eqb, eqb-true}
-pub use Rattle.std.proofs.lemmas.List.{ext_get_or, get_or-append_right, get_or-map, get_or-replicate, get_or_append_left, get_or_default, length-append, length-map, map-append}
+pub use Rattle.std.proofs.lemmas.List.{ext_get_or, get_or-append_right, get_or-map, get_or-replicate, get_or_append_left, get_or_default, length-append, length-map, length_push, map-append}
 pub use Rattle.std.proofs.lemmas.List.Elements.{Contains-get_or}
 pub use Rattle.std.proofs.lemmas.Simd.{map-map}
 pub use Rattle.std.specs.List.{All, list_any, range_with_len}

@@ -1,30 +1,25 @@
 -- What the solution of a small netlist on rails shows.
 use Rattle.std.proofs.Common.{◌≡◌, inl, inr, ℕ, zero, suc, ◌+◌, ◌-◌, ◌<◌, ◌≤◌, Bool, true, false, ◌&&◌, List, [], ◌∷◌, length, map, filter, get_or, refl, sym, ap, ◌∙◌, subst, arith, true≢false}
-use Rattle.std.proofs.Math.Path.{fun_ext}
-use Rattle.isolation.proofs.Common.{cases_Bool, and_parts, get_or-map, get_or-append_right, length-map, length-append, All, range_with_len, Node, Arena, den, Trit, X, bit, bits, Rails, value_of, values_of, Parts, IsNetlist, fix, fix_gates, Blocks, AreBlocksOf, block_at, home_of, Loops, AreLoopsOf, loops_of, first_gate, value_in, sweeps, CutsAreFixed, loops_exist, rails_under, Vectors, IsLoopNetlist, AreKnown, IsSolvedNetlist}
+use Rattle.isolation.proofs.Common.{cases_Bool, and_parts, get_or-map, get_or-append_right, length-map, length-append, All, range_with_len, Node, Arena, den, Trit, X, bit, bits, Rails, value_of, values_of, Parts, IsNetlist, fix, fix_gates, Blocks, AreBlocksOf, block_at, home_of, Loops, AreLoopsOf, loops_of, first_gate, value_in, sweeps, CutsAreFixed, rails_under, Vectors, IsLoopNetlist, AreKnown, IsSolvedNetlist}
 use Rattle.bdd_ops.specs.Least.{by_variable}
 use Rattle.loops.specs.declared.structure.Cut.{Cut}
 use Rattle.loops.specs.Cuts.{IsCutOf, loops_by, in_one_loop, is_cut}
 use Rattle.loops.specs.Looped.{Looped, IsLooped}
 use Rattle.loops.proofs.Sweeps.{length-fix, fixed_cuts_give_fix}
 use Rattle.loops.proofs.Told.{blocks_tell_loops, told_parts}
-use Rattle.loops.proofs.Walks.{loops_are_unique}
 use Rattle.fixpoint.specs.declared.solved.Solved.{Solved}
 use Rattle.loops.specs.declared.structure.SweepCounts.{SweepCounts}
 use Rattle.fixpoint.specs.Kept.{RootsStay}
 use Rattle.fixpoint.specs.Laws.{SolutionsStay}
 use Rattle.fixpoint.specs.Solved.{IsSolution}
 use Rattle.fixpoint.specs.Counts.{CountSweeps, count_at}
+use Rattle.fixpoint.proofs.ToldLemmas.{loops-are}
 use Rattle.isolation.specs.Settled.{IsDetermined, SettleInSweeps}
 use Rattle.isolation.specs.Settling.{IsSettledIn}
 
 -- what a netlist with its loops hands out belongs together too
 pub handed-out : (l : Looped) (net : Parts) (blocks : Blocks) (cut : Cut) → net ≡ l.net → blocks ≡ l.blocks → cut ≡ l.cut → IsLooped l → IsLooped (record { net = net; blocks = blocks; cut = cut })
 handed-out l net blocks cut n b c is = grind arith
-
--- the loops that blocks and a cut tell are those of the netlist
-pub loops-are : (net : Parts) (blocks : Blocks) (cut : Cut) → AreBlocksOf net blocks → IsCutOf net cut → loops_by blocks cut ≡ loops_of net
-loops-are net blocks cut are cut_is = grind (arith, loops_are_unique net (loops_by blocks cut) (loops_of net) (blocks_tell_loops net blocks cut are cut_is) (loops_exist net), blocks_tell_loops net blocks cut are cut_is, loops_exist net, fun_ext)
 
 module _ (net : Parts) (blocks : Blocks) (cut : Cut) (are : AreBlocksOf net blocks) (cut_is : IsCutOf net cut) (v : Vectors) (layout : List ℕ) (laid : (u : List Bool) → length u ≡ first_gate net → v (by_variable layout u) ≡ bits u) where
   -- where no rails are X, no gate is

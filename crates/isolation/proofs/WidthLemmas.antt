@@ -3,7 +3,7 @@ use Rattle.std.proofs.Common.{◌≡◌, ◌⊎◌, inl, inr, ℕ, ◌+◌, ◌*
 use Rattle.std.proofs.Math.Nat.{mul-le-mul_left}
 use Rattle.isolation.proofs.Common.{cases_Bool, get_or-map, length-map, length-append, All, Node, Arena, den, AddsWithin, GrowsWithin, KeepsNodes, NoOtherCause, within_more, within_moved, Trit, bits, Rails, AreRailsOf, value_of, values_of, IsWide, Gate, Parts, fix, fix_gates, IsNetlist, count, gate_at, Blocks, AreBlocksOf, Loops, loops_of, first_gate, value_in, loops_exist, rails_under, order, Vectors, rails_at, BoundsKnown, IsSolvedNetlist, IsLaid}
 use Rattle.std.proofs.lemmas.List.Elements.{All-contains}
-use Rattle.std.proofs.lemmas.List.Sums.{sum_by-cons, get_or-le-sum_by}
+use Rattle.std.proofs.lemmas.List.Sums.{get_or-le-sum_by}
 use Rattle.std.specs.List.{sum_by}
 use Rattle.bdd_store.specs.Arena.{empty}
 use Rattle.bdd_store.specs.declared.fault.StoreFault.{StoreFault}
@@ -29,13 +29,14 @@ use Rattle.fixpoint.specs.Orders.{laid}
 use Rattle.fixpoint.specs.Solved.{AreStepsOf, AreKeptSteps, IsSolution, loop_under}
 use Rattle.fixpoint.specs.Working.{HasLargeCover, IsReadAtFix, IsReadInSweep, IsWorking, effort, read_at_fix, read_in_sweep}
 use Rattle.fixpoint.proofs.CutLemmas.{one-of, zero-of}
+use Rattle.fixpoint.proofs.EffortLemmas.{effort-enough, gates-effort}
+use Rattle.fixpoint.proofs.ToldLemmas.{loops-are}
 use Rattle.fixpoint.proofs.WireLemmas.{rails_at-proper}
 use Rattle.fixpoint.proofs.WorkLemmas.{fix_is_working}
-use Rattle.isolation.specs.Columns.{AreColumns}
+use Rattle.fixpoint.proofs.WorkingLemmas.{step-is_working, working-is}
+use Rattle.fixpoint.specs.Columns.{AreColumns}
 use Rattle.isolation.specs.Settling.{AreColumnVectors, settling_cost}
 use Rattle.isolation.specs.Unsettled.{IsBelowEnough, enough}
-use Rattle.isolation.proofs.SettlingLemmas.{loops-are}
-use Rattle.isolation.proofs.WorkingLemmas.{step-is_working, working-is}
 
 -- ---- functions that are made of one of the list
 
@@ -195,13 +196,6 @@ solution-adds {s = s} {a = a} net blocks cut given are cut_is vars same limit co
 
 -- ---- the sum
 
--- each gate counts one at least
-pub gates-effort : (gates : List Gate) → length gates ≤ sum_by (λ gate. size gate.cover + 1) gates
-gates-effort [] = omega arith
-gates-effort (gate ∷ gates) =
-    let sum = sum_by-cons (λ (g : Gate). size g.cover + 1) gate gates in
-    omega (arith, gates-effort gates, sum)
-
 sum-enough : (v gates effort : ℕ) → gates ≤ effort → 2 + (10 * (gates + 2) * effort + (v + gates + 6 * gates * (gates + 2))) ≤ 16 * (gates + 2) * (effort + v + 4)
 sum-enough v gates effort less = grind arith
 
@@ -210,9 +204,6 @@ pub cost-enough : (net : Parts) (w : ℕ) → w * settling_cost net ≤ enough n
 cost-enough net w =
     let most : ℕ = 16 * (length net.gates + 2) * (effort net + first_gate net + 4) in
     grind (arith, mul-le-mul_left {m = settling_cost net} {n = most} w (sum-enough (first_gate net) (length net.gates) (effort net) (gates-effort net.gates)), sum-enough (first_gate net) (length net.gates) (effort net) (gates-effort net.gates), gates-effort net.gates)
-
-pub effort-enough : (limit e w gates v : ℕ) → limit < e → v + 1 ≤ w → limit < 16 * w * (gates + 2) * (e + v + 4)
-effort-enough limit e w gates v less wide = grind arith
 
 -- where a cover has more nodes than the limit, so has what is enough
 pub over-enough : (net : Parts) (w limit : ℕ) → IsWide (first_gate net) (IsLaid net) w → HasLargeCover net limit → limit < enough net w

@@ -9,25 +9,24 @@ ghost use Rattle.dual_rail.specs.Rails.{AreRailsOf, value_of};
 ghost use Rattle.dual_rail.specs.WorkingLists.{IsWide};
 ghost use Rattle.loops.specs.Blocks.{block_at};
 ghost use Rattle.loops.specs.Sweeps.{first_gate};
+ghost use Rattle.fixpoint.specs.Columns.{AreColumns};
 ghost use Rattle.fixpoint.specs.Kept.{rails_under, AreKept};
 ghost use Rattle.fixpoint.specs.Orders.{order as order_of};
 ghost use Rattle.fixpoint.specs.Solved.{AreGiven};
 ghost use Rattle.fixpoint.specs.Working.{HasLargeCover};
-ghost use Rattle.isolation.specs.Columns.{AreColumns};
 ghost use Rattle.isolation.specs.Settled.{AreFixedAfter, SettleInSweeps};
 ghost use Rattle.isolation.specs.Settling.{counting_cost, settling_cost, AreKnown, BoundsKnown, HasUnknownRails, HasUnknownVector, IsSettledIn, IsSolvedNetlist};
 ghost use Rattle.isolation.specs.Unsettled.{AreUnsettled, HasUnknown, IsBelowEnough, IsLaid};
 
-use crate::columns::column_rails;
 use crate::excerpt::loop_netlist;
 use bdd_ops::Diagrams;
 use bdd_store::{Node, StoreFault};
 use cyc_base::MAX_NODES;
 use dual_rail::Rails;
-use feedback_cuts::find_cut;
+use feedback_cuts::NetlistLoops;
 use fixpoint::laws::solutions;
-use fixpoint::{KeptRails, Solved, keep_rails, order, rails_of, solve, sweeps};
-use loops::{Blocks, LoopedNetlist, find_blocks};
+use fixpoint::{KeptRails, Solved, column_rails, keep_rails, order, rails_of, solve, sweeps};
+use loops::{Blocks, LoopedNetlist};
 use netlist::Netlist;
 use std::alloc::{AllocError, Global};
 
@@ -164,11 +163,9 @@ fn settle(alloc: Global, net: &Netlist, budget: u32) -> Result<Option<u32>, Stor
     ensures unknown { IfOk result (λ found. IfNone found (HasUnknown net.now)) }
     ensures full { result ≡ Err StoreFault.Full → IsBelowEnough net.now budget }
 {
-    let blocks = find_blocks(alloc, net)?;
-    let cut = find_cut(alloc, net, &blocks)?;
-    let looped = LoopedNetlist::new(net, &blocks, &cut);
+    let loops = NetlistLoops::find(alloc, net)?;
     let mut d = Diagrams::new(alloc, net.columns(), budget)?;
-    settle_on(alloc, &mut d, &looped)
+    settle_on(alloc, &mut d, &loops.looped())
 }
 
 /// The same, and no number where the nodes were too few.

@@ -1,5 +1,6 @@
 mod Common
 mod EventLemmas
 pub mod LoopLemmas
+pub mod NeededLemmas
 mod ReaderLemmas
 mod SimulationLemmas

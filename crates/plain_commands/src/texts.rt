@@ -25,8 +25,8 @@ use cyc_base::{Name, Trits};
 use cyc_io::{Failed, TextSink};
 use delay_core::TickEnd;
 use dot_text::put_loops_graph;
-use feedback_cuts::find_cut;
-use loops::{LoopedNetlist, find_blocks};
+use feedback_cuts::NetlistLoops;
+use loops::LoopedNetlist;
 use netlist::Netlist;
 use parsed_files::Fault;
 use probes::Kind;
@@ -282,9 +282,8 @@ fn looped_shown(
 fn loops_shown_in(alloc: Global, net: &Netlist, form: Form) -> Result<Vec<u8>, AllocError>
     ensures { IfOk result (λ text. text.items ≡ loops_shown form net.now) }
 {
-    let blocks = find_blocks(alloc, net)?;
-    let cut = find_cut(alloc, net, &blocks)?;
-    looped_shown(alloc, &LoopedNetlist::new(net, &blocks, &cut), form)
+    let loops = NetlistLoops::find(alloc, net)?;
+    looped_shown(alloc, &loops.looped(), form)
 }
 
 pub(crate) fn tell_loops(alloc: Global, net: &Netlist, form: Form) -> Result<Outcome, AllocError>

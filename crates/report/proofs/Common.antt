@@ -7,7 +7,6 @@ pub use Rattle.loops.specs.Found.{loops_of}
 pub use Rattle.loops.specs.Left.{loop_seen, loops_left}
 pub use Rattle.netlist.specs.Netlists.{signal_names}
 pub use Rattle.netlist.specs.declared.parts.Parts.{Parts}
-pub use Rattle.report.specs.Explanations.{needed_column, side_of}
 pub use Rattle.report.specs.Help.{topic_text}
 pub use Rattle.report.specs.LoopTexts.{gate_name, loop_line, loop_lines}
 pub use Rattle.report.specs.Ticks.{trit_text}

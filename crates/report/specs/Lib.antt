@@ -2,7 +2,6 @@
 pub mod Texts
 pub mod Verdicts
 pub mod LoopTexts
-pub mod Explanations
 pub mod Ticks
 pub mod Messages
 pub mod Help

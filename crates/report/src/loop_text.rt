@@ -17,11 +17,8 @@ fn put_gate_name<K: Sink>(sink: &mut K, net: &Netlist, gate: u32) -> Result<(), 
     put_two(sink, b" ", net.gate(gate).name.bytes())
 }
 
-pub(crate) fn put_gate_names<K: Sink>(
-    sink: &mut K,
-    net: &Netlist,
-    gates: &[u32],
-) -> Result<(), Failed>
+/// Appends the names of gates, each behind a blank. It takes no memory.
+pub fn put_gate_names<K: Sink>(sink: &mut K, net: &Netlist, gates: &[u32]) -> Result<(), Failed>
     requires { All (λ gate. gate < length net.now.gates) gates.now }
     ensures { IsAppended (names_text net.now gates.now) (sink_call K.put K.faults sink.old sink.new) result }
 {

@@ -18,7 +18,8 @@ fn value(b: bool) -> &'static [u8]
     if b { b"=1" } else { b"=0" }
 }
 
-pub(crate) fn put_column<K: Sink>(sink: &mut K, name: &Name, b: bool) -> Result<(), Failed>
+/// Appends the value of a column, ` NAME=0` or ` NAME=1`. It takes no memory.
+pub fn put_column<K: Sink>(sink: &mut K, name: &Name, b: bool) -> Result<(), Failed>
     ensures { IsAppended (column_text (name.now, b)) (sink_call K.put K.faults sink.old sink.new) result }
 {
     put_three(sink, b" ", name.bytes(), value(b))

@@ -1,5 +1,4 @@
 mod AgreeLemmas
-mod NeededLemmas
 mod CoverLemmas
 mod CaseLemmas
 pub mod RewrittenLemmas

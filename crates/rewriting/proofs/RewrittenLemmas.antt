@@ -1,8 +1,7 @@
 -- What is proved of the rewritten netlist.
-use Rattle.std.proofs.Common.{◌≡◌, ℕ, ◌+◌, ◌≤◌, true, Bool, List, length, sym, ap, ◌∙◌, subst, arith}
+use Rattle.std.proofs.Common.{◌≡◌, ℕ, ◌+◌, ◌≤◌, true, Bool, List, length, ap, ◌∙◌, arith}
 use Rattle.std.proofs.lemmas.List.{length-map}
 use Rattle.cyc_base.specs.declared.limits.TheConstants.{MAX_REWRITTEN_ITEMS}
-use Rattle.cyc_base.specs.declared.trit.Trit.{Trit}
 use Rattle.cyc_base.specs.Values.{bits}
 use Rattle.netlist.specs.declared.parts.Parts.{Parts}
 use Rattle.netlist.specs.Netlists.{IsNetlist}
@@ -12,13 +11,12 @@ use Rattle.loops.specs.declared.structure.SweepCounts.{SweepCounts}
 use Rattle.loops.specs.Blocks.{AreBlocksOf}
 use Rattle.loops.specs.Cuts.{IsCutOf, Loops, loops_by, in_one_loop}
 use Rattle.loops.specs.Found.{loops_of}
-use Rattle.loops.specs.Sweeps.{IsCountOfSweeps}
 use Rattle.loops.proofs.Counts.{count_is_of_loops}
 use Rattle.loops.proofs.Existence.{loops_exist}
-use Rattle.loops.proofs.Told.{told_parts}
-use Rattle.isolation.proofs.SettlingLemmas.{loops-are}
+use Rattle.fixpoint.proofs.ToldLemmas.{loops-are}
 use Rattle.care_sets.specs.Care.{CareSet, IsCareVector}
 use Rattle.refusals.proofs.RefusalLemmas.{length-bits}
+use Rattle.refusals.proofs.ShowingLemmas.{care_vector_is}
 use Rattle.schedules.specs.Settling.{HasSameInterface}
 use Rattle.schedules.specs.Accepted.{TellsAsMuch}
 use Rattle.schedules.proofs.SameLemmas.{same_by_fixpoints}
@@ -30,12 +28,12 @@ use Rattle.unroll.specs.Laws.{AreEnough}
 use Rattle.unroll.specs.Unrolled.{sweeps_of, unrolled, unrolled_size, shift, kept_latch, IsOfLoops}
 use Rattle.unroll.proofs.Opened.{unrolled_is_loop_free}
 use Rattle.unroll.proofs.Telling.{unrolled_has_its_size, unrolled_keeps_interface, unrolled_tells_as_much}
-use Rattle.diagram_decision.specs.Judgements.{are_care_values, AreSweepsOnCare}
-use Rattle.rewriting.specs.Rewriting.{sweeps_needed, rewritten, rewritten_size, IsRewriting}
+use Rattle.loop_simulation.specs.Sweeping.{are_care_values, AreSweepsOnCare, sweeps_needed}
+use Rattle.loop_simulation.proofs.NeededLemmas.{needed_is_least, care-values, counts_are_needed}
+use Rattle.rewriting.specs.Rewriting.{rewritten, rewritten_size, IsRewriting}
 use Rattle.rewriting.specs.Laws.{RewrittenIsLoopFree, RewrittenHasItsSize, RewrittenShowsTheSame}
 use Rattle.rewriting.proofs.AgreeLemmas.{netlists_agree, sizes_agree}
 use Rattle.rewriting.proofs.CoverLemmas.{unrolled_has_covers}
-use Rattle.rewriting.proofs.NeededLemmas.{needed_is_least, care-values}
 
 needed_is_of_loops : (net : Parts) (care : CareSet) → IsOfLoops (loops_of net) (sweeps_needed net care)
 needed_is_of_loops net care = grind (arith, count_is_of_loops net (loops_of net) (loops_exist net) (are_care_values net care) (sweeps_needed net care), loops_exist net, needed_is_least net care)
@@ -54,7 +52,7 @@ pub same_interface : (net : Parts) (care : CareSet) → HasSameInterface net (re
 same_interface net care = grind (arith, unrolled_keeps_interface net (loops_of net) (loops_exist net) (sweeps_needed net care) (needed_is_of_loops net care), loops_exist net, needed_is_of_loops net care)
 
 enough_on_care : (net : Parts) (care : CareSet) (v : List Bool) → IsCareVector net care v → AreEnough net (loops_of net) (sweeps_needed net care) (bits v)
-enough_on_care net care v counts = grind (arith, length-bits v, needed_is_least net care, care-values net care v counts)
+enough_on_care net care v counts = grind (arith, length-bits v, needed_is_least net care, care-values net care v counts.width (care_vector_is net care v counts))
 
 pub tells_as_much : (net : Parts) (care : CareSet) → TellsAsMuch net (rewritten net care) care
 tells_as_much net care = grind (arith, unrolled_tells_as_much net (loops_of net) (loops_exist net) (sweeps_needed net care) (needed_is_of_loops net care), loops_exist net, needed_is_of_loops net care, enough_on_care net care)
@@ -84,21 +82,13 @@ module _ (net : Parts) (blocks : Blocks) (cut : Cut) (care : CareSet) (counts : 
   loops : loops_by blocks cut ≡ loops_of net
   loops = loops-are net blocks cut are cut_is
 
-  -- two least numbers are one
-  one_least : (l : Loops) (test : List Trit → Bool) (n a b : ℕ) → IsCountOfSweeps net l test n a → IsCountOfSweeps net l test n b → a ≡ b
-  one_least l test n a b first second = grind arith
-
-  pub counts_are_needed : (n : ℕ) → (loops_of net).same n n ≡ true → sweeps_of blocks counts n ≡ sweeps_needed net care n
-  counts_are_needed n looped =
-      let told = told_parts net blocks are n n (subst (λ (l : Loops). l.same n n ≡ true) (sym loops) looped) in
-      one_least (loops_of net) (are_care_values net care) n (sweeps_of blocks counts n) (sweeps_needed net care n)
-      (subst (λ (l : Loops). IsCountOfSweeps net l (are_care_values net care) n (sweeps_of blocks counts n)) loops (on_care.loops n told.first told.looped))
-      (needed_is_least net care n)
+  needed : (n : ℕ) → (loops_of net).same n n ≡ true → sweeps_of blocks counts n ≡ sweeps_needed net care n
+  needed = counts_are_needed net blocks cut care counts are cut_is on_care
 
   pub unrolled_is_rewritten : unrolled net (loops_by blocks cut) (sweeps_of blocks counts) ≡ rewritten net care
   unrolled_is_rewritten =
       ap (λ (l : Loops). unrolled net l (sweeps_of blocks counts)) loops
-      ∙ netlists_agree net (loops_of net) (loops_exist net) (sweeps_of blocks counts) (sweeps_needed net care) counts_are_needed
+      ∙ netlists_agree net (loops_of net) (loops_exist net) (sweeps_of blocks counts) (sweeps_needed net care) needed
 
   pub size_is_rewritten : unrolled_size net (in_one_loop blocks) (sweeps_of blocks counts) ≡ rewritten_size net care
-  size_is_rewritten = grind (arith, loops, sizes_agree net (loops_of net) (loops_exist net) (sweeps_of blocks counts) (sweeps_needed net care) counts_are_needed, loops_exist net, counts_are_needed)
+  size_is_rewritten = grind (arith, loops, sizes_agree net (loops_of net) (loops_exist net) (sweeps_of blocks counts) (sweeps_needed net care) needed, loops_exist net, needed)

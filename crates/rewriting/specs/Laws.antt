@@ -3,22 +3,14 @@ use Rattle.std.specs.Prelude.{◌≡◌, ◌+◌, ℕ, length}
 use Rattle.netlist.specs.declared.parts.Parts.{Parts}
 use Rattle.netlist.specs.Netlists.{IsNetlist}
 use Rattle.netlist.specs.Walks.{IsLoopFree}
-use Rattle.loops.specs.Found.{loops_of}
-use Rattle.loops.specs.Sweeps.{IsCountOfSweeps}
 use Rattle.care_sets.specs.Care.{CareSet}
 use Rattle.refusals.specs.declared.observe.Observe.{Observe}
 use Rattle.refusals.specs.Acceptance.{Accepts}
 use Rattle.schedules.specs.Settling.{Same}
-use Rattle.diagram_decision.specs.Judgements.{are_care_values}
 use Rattle.aig_core.specs.declared.building.Built.{Built}
 use Rattle.aig_core.specs.Answers.{HasValues}
 use Rattle.rewriting.specs.Graphs.{RunsAs, machine_of}
-use Rattle.rewriting.specs.Rewriting.{sweeps_needed, rewritten, rewritten_size}
-
--- a loop needs the least number of sweeps after which its cut wires stand at the fixpoint on all care vectors
-abbrev pub NeededIsLeast : Type 0
-NeededIsLeast = (net : Parts) (care : CareSet) (n : ℕ) →
-    IsCountOfSweeps net (loops_of net) (are_care_values net care) n (sweeps_needed net care n)
+use Rattle.rewriting.specs.Rewriting.{rewritten, rewritten_size}
 
 -- the rewritten netlist has no loop
 abbrev pub RewrittenIsLoopFree : Type 0

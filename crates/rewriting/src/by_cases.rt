@@ -14,8 +14,8 @@ use crate::rewriting::rewrite;
 use bdd_ops::Diagrams;
 use care_sets::Care;
 use case_search::split_netlist;
-use feedback_cuts::find_cut;
-use loops::{LoopedNetlist, find_blocks};
+use feedback_cuts::NetlistLoops;
+use loops::LoopedNetlist;
 use netlist::Netlist;
 use refusals::Observe;
 use std::alloc::{AllocError, Global};
@@ -78,10 +78,8 @@ fn rewrite_split(
     ensures form { IfOk result (λ made. IfSome made (IsLoopFreeForm split.now care.now)) }
     ensures interface { IfOk result (λ made. IfSome made (KeepsInterface split.now)) }
 {
-    let blocks = find_blocks(alloc, split)?;
-    let cut = find_cut(alloc, split, &blocks)?;
-    let looped = LoopedNetlist::new(split, &blocks, &cut);
-    rewrite_looped(alloc, d, &looped, care, nodes)
+    let loops = NetlistLoops::find(alloc, split)?;
+    rewrite_looped(alloc, d, &loops.looped(), care, nodes)
 }
 
 /// A netlist without loops that is made by cases, where that is done.

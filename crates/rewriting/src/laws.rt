@@ -1,11 +1,6 @@
 //! The laws of rewriting, each the contract of a function that does nothing.
 
-ghost use Rattle.rewriting.specs.Laws.{GraphsShowTheSame, NeededIsLeast, RewrittenIsLoopFree, RewrittenHasItsSize, RewrittenShowsTheSame};
-
-/// The sweeps that are counted for a netlist are those that its loops need.
-pub fn needed_sweeps_are_least()
-    ensures { NeededIsLeast }
-{}
+ghost use Rattle.rewriting.specs.Laws.{GraphsShowTheSame, RewrittenIsLoopFree, RewrittenHasItsSize, RewrittenShowsTheSame};
 
 /// The rewritten netlist has no loop and its size, and of an accepted netlist it shows the same in all runs.
 pub fn rewriting_keeps_behaviour()

@@ -1,6 +1,6 @@
 -- The core that a refutation leaves, and what a step shows of one that came before.
-use Rattle.std.proofs.Common.{◌≡◌, ℕ, ◌≤◌, List, get_or, map, Some, Option, arith}
-use Rattle.std.specs.Prelude.{IfSome}
+use Rattle.std.proofs.Common.{◌≡◌, ℕ, ◌<◌, ◌≤◌, ◌∙◌, List, length, get_or, map, Ok, Err, Some, Option, subst, arith}
+use Rattle.std.specs.Prelude.{Result, IfOk, IfSome}
 use Rattle.std.specs.List.{All, Contains}
 use Rattle.std.proofs.Math.ListN.{get_or-map}
 use Rattle.std.proofs.lemmas.List.{length-map, get_or_default}
@@ -10,8 +10,10 @@ use Rattle.sat.specs.Cnf.{negated}
 use Rattle.sat.specs.declared.engine.Engine.{Engine}
 use Rattle.sat.specs.declared.steps.Verdict.{Verdict}
 use Rattle.sat.specs.declared.steps.Verdict.TheVariants.{Refuted}
+use Rattle.sat.specs.declared.steps.Step.{Step}
+use Rattle.sat.specs.declared.steps.Step.TheVariants.{Decided, Conflict, Found}
 use Rattle.sat.specs.Values.{open_count}
-use Rattle.sat.specs.Answers.{IsCore, IsVerdict, Refutes}
+use Rattle.sat.specs.Answers.{IsCore, IsVerdict, Refutes, Shows}
 use Rattle.sat.proofs.CnfLemmas.{refuted}
 
 -- the complements of a clause's literals are in the core
@@ -32,3 +34,10 @@ refutes_of formula assumptions engine found verdict shown is refuted = grind ari
 -- how many variables the search has open
 abbrev pub open_in : Engine → ℕ
 open_in engine = open_count engine.search.trail.values.items
+
+module _ (formula : List (List Lit)) (assumptions : List Lit) (before mid after : Engine) (fewer : open_in mid ≤ open_in before) where
+  shows_since : (step : Step) → Shows formula assumptions mid after step → Shows formula assumptions before after step
+  shows_since step shown = grind arith
+
+  pub shows_from : {E : Type 0} (result : Result Step E) → IfOk result (Shows formula assumptions mid after) → IfOk result (Shows formula assumptions before after)
+  shows_from {E} h shown = grind arith

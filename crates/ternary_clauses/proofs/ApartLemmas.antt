@@ -3,7 +3,7 @@ use Rattle.std.proofs.Common.{◌≡◌, Bool, true, not, List, ◌++◌, length
 use Rattle.ternary_clauses.proofs.Common.{Trit, bit, Formula, Rails, holds, IsModel, HasModelFrom, is_one, is_known, Reads, AreRailsOf, value_read, TakesValue, HasNewRails}
 use Rattle.ternary_clauses.specs.Apart.{SaysApart}
 use Rattle.ternary_clauses.specs.Nodes.{agreed, apart_clauses}
-use Rattle.ternary_clauses.proofs.GrowthLemmas.{Grows-chain, added-both, added-model, added-grows, model-here, model-after}
+use Rattle.clause_formulas.proofs.GrowthLemmas.{Grows-chain, added-both, added-model, added-grows, model-here, model-after}
 use Rattle.ternary_clauses.proofs.NodeCases.{new_values, test_of, test-more, test-reads, every_four-at, alike, alike-same, alike-refl}
 use Rattle.ternary_clauses.proofs.NodeLemmas.{apart_of, apart-test, one-bit, known-bit}
 use Rattle.ternary_clauses.proofs.ReadingLemmas.{Reads-more, within-more}

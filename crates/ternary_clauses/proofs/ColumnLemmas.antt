@@ -5,7 +5,7 @@ use Rattle.std.proofs.lemmas.List.{length-take-le, map-append, take_all}
 use Rattle.std.proofs.lemmas.Slice.Zip.{all_zipped_more}
 use Rattle.ternary_clauses.specs.Columns.{vector_read, HasVector}
 use Rattle.ternary_clauses.proofs.ReadingLemmas.{ReadsAll-more, All-within-more}
-use Rattle.ternary_clauses.proofs.GrowthLemmas.{Grows-refl, Grows-chain, model-here}
+use Rattle.clause_formulas.proofs.GrowthLemmas.{Grows-refl, Grows-chain, model-here}
 use Rattle.ternary_clauses.proofs.NodeLemmas.{known-bit, known-read}
 
 pub columns-none : (f : Formula) → IsFormula f → SaysColumns f f [] 0

@@ -19,13 +19,13 @@ pub use Rattle.std.proofs.lemmas.Result.{on_ok_weaker}
 pub use Rattle.std.specs.List.{All, AllZip, list_any, slice_index_or}
 pub use Rattle.ternary_clauses.specs.Columns.{SaysColumns}
 pub use Rattle.ternary_clauses.specs.Encoding.{IsWanted}
-pub use Rattle.ternary_clauses.specs.Formulas.{Grows, HasModelFrom, IsFormula, IsModel, IsWhole, holds, negation, says}
+pub use Rattle.clause_formulas.specs.Formulas.{Grows, HasModelFrom, IsFormula, IsModel, IsWhole, holds, negation, says}
 pub use Rattle.ternary_clauses.specs.Lifts.{Extends, ForksTo, IsFork, IsLift, IsTable}
 pub use Rattle.ternary_clauses.specs.Nodes.{column_rails, equal_clauses, new_rails, pick_clauses, picked, rail_clauses, same_clauses, wire_clauses}
 pub use Rattle.ternary_clauses.specs.Rails.{AreRailsOf, AreWithin, Reads, ReadsAll, is_known, is_one, is_zero, no_rails, rails_at, value_read}
 pub use Rattle.ternary_clauses.specs.Sums.{SaysAny}
 pub use Rattle.ternary_clauses.specs.Sweeps.{AreCopied, AreCopies, CopiedLoop, IsSeen}
 pub use Rattle.ternary_clauses.specs.Wires.{AreBound, AreWires, HasNewRails, TakesValue}
-pub use Rattle.ternary_clauses.specs.declared.formula.Formula.{Formula}
-pub use Rattle.ternary_clauses.specs.declared.formula.Rails.{Rails}
+pub use Rattle.clause_formulas.specs.declared.formula.Formula.{Formula}
+pub use Rattle.ternary_clauses.specs.declared.rails.Rails.{Rails}
 pub use Rattle.ternary_clauses.specs.declared.lifting.Fork.{Fork}

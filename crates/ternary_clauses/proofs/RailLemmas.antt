@@ -1,8 +1,8 @@
 -- New variables as rails.
 use Rattle.std.proofs.Common.{◌≡◌, ℕ, ◌+◌, Bool, true, false, List, [], ◌∷◌, ◌++◌, get_or, refl, ap, subst, ◌∙◌, arith, length-append}
 use Rattle.ternary_clauses.proofs.Common.{bit, Formula, says, holds, IsModel, IsFormula, Grows, is_one, Reads, AreWithin, column_rails, new_rails, wire_clauses, HasNewRails}
-use Rattle.ternary_clauses.proofs.ClauseLemmas.{get_or-after}
-use Rattle.ternary_clauses.proofs.GrowthLemmas.{variables-grow, added-both, added-model, added-grows, model-kept}
+use Rattle.clause_formulas.proofs.ClauseLemmas.{get_or-after}
+use Rattle.clause_formulas.proofs.GrowthLemmas.{variables-grow, added-both, added-model, added-grows, model-kept}
 use Rattle.ternary_clauses.proofs.NodeCases.{new_values, test-more}
 use Rattle.ternary_clauses.proofs.NodeLemmas.{wire-test, wire-read, wire-holds, Reads-own, known-is}
 use Rattle.ternary_clauses.proofs.ReadingLemmas.{new-read}

@@ -2,7 +2,7 @@
 use Rattle.std.proofs.Common.{◌≡◌, ℕ, zero, suc, ◌<◌, ◌≤◌, ◌+◌, ◌*◌, Bool, false, List, [], ◌∷◌, ◌++◌, length, get_or, sym, arith}
 use Rattle.ternary_clauses.proofs.Common.{All-get_or, All-weaker, All, Trit, X, Rails, Reads, ReadsAll, AreWithin, no_rails, new_rails}
 use Rattle.std.proofs.lemmas.Slice.Zip.{AllZip-long}
-use Rattle.ternary_clauses.proofs.ClauseLemmas.{says-more, says-even, get_or-after}
+use Rattle.clause_formulas.proofs.ClauseLemmas.{says-more, says-even, get_or-after}
 use Rattle.ternary_clauses.proofs.NodeCases.{new_values}
 
 -- ---- readings at further variables

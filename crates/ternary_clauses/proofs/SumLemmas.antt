@@ -5,8 +5,8 @@ use Rattle.std.proofs.lemmas.List.{take-append-le, take_all}
 use Rattle.std.proofs.lemmas.List.Folds.{list_any-append}
 use Rattle.cyc_base.proofs.TruthLemmas.{or_with_false}
 use Rattle.ternary_clauses.specs.Sums.{SaysOr}
-use Rattle.ternary_clauses.proofs.ClauseLemmas.{says-negation, says-more}
-use Rattle.ternary_clauses.proofs.GrowthLemmas.{Grows-refl, Grows-chain, model-here, model-after}
+use Rattle.clause_formulas.proofs.ClauseLemmas.{says-negation, says-more}
+use Rattle.clause_formulas.proofs.GrowthLemmas.{Grows-refl, Grows-chain, model-here, model-after}
 use Rattle.ternary_clauses.proofs.NodeCases.{alike, alike-same, alike-refl}
 use Rattle.ternary_clauses.proofs.NodeLemmas.{one-bit, known-bit}
 

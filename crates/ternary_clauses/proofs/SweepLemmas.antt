@@ -24,7 +24,8 @@ use Rattle.ternary_clauses.specs.Rails.{unknown_rails}
 use Rattle.ternary_clauses.specs.Sweeps.{ReadsPlaces, ReadsOutside, SaysSweep, HasCopies, IsCopiedLoop, IsCopyWithin, IsCopyOf, ReadsSeen, value_seen, BindsCopy}
 use Rattle.ternary_clauses.proofs.NodeLemmas.{Reads-unique}
 use Rattle.ternary_clauses.proofs.ReadingLemmas.{Reads-more, All-within-more}
-use Rattle.ternary_clauses.proofs.GrowthLemmas.{Grows-refl, Grows-chain, model-here, model-after, rails-kept}
+use Rattle.clause_formulas.proofs.GrowthLemmas.{Grows-refl, Grows-chain, model-here, model-after}
+use Rattle.ternary_clauses.proofs.KeptLemmas.{rails-kept}
 
 pub unknown-read : (f : Formula) (m : List Bool) → IsFormula f → IsModel m f → Reads m unknown_rails X
 unknown-read f m formula h = let e : says m 1 ≡ false = ap not (formula.truth m h) in record { one = e; zero = e; known = e }

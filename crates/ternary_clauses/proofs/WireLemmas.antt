@@ -4,7 +4,8 @@ use Rattle.ternary_clauses.proofs.Common.{length_push, get_or_append_left, All-p
 use Rattle.ternary_clauses.specs.Encoding.{gate_rails}
 use Rattle.ternary_clauses.specs.Wires.{HasFirst}
 use Rattle.ternary_clauses.proofs.ReadingLemmas.{Reads-more, All-within-more}
-use Rattle.ternary_clauses.proofs.GrowthLemmas.{Grows-refl, Grows-chain, model-here, rails-kept}
+use Rattle.clause_formulas.proofs.GrowthLemmas.{Grows-refl, Grows-chain, model-here}
+use Rattle.ternary_clauses.proofs.KeptLemmas.{rails-kept}
 
 pub wires-none : (net : Parts) (wanted never : List Bool) (given : List Rails) (f : Formula) → IsFormula f → All (AreWithin f.variables) given → length given ≡ first_gate net → AreWires net wanted never given f f given 0
 wires-none net wanted never given f formula within size = record {

@@ -1,9 +1,9 @@
 -- A literal that says whether two values aren't known and equal.
 use Rattle.std.specs.Prelude.{◌≡◌, ℕ, ◌<◌, ◌*◌, Bool, not, List, length}
 use Rattle.cyc_base.specs.declared.trit.Trit.{Trit}
-use Rattle.ternary_clauses.specs.declared.formula.Formula.{Formula}
-use Rattle.ternary_clauses.specs.declared.formula.Rails.{Rails}
-use Rattle.ternary_clauses.specs.Formulas.{says, IsModel, HasModelFrom, Grows}
+use Rattle.clause_formulas.specs.declared.formula.Formula.{Formula}
+use Rattle.ternary_clauses.specs.declared.rails.Rails.{Rails}
+use Rattle.clause_formulas.specs.Formulas.{says, IsModel, HasModelFrom, Grows}
 use Rattle.ternary_clauses.specs.Nodes.{agreed}
 use Rattle.ternary_clauses.specs.Rails.{is_known, Reads}
 

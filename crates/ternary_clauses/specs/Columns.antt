@@ -1,9 +1,9 @@
 -- Columns: new variables, each a value that is known.
 use Rattle.std.specs.Prelude.{◌≡◌, ℕ, Bool, List, length, map, All, ◌++◌}
 use Rattle.cyc_base.specs.Values.{bits}
-use Rattle.ternary_clauses.specs.declared.formula.Formula.{Formula}
-use Rattle.ternary_clauses.specs.declared.formula.Rails.{Rails}
-use Rattle.ternary_clauses.specs.Formulas.{says, IsModel, Grows}
+use Rattle.clause_formulas.specs.declared.formula.Formula.{Formula}
+use Rattle.ternary_clauses.specs.declared.rails.Rails.{Rails}
+use Rattle.clause_formulas.specs.Formulas.{says, IsModel, Grows}
 use Rattle.ternary_clauses.specs.Rails.{ReadsAll, AreWithin}
 
 -- the vector of an assignment: the values of the rails that are known

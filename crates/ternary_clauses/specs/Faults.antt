@@ -4,7 +4,7 @@ use Rattle.cover_logic.specs.Covers.{Cover}
 use Rattle.dual_rail.specs.Local.{size}
 use Rattle.netlist.specs.declared.parts.Parts.{Parts}
 use Rattle.netlist.specs.Netlists.{gate_at}
-use Rattle.ternary_clauses.specs.declared.formula.Formula.{Formula}
+use Rattle.clause_formulas.specs.declared.formula.Formula.{Formula}
 use Rattle.ternary_clauses.specs.Encoding.{IsWanted}
 
 -- no three variables more have room

@@ -1,8 +1,8 @@
 -- Literals that say whether one of the first so many others is true.
 use Rattle.std.specs.Prelude.{◌≡◌, ℕ, ◌<◌, ◌+◌, ◌*◌, ◌||◌, Bool, List, length, take, All, slice_index_or}
 use Rattle.std.specs.List.{list_any}
-use Rattle.ternary_clauses.specs.declared.formula.Formula.{Formula}
-use Rattle.ternary_clauses.specs.Formulas.{says, IsModel, HasModelFrom, Grows}
+use Rattle.clause_formulas.specs.declared.formula.Formula.{Formula}
+use Rattle.clause_formulas.specs.Formulas.{says, IsModel, HasModelFrom, Grows}
 
 -- The new formula says nothing but that a literal is true where one of two others is.
 pub record SaysOr (old new : Formula) (a b sum : ℕ) : Type 0 where

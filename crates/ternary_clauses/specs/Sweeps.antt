@@ -10,9 +10,9 @@ use Rattle.netlist.specs.Fixpoint.{wire, fix}
 use Rattle.loops.specs.Cuts.{Loops, is_cut}
 use Rattle.loops.specs.Placing.{Rise}
 use Rattle.loops.specs.Sweeps.{first_gate, gate_of, in_loop_of, value_in, sweep}
-use Rattle.ternary_clauses.specs.declared.formula.Formula.{Formula}
-use Rattle.ternary_clauses.specs.declared.formula.Rails.{Rails}
-use Rattle.ternary_clauses.specs.Formulas.{IsFormula, IsModel, HasModelFrom, Grows}
+use Rattle.clause_formulas.specs.declared.formula.Formula.{Formula}
+use Rattle.ternary_clauses.specs.declared.rails.Rails.{Rails}
+use Rattle.clause_formulas.specs.Formulas.{IsFormula, IsModel, HasModelFrom, Grows}
 use Rattle.ternary_clauses.specs.Rails.{Reads, AreWithin, AreRailsOf, rails_at}
 use Rattle.ternary_clauses.specs.Lifts.{SaysGate}
 

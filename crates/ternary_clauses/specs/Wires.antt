@@ -8,9 +8,9 @@ use Rattle.netlist.specs.declared.parts.Parts.{Parts}
 use Rattle.netlist.specs.Netlists.{gate_at, is_marked}
 use Rattle.netlist.specs.Fixpoint.{wires, gate_value}
 use Rattle.loops.specs.Sweeps.{first_gate, value_in}
-use Rattle.ternary_clauses.specs.declared.formula.Formula.{Formula}
-use Rattle.ternary_clauses.specs.declared.formula.Rails.{Rails}
-use Rattle.ternary_clauses.specs.Formulas.{IsModel, HasModelFrom, Grows}
+use Rattle.clause_formulas.specs.declared.formula.Formula.{Formula}
+use Rattle.ternary_clauses.specs.declared.rails.Rails.{Rails}
+use Rattle.clause_formulas.specs.Formulas.{IsModel, HasModelFrom, Grows}
 use Rattle.ternary_clauses.specs.Rails.{is_known, Reads, AreWithin, AreRailsOf, no_rails, rails_at}
 use Rattle.ternary_clauses.specs.Encoding.{IsWanted, IsStill, gate_rails, ReadsGates, Fits}
 

@@ -1,10 +1,12 @@
 //! Columns of a vector, as variables.
 ghost use Rattle.std.specs.Prelude.{◌≡◌, ◌+◌, ◌<◌, IfOk, IfErr};
-ghost use Rattle.ternary_clauses.specs.Formulas.{IsFormula};
+ghost use Rattle.clause_formulas.specs.Formulas.{IsFormula};
 ghost use Rattle.ternary_clauses.specs.Columns.{SaysColumns};
-ghost use Rattle.ternary_clauses.specs.declared.formula.ClausesFault.TheVariants.{TooMany};
+ghost use Rattle.ternary_clauses.specs.declared.fault.ClausesFault.TheVariants.{TooMany};
 
-use crate::formula::{ClausesFault, Formula, Rails};
+use crate::fault::ClausesFault;
+use crate::rails::{Rails, new_column};
+use clause_formulas::Formula;
 use std::alloc::Global;
 
 /// New variables, one for each column of a vector: rails that are known, and free. `TooMany` comes only where they would be
@@ -20,7 +22,7 @@ pub fn add_columns(
 {
     let mut rails = Vec::new(alloc);
     for _ in 0..count {
-        let column = formula.new_column()?;
+        let column = new_column(formula)?;
         rails.push(column)?;
     }
     Ok(rails)

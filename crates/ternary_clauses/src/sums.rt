@@ -1,10 +1,12 @@
 //! Whether one of many literals is true.
 ghost use Rattle.std.specs.Prelude.{◌≡◌, ◌≤◌, ◌<◌, ◌+◌, ◌*◌, All, length, OnOk, IfOk, IfErr};
-ghost use Rattle.ternary_clauses.specs.Formulas.{IsFormula};
+ghost use Rattle.clause_formulas.specs.Formulas.{IsFormula};
 ghost use Rattle.ternary_clauses.specs.Sums.{SaysOr, SaysAny};
-ghost use Rattle.ternary_clauses.specs.declared.formula.ClausesFault.TheVariants.{TooMany};
+ghost use Rattle.ternary_clauses.specs.declared.fault.ClausesFault.TheVariants.{TooMany};
 
-use crate::formula::{ClausesFault, Formula, negation};
+use crate::fault::ClausesFault;
+use crate::rails::new_column;
+use clause_formulas::{Formula, negation};
 use std::alloc::Global;
 
 // The variable 0 is true, and this is its negation.
@@ -19,7 +21,7 @@ fn add_or(formula: &mut Formula, a: u32, b: u32) -> Result<u32, ClausesFault>
     ensures variables { OnOk result (formula.new.variables ≡ formula.old.variables + 1) }
     ensures many { IfErr result (λ fault. fault ≡ TooMany → 2147483647 ≤ formula.old.variables) }
 {
-    let sum = formula.new_column()?.one;
+    let sum = new_column(formula)?.one;
     formula.add_clause(&[negation(a), sum])?;
     formula.add_clause(&[negation(b), sum])?;
     formula.add_clause(&[negation(sum), a, b])?;

@@ -6,16 +6,17 @@ ghost use Rattle.netlist.specs.Netlists.{count, IsNetlist, IsSignal};
 ghost use Rattle.loops.specs.Blocks.{block_at};
 ghost use Rattle.loops.specs.Cuts.{loops_by};
 ghost use Rattle.loops.specs.Placing.{Rise};
-ghost use Rattle.ternary_clauses.specs.declared.formula.Formula.{Formula as TheFormula};
+ghost use Rattle.clause_formulas.specs.declared.formula.Formula.{Formula as TheFormula};
 ghost use Rattle.ternary_clauses.specs.Faults.{IsFull, HasLargeIn};
-ghost use Rattle.ternary_clauses.specs.Formulas.{IsFormula, IsModel};
-ghost use Rattle.ternary_clauses.specs.declared.formula.ClausesFault.TheVariants.{TooMany};
+ghost use Rattle.clause_formulas.specs.Formulas.{IsFormula, IsModel};
+ghost use Rattle.ternary_clauses.specs.declared.fault.ClausesFault.TheVariants.{TooMany};
 ghost use Rattle.ternary_clauses.specs.Rails.{Reads, AreWithin, unknown_rails as unknown_rails_of};
 ghost use Rattle.ternary_clauses.specs.Sweeps.{SaysSweep, AreCopies, IsSeen, IsCopyWithin, IsCopyOf, BindsCopy, AreCopied};
 
-use crate::encoding::diagram_of;
-use crate::formula::{ClausesFault, Formula, Rails};
-use crate::lifting::add_gate;
+use crate::binding::bind_cover;
+use crate::fault::ClausesFault;
+use crate::rails::{Rails, new_wire};
+use clause_formulas::Formula;
 use cyc_base::Sig;
 use loops::LoopedNetlist;
 use netlist::{Gate, Netlist};
@@ -47,7 +48,7 @@ fn add_copies(
 {
     let mut copies = Vec::new(alloc);
     for _ in 0..count {
-        let wire = formula.new_wire()?;
+        let wire = new_wire(formula)?;
         copies.push(wire)?;
     }
     Ok(copies)
@@ -136,8 +137,7 @@ impl<'a> LoopCopy<'a> {
     {
         let read = self.net.gate(self.gates[place]);
         let pins = self.seen_pins(alloc, read)?;
-        let diagram = diagram_of(alloc, read)?;
-        add_gate(alloc, formula, &diagram, &pins, self.after[place])
+        bind_cover(alloc, formula, &read.cover, &pins, self.after[place])
     }
 
     // Binds the rails of each gate.

@@ -5,10 +5,10 @@ use Rattle.cyc_base.specs.declared.trit.Trit.TheVariants.{X}
 use Rattle.netlist.specs.declared.parts.Parts.{Parts}
 use Rattle.netlist.specs.Netlists.{gate_at, no_gate, IsNetlist}
 use Rattle.loops.specs.Sweeps.{gate_of}
-use Rattle.ternary_clauses.specs.declared.formula.Formula.{Formula}
-use Rattle.ternary_clauses.specs.declared.formula.Rails.{Rails}
+use Rattle.clause_formulas.specs.declared.formula.Formula.{Formula}
+use Rattle.ternary_clauses.specs.declared.rails.Rails.{Rails}
 use Rattle.ternary_clauses.specs.Encoding.{IsClosed, AreNeverUnknown}
-use Rattle.ternary_clauses.specs.Formulas.{IsModel}
+use Rattle.clause_formulas.specs.Formulas.{IsModel}
 use Rattle.ternary_clauses.specs.Rails.{AreRailsOf, AreWithin, Reads}
 use Rattle.ternary_clauses.proofs.NodeLemmas.{Reads-own}
 

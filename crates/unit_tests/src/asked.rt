@@ -1,7 +1,6 @@
 //! What is asked of a netlist with its loops on a care set, both by their texts.
 
 ghost use Rattle.care_sets.specs.Binding.{IsCareOf};
-ghost use Rattle.loops.specs.Blocks.{AreBlocksOf};
 ghost use Rattle.netlist.specs.Netlists.{IsNetlist};
 
 use crate::by_clauses::{Question, has_sweeps, is_answered, told_apart};
@@ -11,8 +10,8 @@ use crate::settling::is_settled_alone;
 use crate::texts::{care_by, net_of};
 use crate::unrolling::is_too_large;
 use care_sets::Care;
-use feedback_cuts::find_cut;
-use loops::{Blocks, LoopedNetlist, find_blocks};
+use feedback_cuts::NetlistLoops;
+use loops::LoopedNetlist;
 use netlist::Netlist;
 use std::alloc::Global;
 use std::test::Fail;
@@ -68,27 +67,12 @@ fn is_right(
     }
 }
 
-fn with_blocks(
-    alloc: Global,
-    net: &Netlist,
-    care: &Care,
-    blocks: &Blocks,
-    asked: Asked,
-) -> Result<bool, Fail>
-    requires valid { IsNetlist net.now }
-    requires care { IsCareOf net.now care.now }
-    requires blocks { AreBlocksOf net.now blocks.now }
-{
-    let cut = find_cut(alloc, net, blocks)?;
-    is_right(alloc, &LoopedNetlist::new(net, blocks, &cut), care, asked)
-}
-
 fn with_care(alloc: Global, net: &Netlist, care: &Care, asked: Asked) -> Result<bool, Fail>
     requires valid { IsNetlist net.now }
     requires care { IsCareOf net.now care.now }
 {
-    let blocks = find_blocks(alloc, net)?;
-    with_blocks(alloc, net, care, &blocks, asked)
+    let loops = NetlistLoops::find(alloc, net)?;
+    is_right(alloc, &loops.looped(), care, asked)
 }
 
 fn with_net(alloc: Global, net: &Netlist, care: &[u8], asked: Asked) -> Result<bool, Fail>

@@ -4,10 +4,11 @@
 ghost use Rattle.std.specs.Prelude.{◌↔◌, IsTrue};
 ghost use Rattle.clause_queries.specs.Clauses.{IsWithin};
 
+use clause_formulas::{Formula, negation};
 use clause_queries::Query;
 use std::alloc::Global;
 use std::test::Fail;
-use ternary_clauses::{Formula, add_any, add_apart, add_columns, negation, unknown_rails};
+use ternary_clauses::{add_any, add_apart, add_columns, unknown_rails};
 
 /// More conflicts than a search here has.
 const MANY: u64 = 1_000;

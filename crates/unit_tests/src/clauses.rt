@@ -2,17 +2,16 @@
 
 ghost use Rattle.std.specs.Prelude.{◌≡◌, ◌<◌, ◌*◌, length, All, IfOk, OnOk};
 ghost use Rattle.netlist.specs.Netlists.{IsNetlist, count};
-ghost use Rattle.ternary_clauses.specs.Formulas.{IsFormula};
+ghost use Rattle.clause_formulas.specs.Formulas.{IsFormula};
 ghost use Rattle.ternary_clauses.specs.Rails.{AreWithin};
 
 use crate::texts::net_of;
+use clause_formulas::{Formula, MAX_VARIABLES, negation, value_of};
 use clause_queries::{First, Found, Query, Reply};
 use netlist::Netlist;
 use std::alloc::{AllocError, Global};
 use std::test::Fail;
-use ternary_clauses::{
-    ClausesFault, Formula, MAX_VARIABLES, Rails, add_columns, add_netlist, negation, value_of,
-};
+use ternary_clauses::{ClausesFault, Rails, add_columns, add_netlist};
 
 /// A gate that is 1 where its input is, and unknown where it isn't.
 const SELF_LOOP: &[u8] = b".model m\n.inputs x\n.outputs a\n.names x a a\n1- 1\n-1 1\n.end\n";

@@ -40,9 +40,10 @@ pub use Rattle.std.specs.List.{All}
 pub use Rattle.std.specs.Option.{option_map, option_map_or}
 pub use Rattle.std.specs.Prelude.{find, is_none, is_some}
 pub use Rattle.verdict.specs.Fanout.{AreFanoutMarks}
-pub use Rattle.diagram_decision.specs.Alone.{SettleInOneSweep}
+pub use Rattle.isolation.specs.Alone.{SettleInOneSweep}
 pub use Rattle.diagram_decision.specs.Enough.{AddsInDecision, IsFullFor}
 pub use Rattle.verdict.specs.Loose.{AreLoopCounts, AreScattered, AreUnknownMarks, AreCandidates}
 pub use Rattle.diagram_decision.specs.Observed.{AreMarksOf}
 pub use Rattle.verdict.specs.Scopes.{AreDriversBefore, MayGoOn}
-pub use Rattle.diagram_decision.specs.Judgements.{AreLoose, are_care_values}
+pub use Rattle.diagram_decision.specs.Judgements.{AreLoose}
+pub use Rattle.loop_simulation.specs.Sweeping.{are_care_values}

@@ -1,5 +1,5 @@
 -- Netlists whose gates are all determined on care.
-use Rattle.std.proofs.Common.{◌≡◌, inl, inr, ℕ, Bool, true, false, if◌then◌else◌, List, length, get_or, Option, Some, None, refl, sym, ◌∙◌, subst, arith, true≢false}
+use Rattle.std.proofs.Common.{◌≡◌, inl, inr, ℕ, Bool, true, false, if◌then◌else◌, List, get_or, Option, Some, None, refl, sym, ◌∙◌, subst, arith, true≢false}
 use Rattle.verdict.proofs.Common.{find, cases_lt, Trit, bits, vectors, Parts, IsNetlist, Blocks, AreBlocksOf, Loops, IsCountOfSweeps, unsettled_loops_decide, is_marked, CareSet, columns, is_care_vector, Refusal, EmptyCare, Observe, care_vectors, leaves, leaves_refusal, undetermined_refusal, empty-filter, found_wide, care_vector_decides, care_vector_is, SettleInOneSweep, IsLeastCount, are_care_values, AreLoose}
 use Rattle.verdict.specs.Loose.{AreKnownAround}
 use Rattle.cyc_base.proofs.OrderLemmas.{bit-known, bits-at}
@@ -10,7 +10,7 @@ use Rattle.refusals.specs.Refusals.{empty_refusal}
 use Rattle.refusals.proofs.FirstLemmas.{found_passes}
 use Rattle.refusals.proofs.RefusalLemmas.{find_none-all, length-bits}
 use Rattle.verdict.specs.Determination.{AreDeterminedOnCare, IsGate, IsOpen}
-use Rattle.diagram_decision.proofs.CountLemmas.{bits-of-care, care-values}
+use Rattle.loop_simulation.proofs.NeededLemmas.{bits-of-care, care-values}
 use Rattle.diagram_decision.proofs.PartLemmas.{loose-none, undetermined-none, known-here}
 
 -- ---- values of care vectors

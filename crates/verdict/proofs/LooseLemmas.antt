@@ -13,8 +13,8 @@ use Rattle.clause_decision.specs.Tests.{TellEachUnknown}
 use Rattle.verdict.specs.Fanout.{AreReached}
 use Rattle.clause_decision.specs.Scopes.{AreKnownOnCare}
 use Rattle.verdict.specs.Loose.{AreKnownAround, AreWithout, IsLoopCount}
-use Rattle.diagram_decision.specs.Judgements.{AreSweepsOnCare}
-use Rattle.diagram_decision.proofs.CountLemmas.{care-values}
+use Rattle.loop_simulation.specs.Sweeping.{AreSweepsOnCare}
+use Rattle.loop_simulation.proofs.NeededLemmas.{care-values}
 use Rattle.verdict.proofs.DeterminationLemmas.{determined-around, least-count}
 use Rattle.diagram_decision.proofs.PartLemmas.{IsKnownOnCare, known-here, loose-known}
 use Rattle.verdict.proofs.CandidateLemmas.{none-some}

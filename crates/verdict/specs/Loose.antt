@@ -13,6 +13,7 @@ use Rattle.loops.specs.Cuts.{loops_by}
 use Rattle.loops.specs.Sweeps.{IsCountOfSweeps, value_in}
 use Rattle.isolation.specs.Excerpts.{gate_in}
 use Rattle.care_sets.specs.Care.{CareSet, IsCareVector}
+use Rattle.loop_simulation.specs.Known.{AreKnownSomewhere}
 use Rattle.refusals.specs.Refusals.{undetermined_refusal}
 use Rattle.refusals.specs.declared.observe.Observe.{Observe}
 use Rattle.clause_decision.specs.Scopes.{AreKnownOnCare}
@@ -20,7 +21,8 @@ use Rattle.refusals.specs.Tests.{is_unknown}
 use Rattle.verdict.specs.declared.loose.Unknown.{Unknown}
 use Rattle.verdict.specs.declared.loose.Unknown.TheVariants as unknowns
 use Rattle.verdict.specs.Unknown.{IsFedByOpen}
-use Rattle.diagram_decision.specs.Judgements.{are_care_values, AreLoose}
+use Rattle.loop_simulation.specs.Sweeping.{are_care_values}
+use Rattle.diagram_decision.specs.Judgements.{AreLoose}
 
 -- a mark for each gate: those in loops that aren't settled, and in their fanout, have one
 pub record AreCandidates (net : Parts) (blocks : Blocks) (settled marks : List Bool) : Type 0 where
@@ -32,10 +34,11 @@ pub record AreUnknownMarks (net : Parts) (care : CareSet) (marks : List Bool) : 
   pub width : length marks ≡ length net.gates
   pub each : (n : ℕ) → n < length net.gates → is_unknown net care n ≡ is_marked marks n
 
--- the gates that are unknown at some care vector: none at all, or those with a mark
+-- the gates that are unknown at some care vector: none at all, any, or those with a mark; and some that are known at some
 abbrev pub AreUnknown : Parts → CareSet → Unknown → Type 0
 AreUnknown net care unknowns.Nowhere = AreKnownOnCare net care
-AreUnknown net care (unknowns.Marked marks) = AreUnknownMarks net care marks.now
+AreUnknown net care (unknowns.Anywhere known) = AreKnownSomewhere net care known.now
+AreUnknown net care (unknowns.Marked unknown known) = AreUnknownMarks net care unknown.now × AreKnownSomewhere net care known.now
 
 -- at no care vector is one of these gates unknown, nor one that feeds them
 pub record AreKnownAround (net : Parts) (care : CareSet) (gates : List ℕ) : Type 0 where

@@ -17,8 +17,9 @@ use Rattle.diagram_decision.specs.Questions.{Asked as DiagramsAsked}
 use Rattle.verdict.specs.declared.ground.Ground.{Ground}
 use Rattle.diagram_decision.specs.declared.judgement.Judgement.{Judgement}
 use Rattle.verdict.specs.declared.verdict.Verdict.{Verdict}
-use Rattle.diagram_decision.specs.Alone.{SettleInOneSweep}
-use Rattle.diagram_decision.specs.Judgements.{AreSweepsOnCare, IsJudgement}
+use Rattle.isolation.specs.Alone.{SettleInOneSweep}
+use Rattle.loop_simulation.specs.Sweeping.{AreSweepsOnCare}
+use Rattle.diagram_decision.specs.Judgements.{IsJudgement}
 use Rattle.verdict.specs.Verdicts.{IsVerdict}
 
 pub record Asked : Type 0 where

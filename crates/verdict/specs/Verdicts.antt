@@ -8,7 +8,8 @@ use Rattle.care_sets.specs.Care.{CareSet}
 use Rattle.refusals.specs.Acceptance.{Accepts}
 use Rattle.refusals.specs.Refusals.{refusal}
 use Rattle.refusals.specs.declared.observe.Observe.{Observe}
-use Rattle.diagram_decision.specs.Judgements.{AreLoose, AreSweepsOnCare}
+use Rattle.loop_simulation.specs.Sweeping.{AreSweepsOnCare}
+use Rattle.diagram_decision.specs.Judgements.{AreLoose}
 use Rattle.verdict.specs.declared.verdict.Verdict.{Verdict}
 use Rattle.verdict.specs.declared.verdict.Verdict.TheVariants.{Accepted, Refused}
 

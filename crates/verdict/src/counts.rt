@@ -6,16 +6,17 @@ ghost use Rattle.loops.specs.Blocks.{block_at};
 ghost use Rattle.loops.specs.Cuts.{loops_by};
 ghost use Rattle.clause_decision.specs.Scopes.{AreKnownOnCare};
 ghost use Rattle.refusals.specs.Acceptance.{SomeCareVector};
+ghost use Rattle.loop_simulation.specs.Known.{AreKnownSomewhere};
 ghost use Rattle.loop_simulation.specs.Sweeping.{IsLeastCount};
 ghost use Rattle.verdict.specs.Loose.{AreUnknown, IsLoopCount};
-ghost use Rattle.diagram_decision.specs.Judgements.{AreSweepsOnCare};
+ghost use Rattle.loop_simulation.specs.Sweeping.{AreSweepsOnCare};
 
 use crate::loose::{Unknown, is_fed_known, is_known_around};
 use crate::question::Question;
 use crate::scopes::scope_of;
-use clause_decision::{needs_one_sweep, sweeps_fed_known, sweeps_needed};
+use clause_decision::{has_one_known_cut, needs_one_sweep, sweeps_fed_known, sweeps_needed};
 use cyc_base::Items;
-use diagram_decision::block_number;
+use isolation::block_number;
 use loops::{SweepCounts, gates_at};
 use std::alloc::{AllocError, Global};
 
@@ -43,25 +44,31 @@ fn ask_where_known(
     sweeps_needed(alloc, looped, care, &scope, block, question.conflicts())
 }
 
-/// The same, where these gates are unknown on care. There are none where one of them feeds the loop, either.
+/// The same, where these gates are unknown on care. There are none where one of them feeds the loop, either, unless the loop
+/// has one cut wire, and that is among those that are known at some care vector.
 fn ask_where_marked(
     alloc: Global,
     question: &Question<'_>,
     unknown: Unknown<'_>,
+    known: &[bool],
     place: usize,
 ) -> Result<Option<u32>, AllocError>
     requires unknown { AreUnknown question.now.net question.now.care unknown }
+    requires known { AreKnownSomewhere question.now.net question.now.care known.now }
     requires place { place < length question.now.blocks.list }
     requires looped { (block_at question.now.blocks place).looped ≡ true }
     ensures { IfOk result (λ found. IfSome found (λ sweeps. (gate : ℕ) → Contains (block_at question.now.blocks place).gates gate →
         IsLeastCount question.now.net (loops_by question.now.blocks question.now.cut) question.now.care gate sweeps)) }
 {
-    if !is_fed_known(alloc, question, unknown, place)? {
-        return Ok(None);
-    }
     let looped = question.looped();
     let care = question.care();
     let block = block_number(looped, place);
+    if has_one_known_cut(alloc, looped, block, known)? {
+        return Ok(Some(1));
+    }
+    if !is_fed_known(alloc, question, unknown, place)? {
+        return Ok(None);
+    }
     let scope = scope_of(alloc, question, gates_at(looped, place))?;
     sweeps_fed_known(alloc, looped, care, &scope, block, question.conflicts())
 }
@@ -82,7 +89,9 @@ fn ask_sweeps(
 {
     match unknown {
         Unknown::Nowhere => ask_where_known(alloc, question, place),
-        Unknown::Marked(_) => ask_where_marked(alloc, question, unknown, place),
+        Unknown::Anywhere { known } | Unknown::Marked { unknown: _, known } => {
+            ask_where_marked(alloc, question, unknown, known, place)
+        }
     }
 }
 

@@ -1,12 +1,12 @@
 //! What is found of a netlist once, whatever is asked of it.
 
 ghost use Rattle.std.specs.Prelude.{◌≡◌, length, IfOk};
-ghost use Rattle.diagram_decision.specs.Alone.{SettleInOneSweep};
+ghost use Rattle.isolation.specs.Alone.{SettleInOneSweep};
 ghost use Rattle.verdict.specs.Questions.{IsGround};
 
 use crate::scopes::known_gates;
-use diagram_decision::{LOOP_NODES, settled_loops};
 use fixpoint::order;
+use isolation::{LOOP_NODES, settled_loops};
 use loops::LoopedNetlist;
 use std::alloc::{AllocError, Global};
 

@@ -21,7 +21,7 @@ use cyc_base::MAX_NODES;
 use diagram_decision::{
     Judgement, Question as Asked, fit_all, judge_by_diagrams, judge_on, limit_of,
 };
-use isolation::column_rails;
+use fixpoint::column_rails;
 use loops::{Blocks, Cut, LoopedNetlist};
 use netlist::Netlist;
 use refusals::Observe;

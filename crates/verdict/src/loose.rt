@@ -15,8 +15,15 @@ use std::alloc::{AllocError, Global};
 pub enum Unknown<'a> {
     /// There are none.
     Nowhere,
-    /// Those with a mark.
-    Marked(&'a [bool]),
+    /// Any may be. Those with a mark are known at some care vector.
+    Anywhere {
+        known: &'a [bool],
+    },
+    /// Those with a mark, and some that are known at some care vector.
+    Marked {
+        unknown: &'a [bool],
+        known: &'a [bool],
+    },
 }
 
 /// Clears the marks of these gates.
@@ -53,8 +60,9 @@ pub(crate) fn is_fed_known(
     let gates = gates_at(question.looped(), place);
     match unknown {
         Unknown::Nowhere => Ok(true),
-        Unknown::Marked(marks) => {
-            let others = without(alloc, marks, gates)?;
+        Unknown::Anywhere { known: _ } => Ok(false),
+        Unknown::Marked { unknown, known: _ } => {
+            let others = without(alloc, unknown, gates)?;
             Ok(!are_reached(question.net(), gates, &others))
         }
     }
@@ -69,6 +77,7 @@ pub(crate) fn is_known_around(question: &Question<'_>, unknown: Unknown<'_>, pla
     let gates = gates_at(question.looped(), place);
     match unknown {
         Unknown::Nowhere => true,
-        Unknown::Marked(marks) => !are_reached(question.net(), gates, marks),
+        Unknown::Anywhere { known: _ } => false,
+        Unknown::Marked { unknown, known: _ } => !are_reached(question.net(), gates, unknown),
     }
 }

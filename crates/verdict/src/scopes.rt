@@ -4,7 +4,7 @@ ghost use Rattle.std.specs.Prelude.{◌≡◌, ◌<◌, ◌≤◌, not, length, 
 ghost use Rattle.care_sets.specs.Binding.{IsCareOf};
 ghost use Rattle.loops.specs.Cones.{ListsMarked};
 ghost use Rattle.clause_decision.specs.Scopes.{AreInScope, AreNeverUnknown, IsScopeOf};
-ghost use Rattle.diagram_decision.specs.Alone.{SettleInOneSweep};
+ghost use Rattle.isolation.specs.Alone.{SettleInOneSweep};
 ghost use Rattle.verdict.specs.Scopes.{AreDrivers};
 
 use crate::fanout::candidate_gates;

@@ -4,7 +4,7 @@
 ghost use Rattle.std.specs.Prelude.{◌≡◌, ◌<◌, ◌≤◌, ◌⊎◌, length, Err, IfOk, IfErr, IfSome};
 ghost use Rattle.care_sets.specs.Binding.{IsCareOf};
 ghost use Rattle.diagram_decision.specs.Causes.{IsOutOfNodes};
-ghost use Rattle.diagram_decision.specs.Alone.{SettleInOneSweep};
+ghost use Rattle.isolation.specs.Alone.{SettleInOneSweep};
 ghost use Rattle.diagram_decision.specs.Enough.{IsBelowEnough};
 ghost use Rattle.verdict.specs.Scopes.{MayGoOn};
 ghost use Rattle.verdict.specs.Determinacy.{IsUnknownGateAt};

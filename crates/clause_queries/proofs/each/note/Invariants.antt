@@ -1,5 +1,5 @@
 use Rattle.std.proofs.Common.{◌≡◌, ℕ, ◌<◌, ◌≤◌, ◌||◌, false, get_or}
-use Rattle.ternary_clauses.specs.Formulas.{says}
+use Rattle.clause_formulas.specs.Formulas.{says}
 use Rattle.clause_queries.proofs.each.note.Given as goal
 
 abbrev pub invariant-loop-place : goal.invariant-loop-place

@@ -1,5 +1,5 @@
 use Rattle.std.proofs.Common.{◌++◌, ap, ◌∙◌}
-use Rattle.accepted_loops.specs.Graphs.{told_graph}
+use Rattle.explain_text.specs.Graphs.{told_graph}
 use Rattle.cyc_tool.proofs.Common.{sweeps_needed}
 use Rattle.plain_commands.specs.Texts.{on_out}
 use Rattle.cyc_tool.proofs.explained.draw_labelled.Goals as goal

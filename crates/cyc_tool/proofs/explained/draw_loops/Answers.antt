@@ -1,6 +1,6 @@
 use Rattle.std.proofs.Common.{ap, ◌∙◌}
 use Rattle.cyc_tool.proofs.Common.{IfOk-weaker, sweeps_needed, Prints}
-use Rattle.accepted_loops.specs.Graphs.{told_graph}
+use Rattle.explain_text.specs.Graphs.{told_graph}
 use Rattle.plain_commands.specs.Texts.{told as done}
 use Rattle.cyc_tool.proofs.explained.draw_loops.Goals as goal
 

@@ -1,6 +1,6 @@
 use Rattle.std.proofs.Common.{◌≡◌, ◌++◌, false, true≢false, Result, Ok, Err, is_err, OnOk, sym, ap, ◌∙◌}
 use Rattle.report.specs.Verdicts.{accepted_text}
-use Rattle.accepted_loops.specs.Lines.{told_loops}
+use Rattle.explain_text.specs.Lines.{told_loops}
 use Rattle.cyc_tool.proofs.Common.{sweeps_needed}
 use Rattle.plain_commands.specs.Texts.{count_of_loops, on_out}
 use Rattle.cyc_tool.proofs.explained.list_loops.Goals as goal

@@ -5,7 +5,7 @@ use Rattle.diagram_decision.specs.Solving.{IsFixpointOn}
 use Rattle.diagram_decision.specs.Judgements.{IsSolvedWhole}
 use Rattle.diagram_decision.specs.declared.solving.Fixpoint.{Fixpoint}
 use Rattle.diagram_decision.proofs.CountLemmas.{column-vectors}
-use Rattle.isolation.proofs.SettlingLemmas.{loops-are}
+use Rattle.fixpoint.proofs.ToldLemmas.{loops-are}
 use Rattle.diagram_decision.proofs.SolutionLemmas.{solving-wide}
 use Rattle.diagram_decision.proofs.VerdictLemmas.{fixed-is}
 use Rattle.diagram_decision.proofs.diagrams.solve_whole.Goals as goal

@@ -4,8 +4,8 @@ use Rattle.bdd_store.proofs.GrowthLemmas.{adds_then, adds_caused, adds_moved, ad
 use Rattle.dual_rail.proofs.SurelyLemmas.{All-rails-kept}
 use Rattle.loops.specs.Cuts.{loops_by}
 use Rattle.fixpoint.specs.Working.{HasLargeCover}
-use Rattle.isolation.proofs.ColumnLemmas.{AreColumns-kept}
-use Rattle.isolation.proofs.SettlingLemmas.{loops-are}
+use Rattle.fixpoint.proofs.ColumnLemmas.{AreColumns-kept}
+use Rattle.fixpoint.proofs.ToldLemmas.{loops-are}
 use Rattle.diagram_decision.proofs.MadeLemmas.{working-wide}
 use Rattle.diagram_decision.specs.Costs.{solving_cost}
 use Rattle.equal.specs.Comparisons.{AddsInComparison, care_cost}

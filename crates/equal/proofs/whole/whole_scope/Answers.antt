@@ -1,5 +1,5 @@
 use Rattle.std.proofs.Common.{subst, sym}
-use Rattle.diagram_decision.specs.Alone.{SettleInOneSweep}
+use Rattle.isolation.specs.Alone.{SettleInOneSweep}
 use Rattle.equal.proofs.whole.whole_scope.Goals as goal
 
 pub known_gates-requires-clause-settled : goal.known_gates-requires-clause-settled

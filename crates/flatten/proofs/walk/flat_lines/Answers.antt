@@ -2,7 +2,6 @@ use Rattle.std.proofs.Common.{ap, ◌∙◌, arith, length, length-append, ◌�
 use Rattle.flatten.proofs.Common.{model_at, flat_lines}
 use Rattle.flatten.proofs.Printable.{printed_begun}
 use Rattle.flatten.proofs.Stepping.{walking_start}
-use Rattle.flatten.proofs.Results.{handed_on}
 use Rattle.cyc_base.proofs.ListLemmas.{All-but_last}
 use Rattle.flatten.specs.Printable.{IsPrintedLevel}
 use Rattle.flatten.proofs.walk.flat_lines.Goals as goal
@@ -27,10 +26,8 @@ loop-level-smaller c =
     let n = ap length c.in-Some.ensures.items ∙ length-append c.pop.new.self.items (c.in-Some.level ∷ []) in
     omega (arith, h, n)
 
-pub returns-in_err-step-clause-fault : goal.returns-in_err-step-clause-fault
-returns-in_err-step-clause-fault c =
+pub step-requires : goal.step-requires
+step-requires c =
     let top = (model_at c.args.hierarchy.now.models c.args.top).name in
-    let answer = flat_lines c.args.hierarchy.now.depth c.args.limit c.args.hierarchy.now.models c.args.top in
     let w = rw c.in-Some.ensures.items at c.loop-level.invariant.walks in
-    handed_on _ c.from_residual-in_err-step.result _ c.from_residual-in_err-step.ensures.1 c.in_err-step.ensures.fault
-    (λ h. h top answer w)
+    record { goes = (top, (c.requires.lines.0, rw c.requires.lines.1 at w)) }

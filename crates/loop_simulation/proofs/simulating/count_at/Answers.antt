@@ -1,6 +1,6 @@
 use Rattle.std.proofs.Common.{◌≡◌, ◌∙◌, ◌<◌, inl, inr, ℕ, Bool, List, length, get_or, refl, sym, ap, subst, arith, length-append}
 use Rattle.std.specs.List.{Contains}
-use Rattle.loop_simulation.proofs.Common.{cases_lt, length-map, Contains-get_or, Trit, bit, bits, Parts, fix, fix_gates, CutsAreFixed, value_in, IsReady, LoopAt, gates_in, loops_in, AreReaders}
+use Rattle.loop_simulation.proofs.Common.{cases_lt, length-map, Contains-get_or, Trit, bit, bits, Parts, fix, fix_gates, CutsAreFixed, value_in, IsReady, LoopAt, loops_in}
 use Rattle.std.proofs.lemmas.Bool.Decides.{nat_tests}
 use Rattle.std.proofs.lemmas.List.{with_items_is}
 use Rattle.loops.proofs.Sweeps.{length-fix}

@@ -7,7 +7,7 @@ loop-init c = record { says = rw c.new-rails.ensures.items (columns-none c.args.
 
 pub loop-preserved : goal.loop-preserved
 loop-preserved c = record {
-  says = rw c.in_ok-push.ensures.items (column-step c.args.formula.now c.loop.formula c.new_column.new.self c.loop.rails.items c.loop.counter c.in_ok-column.column c.loop.invariant.says c.in_ok-column.ensures.rails);
+  says = rw c.in_ok-push.ensures.items (column-step c.args.formula.now c.loop.formula c.new_column.new.formula c.loop.rails.items c.loop.counter c.in_ok-column.column c.loop.invariant.says c.in_ok-column.ensures.rails);
   variables = omega (arith, c.loop.invariant.variables, c.in_ok-column.ensures.variables);
 }
 

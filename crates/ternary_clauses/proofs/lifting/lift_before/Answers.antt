@@ -2,7 +2,7 @@ use Rattle.std.proofs.Common.{◌≡◌, [], ◌∷◌, ◌++◌, length, sym, a
 use Rattle.ternary_clauses.proofs.Common.{length_push, IsTable}
 use Rattle.bdd_store.proofs.NodeLemmas.{plain}
 use Rattle.ternary_clauses.proofs.LiftLemmas.{base-table, step-table}
-use Rattle.ternary_clauses.proofs.GrowthLemmas.{Extends-refl, Extends-chain}
+use Rattle.ternary_clauses.proofs.KeptLemmas.{Extends-refl, Extends-chain}
 use Rattle.ternary_clauses.proofs.ReadingLemmas.{All-within-more}
 use Rattle.ternary_clauses.proofs.lifting.lift_before.Goals as goal
 

@@ -6,7 +6,7 @@ use Rattle.ternary_clauses.proofs.sums.add_or.Goals as goal
 pub returns-clause-says : goal.returns-clause-says
 returns-clause-says c =
     let sum = c.in_ok-sum.field-0.one in
-    let mid = c.new_column.new.self in
+    let mid = c.new_column.new.formula in
     let one = c.add_clause.new.self in
     let two = c.add_clause-2.new.self in
     or-says c.args.formula.now mid one two c.add_clause-3.new.self c.args.a c.args.b c.in_ok-sum.field-0 c.requires.a c.requires.b c.in_ok-sum.ensures.rails

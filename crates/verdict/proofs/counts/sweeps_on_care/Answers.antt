@@ -1,7 +1,7 @@
 use Rattle.std.proofs.Common.{List, Bool, length, ap, arith, ◌+◌, ◌∙◌}
 use Rattle.verdict.specs.Loose.{IsLoopCount}
 use Rattle.verdict.proofs.Common.{length_push}
-use Rattle.diagram_decision.proofs.AloneLemmas.{each-more}
+use Rattle.isolation.proofs.AloneLemmas.{each-more}
 use Rattle.verdict.proofs.LooseLemmas.{loop-counts-all}
 use Rattle.verdict.proofs.counts.sweeps_on_care.Goals as goal
 

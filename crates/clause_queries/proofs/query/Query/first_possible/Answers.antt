@@ -1,6 +1,6 @@
 use Rattle.std.proofs.Common.{◌≡◌, ◌-◌, ◌++◌, ◌∷◌, [], length, get_or, true, sym, subst, arith}
 use Rattle.std.proofs.lemmas.Bool.Decides.{nat_tests}
-use Rattle.ternary_clauses.specs.Formulas.{says}
+use Rattle.clause_formulas.specs.Formulas.{says}
 use Rattle.clause_queries.specs.Queries.{IsReply}
 use Rattle.clause_queries.specs.Bisection.{IsOpen}
 use Rattle.clause_queries.proofs.BisectionLemmas.{open-first, possible-earlier, none-earlier}

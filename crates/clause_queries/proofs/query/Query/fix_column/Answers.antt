@@ -1,6 +1,6 @@
 use Rattle.std.proofs.Common.{◌≡◌, ◌∙◌, ◌∷◌, [], ◌++◌, List, ℕ, Bool, true, false, length, set, sym, ap, subst, arith}
 use Rattle.std.proofs.Math.Seq.{set-append_seam}
-use Rattle.ternary_clauses.specs.Formulas.{negation, says}
+use Rattle.clause_formulas.specs.Formulas.{negation, says}
 use Rattle.clause_queries.specs.Queries.{IsReply, IsModelUnder, HasNoModelUnder}
 use Rattle.clause_queries.specs.Descent.{IsFixed}
 use Rattle.clause_queries.proofs.DescentLemmas.{fixed-stays, fixed-low, fixed-high}

@@ -1,5 +1,5 @@
 use Rattle.std.proofs.Common.{◌≡◌, ◌+◌, ◌-◌, ◌/◌, ◌++◌, ◌∷◌, [], get_or, true, subst, arith}
-use Rattle.ternary_clauses.specs.Formulas.{says}
+use Rattle.clause_formulas.specs.Formulas.{says}
 use Rattle.clause_queries.specs.Queries.{IsReply}
 use Rattle.clause_queries.proofs.BisectionLemmas.{open-lower, open-higher}
 use Rattle.clause_queries.proofs.query.Query.halve.Goals as goal

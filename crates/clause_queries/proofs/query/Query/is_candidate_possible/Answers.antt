@@ -1,5 +1,5 @@
 use Rattle.std.proofs.Common.{◌∙◌, ◌||◌, ◌++◌, ◌∷◌, [], false, get_or, ap, subst, true≢false, arith}
-use Rattle.ternary_clauses.specs.Formulas.{says}
+use Rattle.clause_formulas.specs.Formulas.{says}
 use Rattle.clause_queries.specs.Queries.{IsReply}
 use Rattle.clause_queries.proofs.DescentLemmas.{under-last}
 use Rattle.clause_queries.proofs.EachLemmas.{told-found, told-model, told-never}

@@ -1,5 +1,5 @@
 use Rattle.std.proofs.Common.{◌∙◌, map, subst, sym}
-use Rattle.ternary_clauses.specs.Formulas.{negation}
+use Rattle.clause_formulas.specs.Formulas.{negation}
 use Rattle.clause_queries.specs.Clauses.{IsWithin}
 use Rattle.clause_queries.specs.Queries.{IsReply, IsModelUnder}
 use Rattle.clause_queries.proofs.DescentLemmas.{under-first, negations-within}

@@ -1,5 +1,4 @@
 use Rattle.std.proofs.Common.{arith}
-use Rattle.flatten.proofs.Common.{formals}
 use Rattle.flatten.proofs.Libraries.{formals_at}
 use Rattle.flatten.proofs.hierarchy.Hierarchy.formals.Goals as goal
 

@@ -1,5 +1,0 @@
-use Rattle.accepted_loops.proofs.Common.{AddMarks, IsReadBelow}
-use Rattle.accepted_loops.proofs.columns.mark_read.Given as goal
-
-abbrev pub invariant-loop-gate : goal.invariant-loop-gate
-invariant-loop-gate l = AddMarks (IsReadBelow l.net l.upstream l.gate) l.fn.read l.read

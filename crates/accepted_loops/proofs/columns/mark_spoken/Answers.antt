@@ -1,7 +1,0 @@
-use Rattle.accepted_loops.proofs.ReadLemmas.{columns_marked}
-use Rattle.accepted_loops.proofs.columns.mark_spoken.Goals as goal
-
-pub returns : goal.returns
-returns c =
-    columns_marked c.args.net.now c.args.gate c.args.upstream.now c.args.read.now c.mark_read.new.read c.requires.width c.requires.none c.requires.upstream
-    c.mark_read.ensures

@@ -1,4 +1,0 @@
--- The chapter: what the contracts of public functions say.
-pub mod Columns
-pub mod Lines
-pub mod Graphs

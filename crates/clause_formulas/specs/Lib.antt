@@ -1,0 +1,2 @@
+-- The chapter: what the contracts of public functions say.
+pub mod Formulas

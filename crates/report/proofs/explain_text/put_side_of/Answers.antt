@@ -1,6 +1,0 @@
-use Rattle.std.proofs.Common.{[], arith}
-use Rattle.report.proofs.Common.{get_or_from_slice_get, signal_names}
-use Rattle.report.proofs.explain_text.put_side_of.Goals as goal
-
-pub returns : goal.returns
-returns g c = grind (arith, get_or_from_slice_get (signal_names c.args.net.now) c.args.signal c.name_of.result.now [] c.name_of.ensures.name)

@@ -1,5 +1,0 @@
-use Rattle.rewriting.proofs.NeededLemmas.{needed_is_least}
-use Rattle.rewriting.proofs.laws.needed_sweeps_are_least.Goals as goal
-
-pub returns : goal.returns
-returns c = needed_is_least

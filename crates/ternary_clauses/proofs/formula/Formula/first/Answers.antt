@@ -1,6 +1,0 @@
-use Rattle.std.proofs.Common.{refl}
-use Rattle.ternary_clauses.proofs.AddLemmas.{first-formula}
-use Rattle.ternary_clauses.proofs.formula.Formula.first.Goals as goal
-
-pub returns-clause-formula : goal.returns-clause-formula
-returns-clause-formula c = first-formula (record { variables = 1; literals = c.in_ok-literals.literals }) refl c.in_ok-literals.ensures.items

@@ -1,5 +1,0 @@
-use Rattle.ternary_clauses.proofs.RailLemmas.{wire-new}
-use Rattle.ternary_clauses.proofs.formula.Formula.new_wire.Goals as goal
-
-pub returns-clause-rails : goal.returns-clause-rails
-returns-clause-rails c = wire-new c.args.self.now c.add_wire.new.self c.requires c.add_wire.ensures.variables c.in_ok-add_wire.ensures.literals
