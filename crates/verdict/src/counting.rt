@@ -54,7 +54,7 @@ fn counts_with_known(
 }
 
 /// The sweeps of all loops of an accepted netlist on care, where so many gates are unknown there. There are none where the solver
-/// gave up in a search, or where an unknown gate feeds a loop.
+/// gave up in a search, or where an unknown gate feeds a loop and no simulated vector tells that it needs one sweep.
 pub(crate) fn counts_by_clauses(
     alloc: Global,
     question: &Question<'_>,
