@@ -11,7 +11,7 @@ use std::alloc::{AllocError, Global};
 pub(crate) const CONFLICTS: u64 = 1_000;
 
 /// A value, as it is asked for.
-fn fixed(value: ColumnValue) -> Fixed
+fn fixed_value(value: ColumnValue) -> Fixed
     ensures { result ≡ fixed_of value }
 {
     Fixed {
@@ -23,7 +23,7 @@ fn fixed(value: ColumnValue) -> Fixed
 pub(crate) fn fixed_values(alloc: Global, values: &[ColumnValue]) -> Result<Vec<Fixed>, AllocError>
     ensures { IfOk result (λ all. all.items ≡ map fixed_of values.now) }
 {
-    values.iter().map(|value| fixed(*value)).collect(alloc)
+    values.iter().map(|value| fixed_value(*value)).collect(alloc)
 }
 
 pub(crate) fn opposite(value: ColumnValue) -> ColumnValue
@@ -62,7 +62,7 @@ pub(crate) fn is_ruled_out(
 }
 
 /// The values of both.
-pub(crate) fn joined(
+pub(crate) fn join(
     alloc: Global,
     cube: &[ColumnValue],
     other: &[ColumnValue],

@@ -9,7 +9,7 @@ ghost use Rattle.cyc_base.specs.Values.{bits};
 ghost use Rattle.loops.specs.Sweeps.{first_gate};
 ghost use Rattle.case_search.specs.Cases.{cube_of, AreApart, AreShown, ForcesKnown, HasAll, IsApartFromEach, ToldBy};
 
-use crate::asking::{CONFLICTS, fixed_values, is_ruled_out, joined, opposite, with};
+use crate::asking::{CONFLICTS, fixed_values, is_ruled_out, join, opposite, with};
 use care_sets::Care;
 use case_split::{Case, ColumnValue};
 use clause_pairs::{CareQuestions, Cube, leave_none_out};
@@ -48,7 +48,7 @@ fn are_apart(
     if are_contrary(cube, other) {
         return Ok(true);
     }
-    let both = joined(alloc, cube, other)?;
+    let both = join(alloc, cube, other)?;
     is_ruled_out(alloc, questions, &both)
 }
 

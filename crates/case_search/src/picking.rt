@@ -3,7 +3,7 @@
 ghost use Rattle.std.specs.Prelude.{◌≡◌, ◌<◌, ◌≤◌, length, All, IfOk, IfSome};
 ghost use Rattle.case_search.specs.Searches.{IsCone};
 
-use crate::asking::{forced_values, joined, with};
+use crate::asking::{forced_values, join, with};
 use crate::cones::{Cone, NOTHING};
 use crate::reducing::reduced_case;
 use care_sets::Care;
@@ -110,7 +110,7 @@ fn values_with(
     node: &Node,
     value: ColumnValue,
 ) -> Result<Vec<ColumnValue>, AllocError> {
-    let mut values = joined(alloc, &node.cube, &node.known)?;
+    let mut values = join(alloc, &node.cube, &node.known)?;
     values.push(value)?;
     for implication in search.implications {
         if implication.from == value {
@@ -232,7 +232,7 @@ fn new_node(
 ) -> Result<Node, AllocError>
     requires { IsCone search.now.cone.now }
 {
-    let values = joined(alloc, &cube, &known)?;
+    let values = join(alloc, &cube, &known)?;
     let left = search.cone.left_by(alloc, &values)?;
     let columns = columns_without(alloc, columns, &values)?;
     Ok(Node {

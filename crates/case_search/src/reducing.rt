@@ -1,6 +1,6 @@
 //! Cases by few values: those are left out of a cube that its others imply on care.
 
-use crate::asking::{is_ruled_out, joined, opposite, with};
+use crate::asking::{is_ruled_out, join, opposite, with};
 use case_split::{Case, ColumnValue};
 use clause_pairs::CareQuestions;
 use std::alloc::{AllocError, Global};
@@ -13,13 +13,13 @@ fn is_implied(
     behind: &[ColumnValue],
     value: ColumnValue,
 ) -> Result<bool, AllocError> {
-    let others = joined(alloc, before, behind)?;
+    let others = join(alloc, before, behind)?;
     let contrary = with(alloc, &others, opposite(value))?;
     is_ruled_out(alloc, questions, &contrary)
 }
 
 /// The values without those of this kind that the others imply, in their order.
-fn thinned(
+fn without_implied(
     alloc: Global,
     questions: &mut CareQuestions,
     values: &[ColumnValue],
@@ -42,8 +42,8 @@ fn thin(
     questions: &mut CareQuestions,
     values: &[ColumnValue],
 ) -> Result<Vec<ColumnValue>, AllocError> {
-    let ones = thinned(alloc, questions, values, false)?;
-    thinned(alloc, questions, &ones, true)
+    let ones = without_implied(alloc, questions, values, false)?;
+    without_implied(alloc, questions, &ones, true)
 }
 
 /// The shorter of two cubes that are one on care: out of the cube alone, and out of it and what it forces.
@@ -82,7 +82,7 @@ pub(crate) fn reduced_case(
     cube: &[ColumnValue],
     known: &[ColumnValue],
 ) -> Result<Case, AllocError> {
-    let all = joined(alloc, cube, known)?;
+    let all = join(alloc, cube, known)?;
     let short = shortest(alloc, questions, cube, &all)?;
     let known = others_than(alloc, &all, &short)?;
     Ok(Case { cube: short, known })

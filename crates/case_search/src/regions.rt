@@ -88,7 +88,7 @@ fn graph_of(alloc: Global, lists: &[GateList], count: u32) -> Result<Graph, Allo
 }
 
 /// Those of the gates that have the same home, together.
-fn grouped(
+fn group_by_home(
     alloc: Global,
     gates: &[u32],
     homes: &[u32],
@@ -113,5 +113,5 @@ pub(crate) fn regions_of(
     let lists = neighbours(alloc, net, gates)?;
     let graph = graph_of(alloc, &lists, gates.len() as u32)?;
     let components = Components::of(alloc, &graph)?;
-    grouped(alloc, gates, components.home.items(), components.count)
+    group_by_home(alloc, gates, components.home.items(), components.count)
 }

@@ -4,7 +4,7 @@ use Rattle.std.specs.List.{range_with_len}
 use Rattle.std.specs.List.Sorted.{IsPermutation}
 use Rattle.std.proofs.lemmas.Bool.{cases_eq, cases_lt}
 use Rattle.std.proofs.lemmas.List.{get_or-append_right, get_or-map, get_or-set_other, get_or-set_same, get_or_append_left, get_or_default, length-append, length-replicate, length-set, take_more}
-use Rattle.std.proofs.lemmas.List.Elements.{All-append, All-cons, All-contains, All-from_recursion, All-map, All-nil, All-push, All-replicate, All-same, recursion_from_All}
+use Rattle.std.proofs.lemmas.List.Elements.{All-append, All-cons, All-contains, All-from_recursion, All-map, All-nil, All-push, All-replicate, All-same, Contains-get_or, recursion_from_All}
 use Rattle.std.proofs.lemmas.List.FromFn.{get_or-range_with_len, length-range_with_len}
 use Rattle.std.proofs.lemmas.List.Sorted.{Contains-permutation, length_permutation}
 use Rattle.cyc_base.proofs.ListLemmas.{Contains-filter, Contains-range}
@@ -90,20 +90,33 @@ plain_standing net values gates table h wide s l = inl (plain_by values (get_or 
 
 -- ---- one table
 
-pub table_made : (net : Parts) (marks : List Bool) (given values : List Trit) (list order : List ℕ) (old new : List Gate) (before after : List Operand) → list ≡ copied_gates net marks → values ≡ fix net given → length values ≡ count net → ArePlain values before → IsPermutation list order → AreCopySteps net order old new before after →
+-- gates that were copied in another order
+pub copied_in_order : (net : Parts) (list order : List ℕ) (old new : List Gate) (before after : List Operand) → IsPermutation list order → AreCopySteps net order old new before after → AreCopySteps net list old new before after
+copied_in_order net list order old new before after permuted steps = record {
+  more = subst (IsMore old new) (length_permutation list order permuted) steps.more;
+  are = steps.are;
+  width = steps.width;
+  within = steps.within;
+  stand = steps.stand;
+  made = λ values stand i d l.
+      All-contains (IsMade net values (count net) new after) order (get_or list i d) (steps.made values stand)
+      (Contains-permutation list order (get_or list i d) permuted (Contains-get_or list i d l));
+}
+
+pub table_made : (net : Parts) (marks : List Bool) (given : List Trit) (list : List ℕ) (old new : List Gate) (before after : List Operand) → list ≡ copied_gates net marks → length (fix net given) ≡ count net → ArePlain (fix net given) before → AreCopySteps net list old new before after →
     IsTableStep net marks given old new after
-table_made net marks given values list order old new before after is ev wide plain permuted steps =
+table_made net marks given list old new before after is wide plain steps =
+    let values = fix net given in
     let stand = plain_standing net values old before plain wide in
     let all = steps.made values stand in
     record {
-      is = subst (λ (xs : List Trit). IsTable net (is_marked marks) xs (count net) new after) ev (record {
+      is = record {
         width = steps.width;
         each = steps.stand values stand;
-        made = λ n l e. All-contains (IsMade net values (count net) new after) order n all
-            (Contains-permutation list order n permuted (subst (λ (xs : List ℕ). Contains xs n) (sym is) (copied_all net marks n l e)));
-      });
+        made = λ n l e. All-contains (IsMade net values (count net) new after) list n all (subst (λ (xs : List ℕ). Contains xs n) (sym is) (copied_all net marks n l e));
+      };
       within = steps.within;
-      more = more_weaker old new (length order) (length (copied_gates net marks)) (let e = length_permutation list order permuted in let f = ap length is in omega arith) steps.more;
+      more = more_weaker old new (length list) (length (copied_gates net marks)) (let f = ap length is in omega arith) steps.more;
       are = steps.are;
     }
 

@@ -99,10 +99,10 @@ module _ (net : Parts) (cases : List Case) (leaves : List Operand) (before : Ope
     last_seen = ap (value_by f) (last_leaf (Constant false))
 
     row_values : (j : ℕ) (c : Case) (match : List Lit → List Trit → Bool) → j < length cases → match (get_or is.cover.rows j no_row).lits values ≡ match (map (asked_at (get_or cases j c).cube.items (first j)) is.pins) values
-    row_values j c match l = ap (λ (ls : List Lit). match ls values) (is.rows.each j c no_row l)
+    row_values j c match l = ap (λ (ls : List Lit). match ls values) (is.is.rows.each j c no_row l)
 
     last_values : (match : List Lit → List Trit → Bool) → match (get_or is.cover.rows (length cases) no_row).lits values ≡ match (map (asked_at [] (length cases)) is.pins) values
-    last_values match = ap (λ (ls : List Lit). match ls values) (is.rows.last no_row)
+    last_values match = ap (λ (ls : List Lit). match ls values) (is.is.rows.last no_row)
 
     -- a case whose leaf is 0 has a row that doesn't match
     case_zero : (j : ℕ) (c : Case) (d : Operand) → j < length cases → value_by f (get_or leaves j d) ≡ Zero → may_match (get_or is.cover.rows j no_row).lits values ≡ false
@@ -132,7 +132,7 @@ module _ (net : Parts) (cases : List Case) (leaves : List Operand) (before : Ope
     shown agree i x l must may others =
         Below-trans x (ext is.cover (map (value_by f) (map (operand_on all) is.pins))) (value_by f chosen)
         (subst (λ (ts : List Trit). Below x (ext is.cover ts)) (sym (values_seen f all is.pins))
-        (subst (λ (p : Bool). Below x (exact (value_of_rows p is.cover.rows) values)) (sym is.plane)
+        (subst (λ (p : Bool). Below x (exact (value_of_rows p is.cover.rows) values)) (sym is.is.plane)
         (one_row is.cover.rows values i x l must may others)))
         (is.added.tells f agree)
 
@@ -142,7 +142,7 @@ module _ (net : Parts) (cases : List Case) (leaves : List Operand) (before : Ope
         by : (cs : List Case) → cs ≡ cases → Below (value_by f (get_or leaves i d)) (value_by f chosen)
         by [] e = absurd (let n = ap length e in omega arith)
         by (c ∷ cs) e =
-            let w = is.rows.width in
+            let w = is.is.rows.width in
             shown agree i (value_by f (get_or leaves i d)) (omega arith)
             (λ one. row_values i c must_match l ∙ row_must f all (get_or cases i c).cube.items (first i) is.pins (only.here c) (first_seen i d l ∙ one))
             (λ low. case_zero i c d l low)
@@ -155,7 +155,7 @@ module _ (net : Parts) (cases : List Case) (leaves : List Operand) (before : Ope
 
     chosen_before : Agrees f (count net) new → All (λ case. IsOutBy f case.cube.items) cases → Below (value_by f before) (value_by f chosen)
     chosen_before agree out =
-        let w = is.rows.width in
+        let w = is.is.rows.width in
         shown agree (length cases) (value_by f before) (omega arith)
         (λ one. last_values must_match ∙ row_must f all [] (length cases) is.pins (All-nil (HoldsBy f)) (last_seen ∙ one))
         (λ low. last_values may_match ∙ row_zero f all [] (length cases) is.pins is.are_pins.last (last_seen ∙ low))

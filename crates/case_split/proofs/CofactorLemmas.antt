@@ -14,7 +14,7 @@ use Rattle.cyc_base.proofs.ListLemmas.{all_map}
 use Rattle.cyc_base.proofs.OrderLemmas.{Below-refl, Below-from, Below-trans, EachBelow-map, EachBelow-trans}
 use Rattle.cover_logic.specs.Covers.{Cover, IsCover, allows, cover_of, first_fault, has_width, matches, some_row_matches, value, value_of_rows}
 use Rattle.cover_logic.specs.Extensions.{ext}
-use Rattle.cover_logic.specs.Partial.{may_allow, may_match}
+use Rattle.cover_logic.specs.Partial.{may_allow}
 use Rattle.cover_logic.specs.declared.row.Lit.{Lit}
 use Rattle.cover_logic.specs.declared.row.Lit.TheVariants as lit
 use Rattle.cover_logic.specs.declared.row.Row.{Row}
@@ -22,7 +22,7 @@ use Rattle.cover_logic.proofs.ExtensionLemmas.{exact_from, exact_says, some_comp
 use Rattle.case_split.specs.declared.operands.Operand.{Operand}
 use Rattle.case_split.specs.declared.operands.Operand.TheVariants.{Constant, Wire}
 use Rattle.case_split.specs.Operands.{value_by, known_value, IsWithin}
-use Rattle.case_split.specs.Cofactors.{live_rows, is_literal, is_asked, left_at, AreLeft, wires_of, left_lits, left_row, IsLeft, IsFolded}
+use Rattle.case_split.specs.Cofactors.{is_live, live_rows, is_literal, is_asked, left_at, AreLeft, wires_of, left_lits, left_row, IsLeft, IsFolded}
 
 nil_from : {A : Type 0} (xs : List A) → length xs ≡ 0 → xs ≡ []
 nil_from [] e = refl
@@ -133,25 +133,25 @@ allows_may l t b c h = grind arith
 and_both : (a b : Bool) → a ≡ true → b ≡ true → (a && b) ≡ true
 and_both a b h k = grind arith
 
-matches_may : (lits : List Lit) (trits : List Trit) (bs : List Bool) → Completes trits bs → matches lits bs ≡ true → may_match lits trits ≡ true
-matches_may [] trits bs c h = refl
-matches_may (l ∷ lits) [] bs c h = refl
-matches_may (l ∷ lits) (t ∷ trits) [] c h = absurd c
-matches_may (l ∷ lits) (t ∷ trits) (b ∷ bs) c h =
+matches_live : (lits : List Lit) (os : List Operand) (bs : List Bool) → Completes (map known_value os) bs → matches lits bs ≡ true → is_live lits os ≡ true
+matches_live [] os bs c h = refl
+matches_live (l ∷ lits) [] bs c h = refl
+matches_live (l ∷ lits) (o ∷ os) [] c h = absurd c
+matches_live (l ∷ lits) (o ∷ os) (b ∷ bs) c h =
     let p = and_parts (allows l b) (matches lits bs) h in
-    and_both (may_allow l t) (may_match lits trits) (allows_may l t b c.0 p.0) (matches_may lits trits bs c.1 p.1)
+    and_both (may_allow l (known_value o)) (is_live lits os) (allows_may l (known_value o) b c.0 p.0) (matches_live lits os bs c.1 p.1)
 
 -- each live row fits
 abbrev pub LiveFits : List Operand → List (Option Sig) → Row → Type 0
-LiveFits os left row = may_match row.lits (map known_value os) ≡ true → Fits os left row.lits
+LiveFits os left row = is_live row.lits os ≡ true → Fits os left row.lits
 
 row_same : (os : List Operand) (left : List (Option Sig)) (row : Row) (f : Sig → Trit) (cs : List Bool) → LiveFits os left row → AllZip IsLeftPin os left → Completes (map f (wires_of left)) cs →
-    matches row.lits (filled os left f cs) ≡ (may_match row.lits (map known_value os) && matches (left_lits row.lits left) cs)
-row_same os left row f cs fits l c = elim (cases_Bool (may_match row.lits (map known_value os))) [
+    matches row.lits (filled os left f cs) ≡ (is_live row.lits os && matches (left_lits row.lits left) cs)
+row_same os left row f cs fits l c = elim (cases_Bool (is_live row.lits os)) [
   | inl e ↦ matches-filled os left row.lits f cs (fits e) c ∙ sym (ap (λ t. t && matches (left_lits row.lits left) cs) e)
   | inr e ↦
       false_from_ne_true (matches row.lits (filled os left f cs))
-      (λ h. true≢false (sym (matches_may row.lits (map known_value os) (filled os left f cs) (filled-known os left f cs l c) h) ∙ e))
+      (λ h. true≢false (sym (matches_live row.lits os (filled os left f cs) (filled-known os left f cs l c) h) ∙ e))
       ∙ sym (ap (λ t. t && matches (left_lits row.lits left) cs) e)
 ]
 
@@ -159,10 +159,10 @@ any_kept : {A B : Type 0} (g : B → Bool) (h : A → B) (x : A) (xs : List A) (
 any_kept g h x xs kept = grind arith
 
 rows_same : (os : List Operand) (left : List (Option Sig)) (rows : List Row) (f : Sig → Trit) (cs : List Bool) → AllByRecursion (LiveFits os left) rows → AllZip IsLeftPin os left → Completes (map f (wires_of left)) cs →
-    some_row_matches rows (filled os left f cs) ≡ some_row_matches (map (left_row left) (live_rows rows (map known_value os))) cs
+    some_row_matches rows (filled os left f cs) ≡ some_row_matches (map (left_row left) (live_rows rows os)) cs
 rows_same os left [] f cs fits l c = refl
 rows_same os left (row ∷ rows) f cs fits l c =
-    grind (arith, row_same os left row f cs fits.0 l c, rows_same os left rows f cs fits.1 l c, any_kept (λ r. matches r.lits cs) (left_row left) row (live_rows rows (map known_value os)) (may_match row.lits (map known_value os)))
+    grind (arith, row_same os left row f cs fits.0 l c, rows_same os left rows f cs fits.1 l c, any_kept (λ r. matches r.lits cs) (left_row left) row (live_rows rows os) (is_live row.lits os))
 
 -- ---- planes
 
@@ -193,11 +193,11 @@ plane_kept false (row ∷ live) left some = ne_eqb (length (map (left_row left) 
 
 -- ---- what is left fits
 
-may_match-at : (ls : List Lit) (os : List Operand) (i : ℕ) (d : Operand) → may_match ls (map known_value os) ≡ true → i < length os → i < length ls → may_allow (get_or ls i lit.Any) (known_value (get_or os i d)) ≡ true
-may_match-at [] os i d h l k = absurd (omega arith)
-may_match-at (x ∷ ls) [] i d h l k = absurd (omega arith)
-may_match-at (x ∷ ls) (o ∷ os) zero d h l k = (and_parts (may_allow x (known_value o)) (may_match ls (map known_value os)) h).0
-may_match-at (x ∷ ls) (o ∷ os) (suc i) d h l k = may_match-at ls os i d (and_parts (may_allow x (known_value o)) (may_match ls (map known_value os)) h).1 (omega arith) (omega arith)
+live-at : (ls : List Lit) (os : List Operand) (i : ℕ) (d : Operand) → is_live ls os ≡ true → i < length os → i < length ls → may_allow (get_or ls i lit.Any) (known_value (get_or os i d)) ≡ true
+live-at [] os i d h l k = absurd (omega arith)
+live-at (x ∷ ls) [] i d h l k = absurd (omega arith)
+live-at (x ∷ ls) (o ∷ os) zero d h l k = (and_parts (may_allow x (known_value o)) (is_live ls os) h).0
+live-at (x ∷ ls) (o ∷ os) (suc i) d h l k = live-at ls os i d (and_parts (may_allow x (known_value o)) (is_live ls os) h).1 (omega arith) (omega arith)
 
 fits_by : (os : List Operand) (left : List (Option Sig)) (ls : List Lit) → length left ≡ length os → length ls ≡ length os → ((i : ℕ) (d : Operand) → i < length os → FitsPin (get_or os i d) (get_or left i None) (get_or ls i lit.Any)) → Fits os left ls
 fits_by [] [] [] a b h = tt
@@ -240,17 +240,14 @@ left_is_pin live i (Constant b) = tt
 left_is_pin live i (Wire s) = wire_or_not (is_asked live i) s
 
 module _ (os : List Operand) (rows : List Row) (width : All (λ row. length row.lits ≡ length os) rows) where
-  abbrev trits : List Trit
-  trits = map known_value os
-
   abbrev live : List Row
-  live = live_rows rows trits
+  live = live_rows rows os
 
-  left_fits : (k : ℕ) (d : Row) (i : ℕ) (o : Operand) → k < length rows → may_match (get_or rows k d).lits trits ≡ true → (may_allow (get_or (get_or rows k d).lits i lit.Any) (known_value o) ≡ true) → FitsPin o (left_at live i o) (get_or (get_or rows k d).lits i lit.Any)
+  left_fits : (k : ℕ) (d : Row) (i : ℕ) (o : Operand) → k < length rows → is_live (get_or rows k d).lits os ≡ true → (may_allow (get_or (get_or rows k d).lits i lit.Any) (known_value o) ≡ true) → FitsPin o (left_at live i o) (get_or (get_or rows k d).lits i lit.Any)
   left_fits k d i (Constant b) l may known = known
   left_fits k d i (Wire s) l may known =
       asked_or_not (is_asked live i) s (get_or (get_or rows k d).lits i lit.Any)
-      (λ e. not_literal (get_or (get_or rows k d).lits i lit.Any) (none_of_filtered (λ row. may_match row.lits trits) (λ row. is_literal (get_or row.lits i lit.Any)) rows k d e l may))
+      (λ e. not_literal (get_or (get_or rows k d).lits i lit.Any) (none_of_filtered (λ row. is_live row.lits os) (λ row. is_literal (get_or row.lits i lit.Any)) rows k d e l may))
 
   module _ (left : List (Option Sig)) (are : AreLeft live os left) where
     zipped : AllZip IsLeftPin os left
@@ -262,7 +259,7 @@ module _ (os : List Operand) (rows : List Row) (width : All (λ row. length row.
         (λ i o h.
         let w = width k d l in
         subst (λ (p : Option Sig). FitsPin (get_or os i o) p (get_or (get_or rows k d).lits i lit.Any)) (sym (are.each i o h))
-        (left_fits k d i (get_or os i o) l may (may_match-at (get_or rows k d).lits os i o may h (omega arith)))))
+        (left_fits k d i (get_or os i o) l may (live-at (get_or rows k d).lits os i o may h (omega arith)))))
 
     module _ (plane : Bool) (proper : rows ≡ [] → plane ≡ true) (f : Sig → Trit) where
       -- the cover's value at a completion is by the live rows
@@ -275,20 +272,20 @@ nothing_kept : {A : Type 0} (kept : Bool) (x : A) (xs : List A) → cond kept (x
 nothing_kept true x xs e = cc
 nothing_kept false x xs e = (refl, e)
 
-none_match : (rows : List Row) (trits : List Trit) (bs : List Bool) → live_rows rows trits ≡ [] → Completes trits bs → some_row_matches rows bs ≡ false
-none_match [] trits bs e c = refl
-none_match (row ∷ rows) trits bs e c =
-    let n = nothing_kept (may_match row.lits trits) row (live_rows rows trits) e in
-    ap (λ t. t || some_row_matches rows bs) (false_from_ne_true (matches row.lits bs) (λ h. true≢false (sym (matches_may row.lits trits bs c h) ∙ n.0)))
-    ∙ none_match rows trits bs n.1 c
+none_match : (rows : List Row) (os : List Operand) (bs : List Bool) → live_rows rows os ≡ [] → Completes (map known_value os) bs → some_row_matches rows bs ≡ false
+none_match [] os bs e c = refl
+none_match (row ∷ rows) os bs e c =
+    let n = nothing_kept (is_live row.lits os) row (live_rows rows os) e in
+    ap (λ t. t || some_row_matches rows bs) (false_from_ne_true (matches row.lits bs) (λ h. true≢false (sym (matches_live row.lits os bs c h) ∙ n.0)))
+    ∙ none_match rows os bs n.1 c
 
-pub folded_none : (cover : Cover) (os : List Operand) → IsCover cover → live_rows cover.rows (map known_value os) ≡ [] → IsFolded cover os (Constant (not cover.plane))
+pub folded_none : (cover : Cover) (os : List Operand) → IsCover cover → live_rows cover.rows os ≡ [] → IsFolded cover os (Constant (not cover.plane))
 folded_none cover os proper none = record {
   tells = λ f. Below-from (ext cover (map (value_by f) os)) (bit (not cover.plane)) (λ b e.
       let some = some_completion (map (value_by f) os) in
       let known = EachBelow-trans (map known_value os) (map (value_by f) os) (map bit some.0) (EachBelow-map known_value (value_by f) os (known_below f)) some.1 in
       ap bit
-      (sym (value_in_plane cover.plane cover.rows some.0 proper.plane ∙ ap (in_plane cover.plane) (none_match cover.rows (map known_value os) some.0 none known) ∙ in_plane-false cover.plane)
+      (sym (value_in_plane cover.plane cover.rows some.0 proper.plane ∙ ap (in_plane cover.plane) (none_match cover.rows os some.0 none known) ∙ in_plane-false cover.plane)
       ∙ exact_says (value cover) (map (value_by f) os) b e some.0 some.1));
   within = λ bound all. tt;
 }
@@ -303,14 +300,14 @@ some_left : (left : List (Option Sig)) (live : List Row) → (live ≡ [] → �
 some_left left [] some = absurd (some refl)
 some_left left (row ∷ live) some = ap (λ t. t || some_row_matches (map (left_row left) live) []) (matches-nil (left_lits row.lits left))
 
-pub folded_all : (cover : Cover) (os : List Operand) (left : List (Option Sig)) → IsCover cover → length os ≡ cover.pins → (live_rows cover.rows (map known_value os) ≡ [] → ⊥) → AreLeft (live_rows cover.rows (map known_value os)) os left → wires_of left ≡ [] → IsFolded cover os (Constant cover.plane)
+pub folded_all : (cover : Cover) (os : List Operand) (left : List (Option Sig)) → IsCover cover → length os ≡ cover.pins → (live_rows cover.rows os ≡ [] → ⊥) → AreLeft (live_rows cover.rows os) os left → wires_of left ≡ [] → IsFolded cover os (Constant cover.plane)
 folded_all cover os left proper pins some are none =
     let width : All (λ row. length row.lits ≡ length os) cover.rows = λ k d l. proper.width k d l ∙ sym pins in
     record {
       tells = λ f. Below-from (ext cover (map (value_by f) os)) (bit cover.plane) (λ b e.
           let nothing : Completes (map f (wires_of left)) [] = subst (λ (ws : List Sig). Completes (map f ws) []) (sym none) tt in
           ap bit
-          (sym (value_left os cover.rows width left are cover.plane proper.plane f [] nothing ∙ ap (in_plane cover.plane) (some_left left (live_rows cover.rows (map known_value os)) some) ∙ in_plane-true cover.plane)
+          (sym (value_left os cover.rows width left are cover.plane proper.plane f [] nothing ∙ ap (in_plane cover.plane) (some_left left (live_rows cover.rows os) some) ∙ in_plane-true cover.plane)
           ∙ exact_says (value cover) (map (value_by f) os) b e (filled os left f []) (filled-completes os left f [] (zipped os cover.rows width left are) nothing)));
       within = λ bound all. tt;
     }
@@ -338,11 +335,11 @@ all_filtered P p [] h = tt
 all_filtered P p (x ∷ xs) h = all_kept P (p x) x (filter p xs) h.0 (all_filtered P p xs h.1)
 
 pub left_rows_fit : (cover : Cover) (os : List Operand) (left : List (Option Sig)) → IsCover cover → length os ≡ cover.pins → length left ≡ length os →
-    All (λ row. length row.lits ≡ length (wires_of left)) (map (left_row left) (live_rows cover.rows (map known_value os)))
+    All (λ row. length row.lits ≡ length (wires_of left)) (map (left_row left) (live_rows cover.rows os))
 left_rows_fit cover os left proper pins wide =
-    All-from_recursion (λ row. length row.lits ≡ length (wires_of left)) (map (left_row left) (live_rows cover.rows (map known_value os)))
-    (all_map (λ row. length row.lits ≡ length (wires_of left)) (left_row left) (live_rows cover.rows (map known_value os))
-    (all_filtered (λ row. length (left_row left row).lits ≡ length (wires_of left)) (λ row. may_match row.lits (map known_value os)) cover.rows
+    All-from_recursion (λ row. length row.lits ≡ length (wires_of left)) (map (left_row left) (live_rows cover.rows os))
+    (all_map (λ row. length row.lits ≡ length (wires_of left)) (left_row left) (live_rows cover.rows os)
+    (all_filtered (λ row. length (left_row left row).lits ≡ length (wires_of left)) (λ row. is_live row.lits os) cover.rows
     (recursion_from_All (λ row. length (left_row left row).lits ≡ length (wires_of left)) cover.rows
     (λ k d l. left_width (get_or cover.rows k d).lits left (proper.width k d l ∙ sym pins ∙ sym wide)))))
 
@@ -357,10 +354,10 @@ no_rows : (left : List (Option Sig)) (live : List Row) → (live ≡ [] → ⊥)
 no_rows left [] some e = some refl
 no_rows left (row ∷ live) some e = cc
 
-pub cover_is_left : (cover : Cover) (os : List Operand) (left : List (Option Sig)) → IsCover cover → length os ≡ cover.pins → (live_rows cover.rows (map known_value os) ≡ [] → ⊥) → AreLeft (live_rows cover.rows (map known_value os)) os left →
-    IsLeft cover os (cover_of (length (wires_of left)) cover.plane (map (left_row left) (live_rows cover.rows (map known_value os)))) (wires_of left)
+pub cover_is_left : (cover : Cover) (os : List Operand) (left : List (Option Sig)) → IsCover cover → length os ≡ cover.pins → (live_rows cover.rows os ≡ [] → ⊥) → AreLeft (live_rows cover.rows os) os left →
+    IsLeft cover os (cover_of (length (wires_of left)) cover.plane (map (left_row left) (live_rows cover.rows os))) (wires_of left)
 cover_is_left cover os left proper pins some are =
-    let live = live_rows cover.rows (map known_value os) in
+    let live = live_rows cover.rows os in
     let rows = map (left_row left) live in
     let width : All (λ row. length row.lits ≡ length os) cover.rows = λ k d l. proper.width k d l ∙ sym pins in
     let rest = cover_of (length (wires_of left)) cover.plane rows in
@@ -390,45 +387,43 @@ wires_next left k p d l e = subst (λ n. wires_of (take n left) ≡ wires_of (ta
 
 -- ---- by what is known of the parts
 
-pub none_answer : (cover : Cover) (os : List Operand) (known : List Trit) (rows live : List Row) (plane : Bool) → IsCover cover → known ≡ map known_value os → rows ≡ cover.rows → live ≡ live_rows rows known → plane ≡ cover.plane → length live ≡ 0 →
-    IsFolded cover os (Constant (not plane))
-none_answer cover os known rows live plane proper ek er el ep none =
-    subst (λ p. IsFolded cover os (Constant (not p))) (sym ep)
-    (folded_none cover os proper (sym (el ∙ ap₂ live_rows er ek) ∙ nil_from live none))
+module _ (cover : Cover) (os : List Operand) (rows live : List Row) (plane : Bool) (proper : IsCover cover) (er : rows ≡ cover.rows) (el : live ≡ live_rows rows os) (ep : plane ≡ cover.plane) where
+  pub none_answer : length live ≡ 0 → IsFolded cover os (Constant (not plane))
+  none_answer none =
+      subst (λ p. IsFolded cover os (Constant (not p))) (sym ep)
+      (folded_none cover os proper (sym (el ∙ ap (λ r. live_rows r os) er) ∙ nil_from live none))
 
-pub all_answer : (cover : Cover) (os : List Operand) (known : List Trit) (rows live : List Row) (plane : Bool) (left : List (Option Sig)) (wires : List Sig) → IsCover cover → length os ≡ cover.pins → known ≡ map known_value os → rows ≡ cover.rows → live ≡ live_rows rows known → plane ≡ cover.plane →
-    (length live ≡ 0 → ⊥) → AreLeft live os left → wires ≡ wires_of left → length wires ≡ 0 → IsFolded cover os (Constant plane)
-all_answer cover os known rows live plane left wires proper pins ek er el ep some are ew none =
-    let is : live ≡ live_rows cover.rows (map known_value os) = el ∙ ap₂ live_rows er ek in
-    subst (λ p. IsFolded cover os (Constant p)) (sym ep)
-    (folded_all cover os left proper pins (λ e. some (ap length (is ∙ e))) (subst (λ (r : List Row). AreLeft r os left) is are) (sym ew ∙ nil_from wires none))
+module _ (cover : Cover) (os : List Operand) (live : List Row) (left : List (Option Sig)) (wires : List Sig) (proper : IsCover cover) (pins : length os ≡ cover.pins) (el : live ≡ live_rows cover.rows os) (are : AreLeft live os left) (ew : wires ≡ wires_of left) where
+  left_are : AreLeft (live_rows cover.rows os) os left
+  left_are = subst (λ (r : List Row). AreLeft r os left) el are
 
-pub left_answer : (cover : Cover) (os : List Operand) (known : List Trit) (rows live rest : List Row) (plane : Bool) (left : List (Option Sig)) (wires : List Sig) (count : ℕ) (made : Cover) → IsCover cover → length os ≡ cover.pins → known ≡ map known_value os → rows ≡ cover.rows → live ≡ live_rows rows known → plane ≡ cover.plane →
-    (length live ≡ 0 → ⊥) → AreLeft live os left → wires ≡ wires_of left → rest ≡ map (left_row left) live → count ≡ length wires → made ≡ cover_of count plane rest → IsLeft cover os made wires
-left_answer cover os known rows live rest plane left wires count made proper pins ek er el ep some are ew em ec is =
-    let live_is : live ≡ live_rows cover.rows (map known_value os) = el ∙ ap₂ live_rows er ek in
-    let made_is : cover_of (length (wires_of left)) cover.plane (map (left_row left) (live_rows cover.rows (map known_value os))) ≡ made =
-    ap (λ r. cover_of (length (wires_of left)) cover.plane (map (left_row left) r)) (sym live_is)
-    ∙ ap (λ p. cover_of (length (wires_of left)) p (map (left_row left) live)) (sym ep)
-    ∙ ap (λ r. cover_of (length (wires_of left)) plane r) (sym em)
-    ∙ ap (λ n. cover_of n plane rest) (ap length (sym ew) ∙ sym ec)
-    ∙ sym is in
-    subst (λ ws. IsLeft cover os made ws) (sym ew)
-    (subst (λ m. IsLeft cover os m (wires_of left)) made_is
-    (cover_is_left cover os left proper pins (λ e. some (ap length (live_is ∙ e))) (subst (λ (r : List Row). AreLeft r os left) live_is are)))
+  pub all_answer : (plane : Bool) → plane ≡ cover.plane → (length live ≡ 0 → ⊥) → length wires ≡ 0 → IsFolded cover os (Constant plane)
+  all_answer plane ep some none =
+      subst (λ p. IsFolded cover os (Constant p)) (sym ep)
+      (folded_all cover os left proper pins (λ e. some (ap length (el ∙ e))) left_are (sym ew ∙ nil_from wires none))
 
-pub rest_fits : (cover : Cover) (os : List Operand) (known : List Trit) (rows live rest : List Row) (left : List (Option Sig)) (wires : List Sig) (count : ℕ) → IsCover cover → length os ≡ cover.pins → known ≡ map known_value os → rows ≡ cover.rows → live ≡ live_rows rows known →
-    AreLeft live os left → wires ≡ wires_of left → rest ≡ map (left_row left) live → count ≡ length wires → first_fault count rest ≡ None
-rest_fits cover os known rows live rest left wires count proper pins ek er el are ew em ec =
-    let live_is : live ≡ live_rows cover.rows (map known_value os) = el ∙ ap₂ live_rows er ek in
-    let counted : count ≡ length (wires_of left) = ec ∙ ap length ew in
-    let small = left_few left in
-    let fits = left_rows_fit cover os left proper pins are.width in
-    let most : cover.pins ≤ MAX_PINS = proper.pins in
-    let wide = are.width in
-    no_fault count rest (omega arith)
-    (subst (λ (n : ℕ). All (λ row. length row.lits ≡ n) rest) (sym counted)
-    (subst (λ (r : List Row). All (λ row. length row.lits ≡ length (wires_of left)) r) (ap (map (left_row left)) (sym live_is) ∙ sym em) fits))
+  pub left_answer : (plane : Bool) (rest : List Row) (count : ℕ) (made : Cover) → plane ≡ cover.plane → (length live ≡ 0 → ⊥) → rest ≡ map (left_row left) live → count ≡ length wires → made ≡ cover_of count plane rest → IsLeft cover os made wires
+  left_answer plane rest count made ep some em ec is =
+      let made_is : cover_of (length (wires_of left)) cover.plane (map (left_row left) (live_rows cover.rows os)) ≡ made =
+      ap (λ r. cover_of (length (wires_of left)) cover.plane (map (left_row left) r)) (sym el)
+      ∙ ap (λ p. cover_of (length (wires_of left)) p (map (left_row left) live)) (sym ep)
+      ∙ ap (λ r. cover_of (length (wires_of left)) plane r) (sym em)
+      ∙ ap (λ n. cover_of n plane rest) (ap length (sym ew) ∙ sym ec)
+      ∙ sym is in
+      subst (λ ws. IsLeft cover os made ws) (sym ew)
+      (subst (λ m. IsLeft cover os m (wires_of left)) made_is
+      (cover_is_left cover os left proper pins (λ e. some (ap length (el ∙ e))) left_are))
+
+  pub rest_fits : (rest : List Row) (count : ℕ) → rest ≡ map (left_row left) live → count ≡ length wires → first_fault count rest ≡ None
+  rest_fits rest count em ec =
+      let counted : count ≡ length (wires_of left) = ec ∙ ap length ew in
+      let small = left_few left in
+      let fits = left_rows_fit cover os left proper pins are.width in
+      let most : cover.pins ≤ MAX_PINS = proper.pins in
+      let wide = are.width in
+      no_fault count rest (omega arith)
+      (subst (λ (n : ℕ). All (λ row. length row.lits ≡ n) rest) (sym counted)
+      (subst (λ (r : List Row). All (λ row. length row.lits ≡ length (wires_of left)) r) (ap (map (left_row left)) (sym el) ∙ sym em) fits))
 
 -- ---- a cover of one pin that is the same as it
 

@@ -1,3 +1,4 @@
+pub mod ListLemmas
 pub mod CofactorLemmas
 pub mod CubeLemmas
 pub mod PinLemmas

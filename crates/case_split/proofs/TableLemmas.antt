@@ -1,5 +1,5 @@
 -- Tables, while gates are copied.
-use Rattle.std.proofs.Common.{◌≡◌, ◌⊎◌, inl, inr, ℕ, ◌+◌, ◌<◌, Bool, List, [], ◌∷◌, ◌++◌, length, map, get_or, set, take, All, sym, ap, ◌∙◌, subst, arith}
+use Rattle.std.proofs.Common.{◌≡◌, ◌⊎◌, inl, inr, ℕ, ◌+◌, ◌<◌, Bool, List, [], ◌∷◌, ◌++◌, length, map, get_or, set, take, All, Decides, sym, ap, ◌∙◌, subst, arith}
 use Rattle.std.proofs.lemmas.Bool.{cases_eq}
 use Rattle.std.proofs.lemmas.List.{get_or-append-add, get_or-map, get_or-set_other, get_or-set_same, get_or-take, length-append, length-map, length-set, length-take, take_more}
 use Rattle.std.proofs.lemmas.List.Elements.{All-append, All-cons, All-map, All-nil}
@@ -12,10 +12,14 @@ use Rattle.netlist.specs.Netlists.{count, driven_names, gate_at, gate_sig, no_ga
 use Rattle.cyc_base.specs.Names.{IsBlifName}
 use Rattle.case_split.specs.declared.operands.Operand.{Operand}
 use Rattle.case_split.specs.declared.operands.Operand.TheVariants.{Constant, Wire}
+use Rattle.case_split.specs.contracts.operands.OperandPartialEq.TheImpl.{eq-value}
 use Rattle.case_split.specs.Operands.{IsWithin, Tells}
 use Rattle.case_split.specs.Added.{AreNew, IsAdded, IsMore}
 use Rattle.case_split.specs.Tables.{operand_at, IsKnownBy, IsPlain, IsCopy, IsMade, AreStanding, IsCopyStep, AreCopySteps}
 use Rattle.case_split.proofs.AddedLemmas.{all_within_more, more_length, more_none, more_trans, more_weaker, tells_more}
+
+pub operands_decide : (a b : Operand) → Decides (eq-value.it a b) (a ≡ b)
+operands_decide a b = grind arith
 
 one_signal : (s t : Sig) → s.0 ≡ t.0 → s ≡ t
 one_signal s t e = grind arith

@@ -54,16 +54,20 @@ pub record IsGroupSize (cases : List Case) (size : ℕ) : Type 0 where
 abbrev pub AreLeavesOf : List Case → List Operand → Type 0
 AreLeavesOf cases leaves = (i : ℕ) (c : Case) (d : Operand) → i < length cases → IsCube (slice_index_or cases i c).cube.items ⊎ (slice_index_or leaves i d ≡ Constant false)
 
--- What a gate shows that selects among these leaves by the cubes of the cases: its cover has a row for each case, and one for
--- the last leaf.
+-- the cover of a selection has a row for each case, and one for the last leaf
+pub record IsSelectionCover (cases : List Case) (firsts : List ℕ) (pins : List Pin) (cover : Cover) : Type 0 where
+  pub plane : cover.plane ≡ true
+  pub counted : length pins ≡ cover.pins
+  pub rows : AreRows cases firsts pins cover.rows
+
+-- what a gate shows that selects among these leaves by the cubes of the cases
 pub record IsSelected (net : Parts) (cases : List Case) (leaves : List Operand) (old new : List Gate) (operand : Operand) : Type 0 where
   pub firsts : List ℕ
   pub are_firsts : AreFirsts leaves firsts
   pub pins : List Pin
   pub are_pins : ArePinsOf cases firsts pins
   pub cover : Cover
-  pub plane : cover.plane ≡ true
-  pub rows : AreRows cases firsts pins cover.rows
+  pub is : IsSelectionCover cases firsts pins cover
   pub added : IsAdded net cover (map (operand_on leaves) pins) old new operand
 
 -- one operand is all of these

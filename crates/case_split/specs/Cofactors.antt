@@ -1,12 +1,12 @@
 -- A cover with known values put in: its cofactor (Boole 1854; Shannon 1949).
 use Rattle.std.specs.Prelude.{◌≡◌, ◌<◌, ℕ, Bool, true, false, if◌then◌else◌, List, [], ◌∷◌, length, map, filter, All, Option, Some, None, is_some, slice_index_or}
-use Rattle.std.specs.List.{list_any, zip}
+use Rattle.std.specs.List.{list_all, list_any, zip}
 use Rattle.cyc_base.specs.declared.sig.Sig.{Sig}
 use Rattle.cyc_base.specs.declared.trit.Trit.{Trit}
 use Rattle.cyc_base.specs.Values.{Below}
 use Rattle.cover_logic.specs.Covers.{Cover}
 use Rattle.cover_logic.specs.Extensions.{ext}
-use Rattle.cover_logic.specs.Partial.{may_match}
+use Rattle.cover_logic.specs.Partial.{may_allow}
 use Rattle.cover_logic.specs.declared.row.Lit.{Lit}
 use Rattle.cover_logic.specs.declared.row.Lit.TheVariants as lit
 use Rattle.cover_logic.specs.declared.row.Row.{Row}
@@ -14,11 +14,15 @@ use Rattle.case_split.specs.declared.cofactors.Cofactor.{Cofactor}
 use Rattle.case_split.specs.declared.cofactors.Cofactor.TheVariants.{Folded, Left}
 use Rattle.case_split.specs.declared.operands.Operand.{Operand}
 use Rattle.case_split.specs.declared.operands.Operand.TheVariants.{Constant, Wire}
-use Rattle.case_split.specs.Operands.{value_by, IsWithin}
+use Rattle.case_split.specs.Operands.{value_by, known_value, IsWithin}
 
--- the rows that no known value contradicts
-abbrev pub live_rows : List Row → List Trit → List Row
-live_rows rows trits = filter (λ row. may_match row.lits trits) rows
+-- no constant among what is on the pins contradicts these literals
+abbrev pub is_live : List Lit → List Operand → Bool
+is_live lits operands = list_all (λ pin. may_allow pin.0 (known_value pin.1)) (zip lits operands)
+
+-- the rows that no constant contradicts
+abbrev pub live_rows : List Row → List Operand → List Row
+live_rows rows operands = filter (λ row. is_live row.lits operands) rows
 
 abbrev pub is_literal : Lit → Bool
 is_literal lit.Any = false

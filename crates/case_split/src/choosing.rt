@@ -5,16 +5,59 @@ ghost use Rattle.cyc_base.specs.Names.{IsBlifName};
 ghost use Rattle.netlist.specs.Netlists.{count};
 ghost use Rattle.case_split.specs.Added.{AreNew};
 ghost use Rattle.case_split.specs.Cases.{IsUsable};
-ghost use Rattle.case_split.specs.Choices.{AreNarrow, IsGroupSize, AreLeavesOf, IsCommon, IsSelected, IsChosenNext, IsChosen};
+ghost use Rattle.case_split.specs.Choices.{AreNarrow, IsGroupSize, AreLeavesOf, IsCommon, IsSelectionCover, IsSelected, IsChosenNext, IsChosen};
 ghost use Rattle.case_split.specs.Operands.{IsWithin};
+ghost use Rattle.case_split.specs.Pins.{AreFirsts, ArePinsOf};
 
 use crate::added::{Added, Base};
 use crate::cases::{Case, ColumnValue};
 use crate::cofactors::cover_by;
 use crate::operands::Operand;
-use crate::pins::{first_places, operands_on, pins_of, rows_of};
+use crate::pins::{Pin, first_places, operands_on, pins_of, rows_of};
+use cover_logic::Cover;
 use cyc_base::{MAX_PINS, Name};
 use std::alloc::{AllocError, Global};
+
+/// The cover of a selection: a row for each case, and one of the last leaf.
+fn selection_cover(
+    alloc: Global,
+    cases: &[Case],
+    firsts: &[usize],
+    pins: &[Pin],
+) -> Result<Cover, AllocError>
+    requires pins { ArePinsOf cases.now firsts.now pins.now }
+    requires narrow { AreNarrow cases.now }
+    ensures { IfOk result (IsSelectionCover cases.now firsts.now pins.now) }
+{
+    let rows = rows_of(alloc, cases, firsts, pins)?;
+    Ok(cover_by(pins.len(), true, rows))
+}
+
+/// What is chosen by the cubes of the cases among some leaves on these pins.
+fn choose_on(
+    alloc: Global,
+    base: &Base<'_>,
+    added: &mut Added,
+    name: &Name,
+    cases: &[Case],
+    leaves: &[Operand],
+    firsts: &[usize],
+    pins: &[Pin],
+) -> Result<Operand, AllocError>
+    requires room { count base.now.net.now + length added.old.gates.items < 4294967295 }
+    requires name { IsBlifName name.now }
+    requires columns { All (IsUsable (count base.now.net.now)) cases.now }
+    requires narrow { AreNarrow cases.now }
+    requires within { All (IsWithin (count base.now.net.now + length added.old.gates.items)) leaves.now }
+    requires new { AreNew base.now.net.now added.old.gates.items }
+    requires firsts { AreFirsts leaves.now firsts.now }
+    requires pins { ArePinsOf cases.now firsts.now pins.now }
+    ensures { IfOk result (IsSelected base.now.net.now cases.now leaves.now added.old.gates.items added.new.gates.items) }
+{
+    let cover = selection_cover(alloc, cases, firsts, pins)?;
+    let operands = operands_on(alloc, leaves, pins)?;
+    added.add(alloc, base, name, &cover, &operands)
+}
 
 /// What is chosen by the cubes of the cases among some leaves, the last of which was chosen before.
 fn choose_by(
@@ -35,11 +78,7 @@ fn choose_by(
 {
     let firsts = first_places(alloc, leaves)?;
     let pins = pins_of(alloc, cases, &firsts)?;
-    let rows = rows_of(alloc, cases, &firsts, &pins)?;
-    let cover = cover_by(pins.len(), true, rows);
-    let operands = operands_on(alloc, leaves, &pins)?;
-    let operand = added.add(alloc, base, name, &cover, &operands)?;
-    Ok(operand)
+    choose_on(alloc, base, added, name, cases, leaves, &firsts, &pins)
 }
 
 /// What is chosen among these cases, or what was chosen before.
@@ -65,8 +104,7 @@ fn choose_next(
 {
     let mut all = leaves.to_vec(alloc)?;
     all.push(before)?;
-    let operand = choose_by(alloc, base, added, name, cases, &all)?;
-    Ok(operand)
+    choose_by(alloc, base, added, name, cases, &all)
 }
 
 /// The most literals of a cube.

@@ -1,13 +1,14 @@
 //! A cover with known values put in.
 
-ghost use Rattle.std.specs.Prelude.{◌≡◌, true, false, List, [], ◌∷◌, length, map, IfOk, None, slice_index_or};
+ghost use Rattle.std.specs.Prelude.{◌≡◌, ◌≢◌, true, false, List, [], ◌∷◌, length, map, IfOk, None, slice_index_or};
 ghost use Rattle.cover_logic.specs.Covers.{Cover as Rows, cover_of, first_fault, value};
-ghost use Rattle.cover_logic.specs.Partial.{may_allow, may_match};
-ghost use Rattle.case_split.specs.Cofactors.{live_rows as live_rows_of, is_literal as is_literal_of, is_asked as is_asked_in, left_at as left_at_pin, AreLeft, wires_of as wires_of_left, left_lits as left_lits_of, left_row, IsLeft, IsCofactor};
+ghost use Rattle.cover_logic.specs.Partial.{may_allow};
+ghost use Rattle.case_split.specs.Operands.{known_value};
+ghost use Rattle.case_split.specs.Cofactors.{is_live as is_live_by, live_rows as live_rows_of, is_literal as is_literal_of, is_asked as is_asked_in, left_at as left_at_pin, AreLeft, wires_of as wires_of_left, left_lits as left_lits_of, left_row, IsLeft, IsCofactor};
 
-use crate::operands::{Operand, known_values};
+use crate::operands::Operand;
 use cover_logic::{Cover, Lit, Row};
-use cyc_base::{Items, Sig, Trit};
+use cyc_base::{Items, Sig};
 use std::alloc::{AllocError, Global};
 
 /// What is left of a cover.
@@ -19,22 +20,22 @@ pub(crate) enum Cofactor {
     Left(Cover, Vec<Sig>),
 }
 
-fn is_allowed(lit: Lit, known: Trit) -> bool
-    ensures { result ≡ may_allow lit known }
+fn is_allowed(lit: Lit, operand: Operand) -> bool
+    ensures { result ≡ may_allow lit (known_value operand) }
 {
-    match (lit, known) {
-        (Lit::Zero, Trit::One) => false,
-        (Lit::One, Trit::Zero) => false,
+    match (lit, operand) {
+        (Lit::Zero, Operand::Constant(value)) => !value,
+        (Lit::One, Operand::Constant(value)) => value,
         _ => true,
     }
 }
 
-fn is_live(lits: &[Lit], known: &[Trit]) -> bool
-    ensures { result ≡ may_match lits.now known.now }
+fn is_live(lits: &[Lit], operands: &[Operand]) -> bool
+    ensures { result ≡ is_live_by lits.now operands.now }
 {
     lits.iter()
-        .zip(known)
-        .all(|(lit, value)| is_allowed(*lit, *value))
+        .zip(operands)
+        .all(|(lit, operand)| is_allowed(*lit, *operand))
 }
 
 fn copy_row(alloc: Global, row: &Row) -> Result<Row, AllocError>
@@ -46,13 +47,13 @@ fn copy_row(alloc: Global, row: &Row) -> Result<Row, AllocError>
     })
 }
 
-/// The rows that no known value contradicts.
-fn live_rows(alloc: Global, rows: &[Row], known: &[Trit]) -> Result<Vec<Row>, AllocError>
-    ensures { IfOk result (λ live. live.items ≡ live_rows_of rows.now known.now) }
+/// The rows that no constant contradicts.
+fn live_rows(alloc: Global, rows: &[Row], operands: &[Operand]) -> Result<Vec<Row>, AllocError>
+    ensures { IfOk result (λ live. live.items ≡ live_rows_of rows.now operands.now) }
 {
     let mut live = Vec::new(alloc);
     for row in rows {
-        if is_live(row.lits.items(), known) {
+        if is_live(row.lits.items(), operands) {
             live.push(copy_row(alloc, row)?)?;
         }
     }
@@ -143,8 +144,7 @@ pub(crate) fn left_wires(
     cover: &Cover,
     operands: &[Operand],
 ) -> Result<Vec<Sig>, AllocError> {
-    let known = known_values(alloc, operands)?;
-    let live = live_rows(alloc, cover.rows(), &known)?;
+    let live = live_rows(alloc, cover.rows(), operands)?;
     let left = left_pins(alloc, &live, operands)?;
     wires_of(alloc, &left)
 }
@@ -160,6 +160,29 @@ pub(crate) fn cover_by(pins: usize, plane: bool, rows: Vec<Row>) -> Cover
     }
 }
 
+/// What is left of a cover by its rows that no constant contradicts, of which there are some.
+fn left_of(
+    alloc: Global,
+    cover: &Cover,
+    operands: &[Operand],
+    live: &[Row],
+) -> Result<Cofactor, AllocError>
+    requires counted { length operands.now ≡ cover.now.pins }
+    requires live { live.now ≡ live_rows_of cover.now.rows operands.now }
+    requires some { length live.now ≢ 0 }
+    ensures { IfOk result (IsCofactor cover.now operands.now) }
+{
+    let left = left_pins(alloc, live, operands)?;
+    let wires = wires_of(alloc, &left)?;
+    let plane = cover.plane();
+    if wires.is_empty() {
+        return Ok(Cofactor::Folded(Operand::Constant(plane)));
+    }
+    let rows = left_rows(alloc, live, &left)?;
+    let rest = cover_by(wires.len(), plane, rows);
+    Ok(folded(rest, wires))
+}
+
 /// What is left of a cover where these operands are on its pins: rows that a constant contradicts go, and so do pins of
 /// which no row that is left asks anything.
 pub(crate) fn cofactor_of(
@@ -170,20 +193,11 @@ pub(crate) fn cofactor_of(
     requires { length operands.now ≡ cover.now.pins }
     ensures { IfOk result (IsCofactor cover.now operands.now) }
 {
-    let plane = cover.plane();
-    let known = known_values(alloc, operands)?;
-    let live = live_rows(alloc, cover.rows(), &known)?;
+    let live = live_rows(alloc, cover.rows(), operands)?;
     if live.is_empty() {
-        return Ok(Cofactor::Folded(Operand::Constant(!plane)));
+        return Ok(Cofactor::Folded(Operand::Constant(!cover.plane())));
     }
-    let left = left_pins(alloc, &live, operands)?;
-    let wires = wires_of(alloc, &left)?;
-    if wires.is_empty() {
-        return Ok(Cofactor::Folded(Operand::Constant(plane)));
-    }
-    let rows = left_rows(alloc, &live, &left)?;
-    let rest = cover_by(wires.len(), plane, rows);
-    Ok(folded(rest, wires))
+    left_of(alloc, cover, operands, &live)
 }
 
 /// Whether a cover of one pin has its value.
@@ -200,11 +214,9 @@ fn folded(rest: Cover, wires: Vec<Sig>) -> Cofactor
     requires { length wires.items ≡ rest.pins }
     ensures { (cover : Rows) (operands : List Operand) → IsLeft cover operands rest wires.items → IsCofactor cover operands result }
 {
-    if wires.len() != 1 {
-        return Cofactor::Left(rest, wires);
+    if wires.len() == 1 && is_same(&rest) {
+        Cofactor::Folded(Operand::Wire(wires[0]))
+    } else {
+        Cofactor::Left(rest, wires)
     }
-    if !is_same(&rest) {
-        return Cofactor::Left(rest, wires);
-    }
-    Cofactor::Folded(Operand::Wire(wires[0]))
 }

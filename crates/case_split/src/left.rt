@@ -7,7 +7,7 @@ ghost use Rattle.ternary_run.specs.Reading.{IsFanoutOf};
 
 use crate::cases::{ColumnValue, vector_of};
 use crate::ordering::graph_of;
-use crate::tables::plain_table;
+use crate::tables::settled_table;
 use components::{Components, Graph};
 use cyc_base::Trit;
 use netlist::Netlist;
@@ -137,9 +137,7 @@ fn left_at(
     requires fanout { IsFanoutOf net.now fanout.now }
     requires width { length given.now ≡ first_gate net.now }
 {
-    net.laws();
-    let values = fanout.settle(alloc, net, given)?;
-    let table = plain_table(alloc, &values)?;
+    let table = settled_table(alloc, net, fanout, given)?;
     let graph = graph_of(alloc, net, &table, gates)?;
     left_in(alloc, &graph)
 }

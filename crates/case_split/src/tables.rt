@@ -1,7 +1,10 @@
 //! What stands for each signal in a case, and the copies of gates.
 
 ghost use Rattle.std.specs.Prelude.{◌≡◌, ◌+◌, ◌<◌, ◌≤◌, length, map, All, IfOk, OnOk};
+ghost use Rattle.netlist.specs.Fixpoint.{fix};
 ghost use Rattle.netlist.specs.Netlists.{count};
+ghost use Rattle.loops.specs.Sweeps.{first_gate};
+ghost use Rattle.ternary_run.specs.Reading.{IsFanoutOf};
 ghost use Rattle.case_split.specs.Added.{AreNew};
 ghost use Rattle.case_split.specs.Operands.{IsWithin};
 ghost use Rattle.case_split.specs.Tables.{operand_at, plain_of, ArePlain, IsCopyStep, AreCopySteps};
@@ -9,7 +12,9 @@ ghost use Rattle.case_split.specs.Tables.{operand_at, plain_of, ArePlain, IsCopy
 use crate::added::{Added, Base};
 use crate::operands::Operand;
 use cyc_base::{Sig, Trit};
+use netlist::Netlist;
 use std::alloc::{AllocError, Global};
+use ternary_run::Fanout;
 
 /// What stands for a signal of this value: a constant where it is known, else itself.
 fn plain(value: Trit, signal: Sig) -> Operand
@@ -22,8 +27,8 @@ fn plain(value: Trit, signal: Sig) -> Operand
     }
 }
 
-/// What stands for each signal before any gate is copied.
-pub(crate) fn plain_table(alloc: Global, values: &[Trit]) -> Result<Vec<Operand>, AllocError>
+/// What stands for each signal of these values before any gate is copied.
+fn plain_table(alloc: Global, values: &[Trit]) -> Result<Vec<Operand>, AllocError>
     requires { length values.now ≤ 4294967295 }
     ensures { IfOk result (λ table. ArePlain values.now table.items) }
 {
@@ -32,6 +37,23 @@ pub(crate) fn plain_table(alloc: Global, values: &[Trit]) -> Result<Vec<Operand>
         table.push(plain(*value, Sig(number as u32)))?;
     }
     Ok(table)
+}
+
+/// What stands for each signal at a vector before any gate is copied.
+pub(crate) fn settled_table(
+    alloc: Global,
+    net: &Netlist,
+    fanout: &Fanout,
+    given: &[Trit],
+) -> Result<Vec<Operand>, AllocError>
+    requires fanout { IsFanoutOf net.now fanout.now }
+    requires width { length given.now ≡ first_gate net.now }
+    ensures plain { IfOk result (λ table. ArePlain (fix net.now given.now) table.items) }
+    ensures width { IfOk result (λ table. length table.items ≡ count net.now) }
+{
+    net.laws();
+    let values = fanout.settle(alloc, net, given)?;
+    plain_table(alloc, &values)
 }
 
 pub(crate) fn operand_of(table: &[Operand], signal: Sig) -> Operand

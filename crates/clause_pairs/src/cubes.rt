@@ -118,7 +118,7 @@ impl CareQuestions {
     }
 
     /// The literals of a cube and of the care set.
-    fn assumed(&self, alloc: Global, cube: &[Fixed]) -> Result<Vec<u32>, AllocError>
+    fn literals_within(&self, alloc: Global, cube: &[Fixed]) -> Result<Vec<u32>, AllocError>
         requires { AreColumnsOf self.now cube.now }
         ensures { IfOk result (λ assumed. assumed.items ≡ literals_within self.now cube.now) }
     {
@@ -141,7 +141,7 @@ impl CareQuestions {
         if !self.has_columns(cube) {
             return Ok(false);
         }
-        let assumed = self.assumed(alloc, cube)?;
+        let assumed = self.literals_within(alloc, cube)?;
         match self.query.is_possible(alloc, &assumed, conflicts)? {
             Some(possible) => Ok(!possible),
             None => Ok(false),
@@ -163,7 +163,7 @@ impl CareQuestions {
         if !self.has_columns(cube) || !self.has_columns(values) {
             return no_marks(alloc, values);
         }
-        let assumed = self.assumed(alloc, cube)?;
+        let assumed = self.literals_within(alloc, cube)?;
         let literals = literals_of_cube(alloc, &self.rails, values)?;
         self.query
             .never_each(alloc, &literals, &assumed, conflicts, values.len())

@@ -2,22 +2,28 @@
 use Rattle.std.proofs.Common.{◌≡◌, ℕ, ◌+◌, ◌-◌, ◌*◌, ◌≤◌, Bool, true, false, ◌&&◌, List, [], ◌∷◌, length, take, drop, get_or, Some, None, refl, sym, ap, ap₂, ◌∙◌, arith}
 use Rattle.std.specs.Prelude.{if◌then◌else◌, nat_le, option_map}
 use Rattle.std.proofs.Math.Seq.{take-length}
+use Rattle.std.proofs.lemmas.Bool.Decides.{nat_tests}
+use Rattle.std.specs.Char.{digit_value, is_ascii_digit}
 use Rattle.std.specs.List.{list_all}
 use Rattle.std.specs.Option.{option_and_then}
 use Rattle.std.specs.Str.{bytes_eq}
-use Rattle.commands.specs.Words.{Options, Purpose, Wishes, Decide, Assume, Equal, command_in, command_on, is_file_word, no_options, is_digit, with_digits, up_to, with_option, with_flag, with_wish, options_of, wishes_of, decide_on, assume_on, unobserved, equal_with}
+use Rattle.std.specs.Str.Parse.{digits_value_after}
+use Rattle.commands.specs.Words.{Options, Purpose, Wishes, Decide, Assume, Equal, command_in, command_on, is_file_word, no_options, up_to, with_option, with_flag, with_wish, options_of, wishes_of, decide_on, assume_on, unobserved, equal_with}
+
+pub value_of_digit : (b : ℕ) → is_ascii_digit b ≡ true → digit_value b ≡ b - 48
+value_of_digit b is = grind (arith, nat_tests)
 
 -- more digits make no less of a number
-no_less : (n : ℕ) (digits : List ℕ) → n ≤ with_digits n digits
+no_less : (n : ℕ) (digits : List ℕ) → n ≤ digits_value_after 10 n digits
 no_less n [] = omega arith
-no_less n (b ∷ digits) = let more = no_less (n * 10 + (b - 48)) digits in omega (arith, more)
+no_less n (b ∷ digits) = let more = no_less (n * 10 + digit_value b) digits in omega (arith, more)
 
-pub more_digits : (most n m b : ℕ) (rest : List ℕ) → (is_digit b && nat_le (n * 10 + (b - 48)) most) ≡ true → m ≡ n * 10 + (b - 48)
+pub more_digits : (most n m b : ℕ) (rest : List ℕ) → (is_ascii_digit b && nat_le (n * 10 + digit_value b) most) ≡ true → m ≡ n * 10 + digit_value b
     → up_to most n (b ∷ rest) ≡ up_to most m rest
 more_digits most n m b rest fits is = grind arith
 
-pub no_more_digits : (most n b : ℕ) (rest : List ℕ) → (is_digit b && nat_le (n * 10 + (b - 48)) most) ≡ false → up_to most n (b ∷ rest) ≡ None
-no_more_digits most n b rest over = grind (arith, no_less (n * 10 + (b - 48)) rest)
+pub no_more_digits : (most n b : ℕ) (rest : List ℕ) → (is_ascii_digit b && nat_le (n * 10 + digit_value b) most) ≡ false → up_to most n (b ∷ rest) ≡ None
+no_more_digits most n b rest over = grind (arith, no_less (n * 10 + digit_value b) rest)
 
 -- options one after another
 pub more_options : (word value : List ℕ) (known more : Options) (rest : List (List ℕ)) → with_option word value known ≡ Some more

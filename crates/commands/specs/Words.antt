@@ -1,8 +1,10 @@
 -- What the words of a call ask for.
-use Rattle.std.specs.Prelude.{ℕ, ◌+◌, ◌-◌, ◌*◌, List, [], ◌∷◌, ◌&&◌, ◌==◌, not, length, map, Some, None, is_none, nat_eq, nat_le, codes, if◌then◌else◌, Bool, true, false, option_map}
+use Rattle.std.specs.Prelude.{ℕ, List, [], ◌∷◌, ◌&&◌, ◌==◌, not, length, map, Some, None, is_none, nat_eq, nat_le, codes, if◌then◌else◌, Bool, true, false, option_map}
+use Rattle.std.specs.Char.{is_ascii_digit}
 use Rattle.std.specs.List.{list_all, starts_with}
 use Rattle.std.specs.Option.{option_and_then}
 use Rattle.std.specs.Str.{bytes_eq}
+use Rattle.std.specs.Str.Parse.{digits_value_after}
 use Rattle.std.specs.declared.option.Option.{Option}
 use Rattle.commands.specs.declared.cases.TheConstants.{MAX_CASES}
 use Rattle.commands.specs.declared.command.TheConstants.{MAX_ROUNDS}
@@ -79,17 +81,10 @@ standard_input = codes "/dev/stdin"
 abbrev pub file_of : List ℕ → List ℕ
 file_of word = if bytes_eq word (codes "-") then standard_input else word
 
-abbrev pub is_digit : ℕ → Bool
-is_digit b = nat_le 48 b && nat_le b 57
-
--- the number whose digits are those of n and then these
-abbrev pub with_digits : ℕ → List ℕ → ℕ
-with_digits n [] = n
-with_digits n (b ∷ digits) = with_digits (n * 10 + (b - 48)) digits
-
--- that number, where these are digits and it isn't over `most`
+-- the number whose digits are those of n and then these, where they are digits and it isn't over `most`
 abbrev pub up_to : ℕ → ℕ → List ℕ → Option ℕ
-up_to most n digits = if list_all is_digit digits && nat_le (with_digits n digits) most then Some (with_digits n digits) else None
+up_to most n digits =
+    if list_all is_ascii_digit digits && nat_le (digits_value_after 10 n digits) most then Some (digits_value_after 10 n digits) else None
 
 -- a decimal number without leading zeros, from `least` to `most`
 abbrev pub number_between : ℕ → ℕ → List ℕ → Option ℕ

@@ -1,7 +1,8 @@
 // The grammar of the words.
-ghost use Rattle.std.specs.Prelude.{◌≡◌, ◌≤◌, ◌+◌, ◌-◌, ◌*◌, ◌&&◌, bytes_eq, nat_le, true, false, MatchOption, IfSome, None, Some, unwrap_or};
+ghost use Rattle.std.specs.Prelude.{◌≡◌, ◌≤◌, ◌+◌, ◌*◌, ◌&&◌, bytes_eq, nat_le, true, false, MatchOption, IfSome, None, Some, unwrap_or};
+ghost use Rattle.std.specs.Char.{digit_value, is_ascii_digit};
 ghost use Rattle.commands.specs.Seen.{cells_seen, command_seen, options_seen, purpose_seen, rounds_seen, split_seen, wishes_seen};
-ghost use Rattle.commands.specs.Words.{aiger_on as aiger_asked, assume_on as assume_asked, cells as cells_asked, command_alone as alone_asked, command_in, command_on as command_asked, decide_on as decide_asked, delays_on as delays_asked, demo_on as demo_asked, equal_on as equal_asked, equal_with as equal_asked_with, encoding_of as encoding_asked, explain_by as explain_asked_by, explain_on as explain_asked, form_of as form_asked, help_on as help_asked, loops_on as loops_asked, is_digit, is_file_word, no_options as asked_no_options, no_wishes as asked_no_wishes, number_between as number_asked, kind_of as kind_asked, observe_of as observe_asked, options_of as options_asked, probe_of as probe_asked, rewrite_by as rewrite_asked_by, rewrite_on as rewrite_asked, rounds as rounds_asked, sim_on as sim_asked, split_of as split_asked, storm_on as storm_asked, topic_of as topic_asked, unobserved as asked_unobserved, up_to, wishes_of as wishes_asked, with_care as asked_with_care, with_cases as asked_with_cases, with_flag as asked_with_flag, with_nodes as asked_with_nodes, with_observe as asked_with_observe, with_option as asked_with_option, with_wish as asked_with_wish};
+ghost use Rattle.commands.specs.Words.{aiger_on as aiger_asked, assume_on as assume_asked, cells as cells_asked, command_alone as alone_asked, command_in, command_on as command_asked, decide_on as decide_asked, delays_on as delays_asked, demo_on as demo_asked, equal_on as equal_asked, equal_with as equal_asked_with, encoding_of as encoding_asked, explain_by as explain_asked_by, explain_on as explain_asked, form_of as form_asked, help_on as help_asked, loops_on as loops_asked, is_file_word, no_options as asked_no_options, no_wishes as asked_no_wishes, number_between as number_asked, kind_of as kind_asked, observe_of as observe_asked, options_of as options_asked, probe_of as probe_asked, rewrite_by as rewrite_asked_by, rewrite_on as rewrite_asked, rounds as rounds_asked, sim_on as sim_asked, split_of as split_asked, storm_on as storm_asked, topic_of as topic_asked, unobserved as asked_unobserved, up_to, wishes_of as wishes_asked, with_care as asked_with_care, with_cases as asked_with_cases, with_flag as asked_with_flag, with_nodes as asked_with_nodes, with_observe as asked_with_observe, with_option as asked_with_option, with_wish as asked_with_wish};
 
 use crate::cases::{Cases, MAX_CASES};
 use crate::command::{Cells, Command, MAX_ROUNDS, Options, Rounds};
@@ -576,11 +577,12 @@ fn read_digits(value: u32, most: u32, digits: &[u8]) -> Option<u32>
 }
 
 // A value with one more digit, where this is one and the number isn't too great.
+#[tactic(auto, using(crate::proofs::WordLemmas::value_of_digit))]
 fn with_digit(value: u32, most: u32, digit: u8) -> Option<u32>
     requires value { value ≤ most }
     requires most { most ≤ MAX_NODES }
-    ensures { MatchOption result ((is_digit digit && nat_le (value * 10 + (digit - 48)) most) ≡ false)
-        (λ n. ((is_digit digit && nat_le (value * 10 + (digit - 48)) most) ≡ true) × (n ≡ value * 10 + (digit - 48))) }
+    ensures { MatchOption result ((is_ascii_digit digit && nat_le (value * 10 + digit_value digit) most) ≡ false)
+        (λ n. ((is_ascii_digit digit && nat_le (value * 10 + digit_value digit) most) ≡ true) × (n ≡ value * 10 + digit_value digit)) }
 {
     if !digit.is_ascii_digit() {
         return None;

@@ -1,5 +1,5 @@
 -- Blocks that are solved one after another, with what is kept of them.
-use Rattle.std.proofs.Common.{◌≡◌, inl, inr, ℕ, zero, suc, ◌+◌, ◌-◌, ◌<◌, Bool, List, [], ◌∷◌, ◌++◌, length, map, take, replicate, get_or, refl, sym, ap, ap₂, ◌∙◌, subst, arith, Contains, Option, Some, None, IfSome}
+use Rattle.std.proofs.Common.{◌≡◌, inl, inr, ℕ, suc, ◌+◌, ◌-◌, ◌<◌, Bool, List, [], ◌∷◌, ◌++◌, length, map, take, replicate, get_or, refl, sym, ap, ap₂, ◌∙◌, subst, arith, Contains, Option, Some, None, IfSome}
 use Rattle.fixpoint.proofs.Common.{IsLooped, Looped, option_to_list, All, flat_map, append-nil, cases_lt, cases_eq, get_or_append_left, get_or_default, length-append, length-replicate, get_or-replicate, get_or-take, get_or-map, length-map, length-take, ext_get_or, All-append, All-map, All-push, Arena, Trit, X, Rails, AreRailsOf, value_of, values_of, Parts, fix, fix_gates, Blocks, Cut, block_at, home_of, first_gate, value_in, gate_home, home_gate, KeptRails, LoopSteps, Solved, SweptLoop, rails_under, values_under, AreKept, HoldsRails, GainsRoots, RootsStay, Vectors, IsLoopAt, AreStepsOf, AreKeptSteps, HasEachLoopOnce, IsSolution, step_at, last_step, steps_under, loop_under, unknown, rails_at, vectors, IsSolvedBelow, AreFresh, place_of, AreKeptBelow, IsSolvedTo}
 use Rattle.std.specs.Option.{option_map}
 use Rattle.std.proofs.Math.Path.{fun_ext}

@@ -1,5 +1,5 @@
 -- The wires of a netlist as rails while it is solved block by block, and one loop sweep by sweep.
-use Rattle.std.specs.Prelude.{◌≡◌, ◌<◌, ◌≤◌, ◌+◌, ◌&&◌, ℕ, nat_le, Bool, true, if◌then◌else◌, List, length, map, take, All, Contains, Some, None, slice_index_or, slice_set}
+use Rattle.std.specs.Prelude.{◌≡◌, ◌<◌, ◌≤◌, ◌+◌, ◌&&◌, ℕ, nat_le, Bool, true, if◌then◌else◌, List, length, map, take, All, Some, None, slice_index_or, slice_set}
 use Rattle.std.specs.declared.option.Option.{Option}
 use Rattle.bdd_store.specs.Arena.{Arena}
 use Rattle.cover_logic.specs.Extensions.{ext}

@@ -85,6 +85,42 @@ fn keep_loop(alloc: Global, d: &mut Diagrams, found: SweptLoop) -> Result<LoopSt
     })
 }
 
+/// Keeps the rails of a block's gates, each in its place. On `AllocError` some may be kept.
+fn keep_solved(
+    d: &mut Diagrams,
+    gates: &[u32],
+    first: usize,
+    progress: &mut Progress,
+) -> Result<(), AllocError>
+    requires gates { All (λ n. n < length progress.old.places.items) gates.now }
+    requires width { length progress.old.wires.rails.items ≡ first + length progress.old.places.items }
+    requires proper { All (AreRailsOf d.old) progress.old.wires.rails.items }
+    ensures kept { OnOk result ((n : ℕ) → Contains gates.now n → HoldsRails d.new (place_of progress.new.places.items n) (rails_at progress.old.wires.rails.items (first + n))) }
+    ensures others { OnOk result ((n : ℕ) → ¬ Contains gates.now n → place_of progress.new.places.items n ≡ place_of progress.old.places.items n) }
+    ensures wires { progress.new.wires ≡ progress.old.wires }
+    ensures width { length progress.new.places.items ≡ length progress.old.places.items }
+    ensures gains { GainsRoots d.old d.new }
+{
+    keep_gates(d, gates, first, &progress.wires.rails, &mut progress.places)
+}
+
+/// Keeps the steps of a block's loop, if it is one.
+fn keep_found(
+    alloc: Global,
+    d: &mut Diagrams,
+    found: Option<SweptLoop>,
+) -> Result<Option<LoopSteps>, AllocError>
+    requires { IfSome found (λ swept. All (All (AreRailsOf d.old)) swept.steps) }
+    ensures keys { IfOk result (λ loop. IfSome loop (λ steps. All (All (AreKept d.new)) steps.steps)) }
+    ensures steps { IfOk result (λ loop. option_map (loop_under d.new) loop ≡ found) }
+    ensures gains { GainsRoots d.old d.new }
+{
+    match found {
+        Some(swept) => Ok(Some(keep_loop(alloc, d, swept)?)),
+        None => Ok(None),
+    }
+}
+
 /// Keeps what was found of a block: the rails of its gates, and the steps of its loop.
 pub(crate) fn keep_block(
     alloc: Global,
@@ -100,18 +136,14 @@ pub(crate) fn keep_block(
     requires steps { IfSome found (λ swept. All (All (AreRailsOf d.old)) swept.steps) }
     ensures kept { OnOk result ((n : ℕ) → Contains gates.now n → HoldsRails d.new (place_of progress.new.places.items n) (rails_at progress.old.wires.rails.items (first + n))) }
     ensures others { OnOk result ((n : ℕ) → ¬ Contains gates.now n → place_of progress.new.places.items n ≡ place_of progress.old.places.items n) }
-    ensures before { progress.new.wires.before.items ≡ progress.old.wires.before.items }
-    ensures rails { progress.new.wires.rails.items ≡ progress.old.wires.rails.items }
+    ensures wires { progress.new.wires ≡ progress.old.wires }
     ensures width { length progress.new.places.items ≡ length progress.old.places.items }
     ensures keys { IfOk result (λ loop. IfSome loop (λ steps. All (All (AreKept d.new)) steps.steps)) }
     ensures steps { IfOk result (λ loop. option_map (loop_under d.new) loop ≡ found) }
     ensures gains { GainsRoots d.old d.new }
 {
-    keep_gates(d, gates, first, &progress.wires.rails, &mut progress.places)?;
-    match found {
-        Some(swept) => Ok(Some(keep_loop(alloc, d, swept)?)),
-        None => Ok(None),
-    }
+    keep_solved(d, gates, first, progress)?;
+    keep_found(alloc, d, found)
 }
 
 /// The kept rails of all signals: the given ones, and then those at the places.

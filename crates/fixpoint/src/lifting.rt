@@ -1,6 +1,6 @@
 //! The fixpoint of a netlist without loops, gate by gate.
 
-ghost use Rattle.std.specs.Prelude.{◌≡◌, ◌<◌, ◌*◌, Bool, List, length, map, All, IfOk, OnOk};
+ghost use Rattle.std.specs.Prelude.{◌≡◌, ◌<◌, ◌*◌, ◌++◌, Bool, List, length, map, replicate, All, IfOk, OnOk};
 ghost use Rattle.bdd_store.specs.Growth.{KeepsNodes, GrowsWithin};
 ghost use Rattle.dual_rail.specs.Local.{size};
 ghost use Rattle.dual_rail.specs.Rails.{AreRailsOf, values_of};
@@ -12,6 +12,7 @@ ghost use Rattle.netlist.specs.Walks.{IsLoopFree};
 ghost use Rattle.loops.specs.Sweeps.{first_gate};
 ghost use Rattle.fixpoint.specs.Lifting.{rails_of_pin, AreSignalRails, IsLifted, AreLifted, BoundsGate};
 ghost use Rattle.fixpoint.specs.Solved.{Vectors};
+ghost use Rattle.fixpoint.specs.Sweeping.{unknown as unknown_rails};
 ghost use Rattle.fixpoint.specs.Working.{no_loops, IsGatePart, HasLargeCover, effort};
 
 use crate::wires::{gate_rails, signal_rails, unknowns};
@@ -74,6 +75,14 @@ fn lift_in_order(
     Ok(())
 }
 
+/// The given rails of inputs and latches, and those of X for the gates.
+fn unlifted_rails(alloc: Global, net: &Netlist, given: &[Rails]) -> Result<Vec<Rails>, AllocError>
+    ensures { IfOk result (λ rails. rails.items ≡ given.now ++ replicate (length net.now.gates) unknown_rails) }
+{
+    let gates = unknowns(alloc, net.gates() as usize)?;
+    signal_rails(alloc, given, &gates)
+}
+
 /// The rails of the fixpoint of a netlist without loops, for each signal, where the inputs and then the latches
 /// have the given rails: gate by gate, each after those that it reads. It leaves every earlier node its function,
 /// after a refusal too.
@@ -99,12 +108,7 @@ pub fn lift_gates(
     let Ok(Some(order)) = net.in_order(alloc) else {
         return Err(StoreFault::Memory);
     };
-    let Ok(unlifted) = unknowns(alloc, net.gates() as usize) else {
-        return Err(StoreFault::Memory);
-    };
-    let Ok(mut rails) = signal_rails(alloc, given, &unlifted) else {
-        return Err(StoreFault::Memory);
-    };
+    let mut rails = unlifted_rails(alloc, net, given)?;
     lift_in_order(alloc, d, net, &order, &mut rails)?;
     Ok(rails)
 }

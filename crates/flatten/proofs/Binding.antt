@@ -55,10 +55,6 @@ pub pair_fault_once : (names : List (List ℕ)) (before pairs : List (List ℕ �
 pair_fault_once names before [] = refl
 pair_fault_once names before (p ∷ pairs) = rw (among_once names p.0, pair_fault_once names (before ++ p ∷ []) pairs) refl
 
--- an instance whose model was chosen, before and behind the look at its pairs
-pub entry_refused : (name : List ℕ) (a b : Bool) (f : ℕ → Option FlatFault) (x : Option ℕ) (fault : FlatFault) → entry name a b (λ i. None) x ≡ Err fault → entry name a b f x ≡ Err fault
-entry_refused name a b f x fault e = grind arith
-
 pub none_there : (o : Option (List ℕ)) → is_some o ≡ false → o ≡ None
 none_there o h = grind arith
 

@@ -83,5 +83,5 @@ pub(crate) fn parts_alone(alloc: Global, model: BlifModel, limit: u32) -> Result
     let mut top = model;
     let body = mem::replace(&mut top.body, Items::of(Vec::new(alloc)));
     let lines = own_lines(alloc, body.into_vec())?;
-    Ok(link(alloc, &top, lines)?)
+    link(alloc, &top, lines)
 }

@@ -2,7 +2,7 @@
 //! is too large is refused while it is only counted. A trail has the places of the models that are open, with the
 //! top's first.
 
-ghost use Rattle.std.specs.Prelude.{◌≡◌, ◌<◌, ◌-◌, ◌⊎◌, true, length, All, None, Some, Ok, Err, IfOk, IfErr, OnOk};
+ghost use Rattle.std.specs.Prelude.{◌≡◌, ◌<◌, ◌-◌, ◌⊎◌, true, if◌then◌else◌, length, All, None, Some, Ok, Err, IfOk, IfErr, OnOk};
 ghost use Rattle.std.specs.List.{list_any};
 ghost use Rattle.std.specs.Str.{bytes_eq};
 ghost use Rattle.blif_read.specs.declared.models.Item.TheVariants.{Part};
@@ -65,20 +65,18 @@ fn fits(alloc: Global, hierarchy: &Hierarchy<'_>, item: &Item) -> bool
     }
 }
 
-fn body_fits(alloc: Global, hierarchy: &Hierarchy<'_>, body: &[Item]) -> bool
-    ensures { result ≡ true → All (Fits hierarchy.now.models) body.now }
-{
-    body.iter().all(|item| fits(alloc, hierarchy, item))
-}
-
 /// Whether the pairs of each instance in the file are found to have no fault. Then they aren't looked at again.
 fn all_fit(alloc: Global, hierarchy: &Hierarchy<'_>) -> bool
     ensures { result ≡ true → AllFit hierarchy.now.models }
 {
-    hierarchy
-        .models()
-        .iter()
-        .all(|model| body_fits(alloc, hierarchy, model.body.items()))
+    for model in hierarchy.models() {
+        for item in model.body.items() {
+            if !fits(alloc, hierarchy, item) {
+                return false;
+            }
+        }
+    }
+    true
 }
 
 /// That the pairs of an instance of this model have no fault, which may be known.
@@ -101,6 +99,18 @@ fn check_unknown_pairs(
     check_pairs(alloc, hierarchy, model, pairs)
 }
 
+/// Why an instance of the model of this name can't be entered: the file doesn't have it, it is open, or else the instance
+/// lies too deep.
+fn refusal(found: bool, opened: bool, name: Name) -> FlatFault
+    ensures { result ≡ (if found then (if opened then FlatFault.Recursive name else FlatFault.TooDeep name) else FlatFault.UnknownModel name) }
+{
+    match (found, opened) {
+        (false, _) => FlatFault::UnknownModel { name },
+        (true, true) => FlatFault::Recursive { name },
+        (true, false) => FlatFault::TooDeep { name },
+    }
+}
+
 /// The place of the model of this name, which is to be neither open nor too deep.
 fn choose(
     hierarchy: &Hierarchy<'_>,
@@ -114,10 +124,8 @@ fn choose(
         ⊎ (chosen hierarchy.now.models name.now opened deep ≡ Err fault)) }
 {
     match hierarchy.find(name) {
-        None => Err(FlatFault::UnknownModel { name: name.copy()? }),
-        Some(_) if opened => Err(FlatFault::Recursive { name: name.copy()? }),
-        Some(_) if deep => Err(FlatFault::TooDeep { name: name.copy()? }),
-        Some(model) => Ok(model),
+        Some(model) if !opened && !deep => Ok(model),
+        found => Err(refusal(found.is_some(), opened, name.copy()?)),
     }
 }
 

@@ -8,7 +8,7 @@ use thiserror::Error;
 
 /// Why models have no flat netlist. The first seven are looked for in one walk in depth-first order of the
 /// text, where the first item with a fault decides; then the others, one after another in their order.
-#[derive(Error)]
+#[derive(Drop, Error)]
 pub enum FlatFault {
     /// The top, or the model of an instance, is no model of the file.
     UnknownModel { name: Name },
@@ -35,26 +35,6 @@ pub enum FlatFault {
     /// The wire is read, and only a `.clock` line of the top declares it.
     ClockRead { name: Name },
     Memory,
-}
-
-impl Drop for FlatFault {
-    fn drop(self) {
-        match self {
-            FlatFault::UnknownModel { name: _ } => {}
-            FlatFault::Recursive { name: _ } => {}
-            FlatFault::TooDeep { name: _ } => {}
-            FlatFault::UnknownFormal { name: _ } => {}
-            FlatFault::FormalTwice { name: _ } => {}
-            FlatFault::OpenInput { name: _ } => {}
-            FlatFault::TooLarge => {}
-            FlatFault::DeclaredTwice { name: _ } => {}
-            FlatFault::DrivenTwice { name: _ } => {}
-            FlatFault::Undriven { name: _ } => {}
-            FlatFault::BadClock { name: _ } => {}
-            FlatFault::ClockRead { name: _ } => {}
-            FlatFault::Memory => {}
-        }
-    }
 }
 
 impl fmt::Debug for FlatFault {

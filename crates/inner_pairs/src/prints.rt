@@ -133,7 +133,7 @@ impl<'a> SimulatedModel<'a> {
     }
 
     /// At which vectors its output is 1, where the columns have these words.
-    fn allowed(&self, alloc: Global, words: &[Word]) -> Result<u64, AllocError> {
+    fn ones(&self, alloc: Global, words: &[Word]) -> Result<u64, AllocError> {
         let looped = self.loops.looped();
         let net = looped.net();
         let mut own = words_of_columns(alloc, words, self.columns)?;
@@ -147,7 +147,7 @@ impl<'a> SimulatedModel<'a> {
 }
 
 /// The model, if there is one.
-fn simulated<'a>(
+fn simulated_model<'a>(
     alloc: Global,
     model: Option<&'a Netlist>,
     columns: &'a [u32],
@@ -159,13 +159,13 @@ fn simulated<'a>(
 }
 
 /// At which vectors a care model holds: at all where there is none.
-fn allowed(
+fn care_vectors(
     alloc: Global,
     model: &Option<SimulatedModel<'_>>,
     words: &[Word],
 ) -> Result<u64, AllocError> {
     match model {
-        Some(model) => model.allowed(alloc, words),
+        Some(model) => model.ones(alloc, words),
         None => Ok(u64::MAX),
     }
 }
@@ -179,15 +179,15 @@ struct SimulatedCare<'a> {
 
 impl<'a> SimulatedCare<'a> {
     fn new(alloc: Global, care: &'a Care) -> Result<SimulatedCare<'a>, AllocError> {
-        let assume = simulated(alloc, care.assume(), care.assume_columns())?;
-        let invariant = simulated(alloc, care.invariant(), care.invariant_columns())?;
+        let assume = simulated_model(alloc, care.assume(), care.assume_columns())?;
+        let invariant = simulated_model(alloc, care.invariant(), care.invariant_columns())?;
         Ok(SimulatedCare { assume, invariant })
     }
 
     /// Which vectors are on care.
-    fn allowed(&self, alloc: Global, words: &[Word]) -> Result<u64, AllocError> {
-        let vectors = allowed(alloc, &self.assume, words)?
-            & allowed(alloc, &self.invariant, words)?;
+    fn vectors(&self, alloc: Global, words: &[Word]) -> Result<u64, AllocError> {
+        let vectors = care_vectors(alloc, &self.assume, words)?
+            & care_vectors(alloc, &self.invariant, words)?;
         Ok(vectors)
     }
 }
@@ -247,7 +247,7 @@ fn mix_vectors(
 {
     let mut words = first_words(alloc, looped.net(), cube, number)?;
     settle(looped, &mut words);
-    let vectors = care.allowed(alloc, &words)?;
+    let vectors = care.vectors(alloc, &words)?;
     let taken = if vectors == 0 { u64::MAX } else { vectors };
     mix(&words, taken, prints);
     Ok(is_any_apart(&words, vectors, pairs))

@@ -15,7 +15,7 @@ use std::alloc::{AllocError, Global};
 use unroll::{copy_name, mark};
 
 /// A signal of the second netlist, whose columns are these of the first one, and whose first gate has this number.
-fn moved(columns: &[u32], first: u32, signal: Sig) -> Sig
+fn moved_signal(columns: &[u32], first: u32, signal: Sig) -> Sig
     requires fits { first + (signal.0 - length columns.now) ≤ 4294967295 }
     ensures { result ≡ moved_by columns.now first signal }
 {
@@ -38,7 +38,7 @@ fn moved_pins(
     ensures { IfOk result (λ moved. moved.items ≡ map (moved_by columns.now first) pins.now) }
 {
     pins.iter()
-        .map(|pin| moved(columns, first, *pin))
+        .map(|pin| moved_signal(columns, first, *pin))
         .collect(alloc)
 }
 
@@ -140,7 +140,7 @@ fn moved_pair(columns: &[u32], first: u32, pair: Pair) -> Pair
 {
     Pair {
         here: pair.here,
-        there: moved(columns, first, pair.there),
+        there: moved_signal(columns, first, pair.there),
     }
 }
 

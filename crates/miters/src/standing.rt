@@ -27,7 +27,7 @@ fn number_at(numbers: &[u32], place: usize) -> u32
 }
 
 /// The signal of the first netlist at which one of the second stands.
-fn placed(columns: &[u32], places: &[u32], signal: Sig) -> Sig
+fn placed_signal(columns: &[u32], places: &[u32], signal: Sig) -> Sig
     ensures { result ≡ placed_by columns.now places.now signal }
 {
     let place = signal.0 as usize;
@@ -48,7 +48,7 @@ fn placed_pins(
     ensures { IfOk result (λ placed. placed.items ≡ map (placed_by columns.now places.now) pins.now) }
 {
     pins.iter()
-        .map(|pin| placed(columns, places, *pin))
+        .map(|pin| placed_signal(columns, places, *pin))
         .collect(alloc)
 }
 
@@ -106,7 +106,7 @@ fn all_stand(
 fn pairs_stand(columns: &[u32], places: &[u32], pairs: &[Pair]) -> bool
     ensures { IsTrue result ↔ All (λ pair. (placed_by columns.now places.now pair.there).0 ≡ pair.here.0) pairs.now }
 {
-    pairs.iter().all(|pair| placed(columns, places, pair.there).0 == pair.here.0)
+    pairs.iter().all(|pair| placed_signal(columns, places, pair.there).0 == pair.here.0)
 }
 
 /// For each number of gates (`gate_key`) the first netlist's last gate that has it, by its signal.

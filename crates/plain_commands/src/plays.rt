@@ -60,7 +60,7 @@ pub(crate) fn known(alloc: Global, vectors: &[Trits]) -> Result<Vec<Bits>, Alloc
 }
 
 // How the ticks of a run end, or the first fault in the order of play.
-pub(crate) fn played(alloc: Global, run: &RecordedRun<'_>) -> Result<Vec<TickEnd>, FileError>
+pub(crate) fn tick_ends(alloc: Global, run: &RecordedRun<'_>) -> Result<Vec<TickEnd>, FileError>
     requires { FitsNetlist run.now.net.now (length run.now.vectors.now) run.now.schedule.now }
     ensures good { IfOk result (λ ends. played_meant run.now.net.now run.now.vectors.now run.now.schedule.now ≡ Ok ends.items) }
     ensures bad { IfErr result (λ error. IsErrorOf (played_meant run.now.net.now run.now.vectors.now run.now.schedule.now) (error_seen error)) }
@@ -72,7 +72,7 @@ pub(crate) fn played(alloc: Global, run: &RecordedRun<'_>) -> Result<Vec<TickEnd
 }
 
 // The same run, told to the probes of a kind, which show it.
-pub(crate) fn probed(
+pub(crate) fn play_to_probes(
     alloc: Global,
     run: &RecordedRun<'_>,
     probes: &mut [Box<dyn Probe>],

@@ -11,7 +11,7 @@ ghost use Rattle.plain_commands.specs.Seen.{end_of};
 ghost use Rattle.plain_commands.specs.Shelves.{shelf_call};
 
 use crate::outcome::{Outcome, Stop};
-use crate::plays::{RecordedRun, known, played, probed};
+use crate::plays::{RecordedRun, known, play_to_probes, tick_ends};
 use crate::reading::{read_netlist, read_schedule_file, read_vector_file, stop_at};
 use crate::texts::{tell_delays, tell_probed};
 use cyc_base::{Bits, Name};
@@ -35,7 +35,7 @@ fn play_alone(alloc: Global, run: &RecordedRun<'_>, recorded: &Name) -> Result<O
     requires { FitsNetlist run.now.net.now (length run.now.vectors.now) run.now.schedule.now }
     ensures { (shows : Shows) → FollowsStillAlone (playing shows None recorded.now run.now.net.now run.now.vectors.now run.now.schedule.now) (end_of result) }
 {
-    match played(alloc, run) {
+    match tick_ends(alloc, run) {
         Ok(ends) => Ok(tell_delays(alloc, &ends)?),
         Err(error) => Err(stop_at(alloc, recorded, error)),
     }
@@ -54,7 +54,7 @@ fn play_probed(
     ensures heard { HearRun kind heard text (Some wanted) probes.old probes.new (changes run.now.net.now run.now.schedule.now run.now.vectors.now) }
     ensures comes { FollowsStillAlone (playing (shown_by kind text probes.old) (Some wanted) recorded.now run.now.net.now run.now.vectors.now run.now.schedule.now) (end_of result) }
 {
-    match probed(alloc, run, probes, wanted) {
+    match play_to_probes(alloc, run, probes, wanted) {
         Ok(ShownRun { ends, text: shown }) => Ok(tell_probed(alloc, wanted, &ends, shown)?),
         Err(error) => Err(stop_at(alloc, recorded, error)),
     }

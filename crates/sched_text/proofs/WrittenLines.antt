@@ -4,7 +4,6 @@ use Rattle.std.specs.Prelude.{All, Ok}
 use Rattle.sched_text.proofs.Common.{flat_map, lines, end_number, IsLine, numbered, after_blank, line_text}
 use Rattle.blif_text.proofs.WrittenLines.{spaced, line_of}
 use Rattle.blif_text.proofs.WrittenLines as texts
-use Rattle.sched_text.specs.Written.{text_of}
 
 behind_spaced : (word : List ℕ) (rest : List (List ℕ)) → word ++ flat_map after_blank rest ≡ spaced (word ∷ rest)
 behind_spaced word [] = append-nil word
@@ -15,8 +14,8 @@ line_is : (words : List (List ℕ)) → line_text words ≡ line_of (λ ws. fals
 line_is [] = refl
 line_is (word ∷ rest) = grind (arith, append_assoc, behind_spaced, append-nil)
 
-pub written_lines : (written : List (List (List ℕ))) → All IsLine written → lines (text_of written) false ≡ Ok (numbered 1 written)
+pub written_lines : (written : List (List (List ℕ))) → All IsLine written → lines (flat_map line_text written) false ≡ Ok (numbered 1 written)
 written_lines written each = texts.written_lines line_text (λ ws. false) line_is false (λ ws names. refl) written each
 
-pub written_end : (written : List (List (List ℕ))) → All IsLine written → end_number (text_of written) ≡ 1 + length written
+pub written_end : (written : List (List (List ℕ))) → All IsLine written → end_number (flat_map line_text written) ≡ 1 + length written
 written_end written each = texts.written_end line_text (λ ws. false) line_is written each

@@ -1,20 +1,14 @@
 -- Decimal numbers.
-use Rattle.std.specs.Prelude.{ℕ, ◌+◌, ◌-◌, ◌*◌, Bool, nat_le, List, [], ◌∷◌, ◌&&◌, ◌==◌, if◌then◌else◌, Some, None, unwrap_or}
+use Rattle.std.specs.Prelude.{ℕ, nat_le, List, [], ◌∷◌, ◌&&◌, ◌==◌, if◌then◌else◌, Some, None, unwrap_or}
+use Rattle.std.specs.Char.{is_ascii_digit}
 use Rattle.std.specs.List.{list_all}
+use Rattle.std.specs.Str.Parse.{digits_value_after}
 use Rattle.std.specs.declared.option.Option.{Option}
 
-abbrev pub is_digit : ℕ → Bool
-is_digit b = nat_le 48 b && nat_le b 57
-
--- the number whose digits are those of n and then these
-abbrev pub with_digits : ℕ → List ℕ → ℕ
-with_digits n [] = n
-with_digits n (b ∷ digits) = with_digits (n * 10 + (b - 48)) digits
-
--- that number, where these are digits and it is at most 4,294,967,295
+-- the number whose digits are those of n and then these, where they are digits and it is at most 4,294,967,295
 abbrev pub up_to_most : ℕ → List ℕ → Option ℕ
 up_to_most n digits =
-    if list_all is_digit digits && nat_le (with_digits n digits) 4294967295 then Some (with_digits n digits) else None
+    if list_all is_ascii_digit digits && nat_le (digits_value_after 10 n digits) 4294967295 then Some (digits_value_after 10 n digits) else None
 
 -- a decimal number without leading zeros up to 4,294,967,295
 abbrev pub number : List ℕ → Option ℕ

@@ -52,9 +52,6 @@ head_lines schedule =
 abbrev pub lines_of : Parts → Schedule → List (List (List ℕ))
 lines_of net schedule = head_lines schedule ++ flat_map (tick_lines net) schedule.ticks
 
-abbrev pub text_of : List (List (List ℕ)) → List ℕ
-text_of lines = flat_map line_text lines
-
 -- the text of a schedule
 abbrev pub written : Parts → Schedule → List ℕ
-written net schedule = text_of (lines_of net schedule)
+written net schedule = flat_map line_text (lines_of net schedule)

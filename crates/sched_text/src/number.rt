@@ -1,11 +1,13 @@
 // Decimal numbers.
-ghost use Rattle.std.specs.Prelude.{◌≡◌, ◌+◌, ◌-◌, ◌*◌, ◌&&◌, nat_le, true, false, MatchOption};
-ghost use Rattle.sched_text.specs.Numbers.{is_digit, up_to_most, number};
+ghost use Rattle.std.specs.Prelude.{◌≡◌, ◌+◌, ◌*◌, ◌&&◌, nat_le, true, false, MatchOption};
+ghost use Rattle.std.specs.Char.{digit_value, is_ascii_digit};
+ghost use Rattle.sched_text.specs.Numbers.{up_to_most, number};
 
 // A number with one more digit, where this is one and the number isn't too great.
+#[tactic(auto, using(crate::proofs::NumberLemmas::value_of_digit))]
 fn with_digit(value: u32, digit: u8) -> Option<u32>
-    ensures { MatchOption result ((is_digit digit && nat_le (value * 10 + (digit - 48)) 4294967295) ≡ false)
-        (λ n. ((is_digit digit && nat_le (value * 10 + (digit - 48)) 4294967295) ≡ true) × (n ≡ value * 10 + (digit - 48))) }
+    ensures { MatchOption result ((is_ascii_digit digit && nat_le (value * 10 + digit_value digit) 4294967295) ≡ false)
+        (λ n. ((is_ascii_digit digit && nat_le (value * 10 + digit_value digit) 4294967295) ≡ true) × (n ≡ value * 10 + digit_value digit)) }
 {
     if !digit.is_ascii_digit() {
         return None;

@@ -1,16 +1,12 @@
-use Rattle.std.proofs.Common.{◌≡◌, ◌∙◌, ◌+◌, ◌<◌, All, Decides, ap, length, map, subst, sym, arith, List}
+use Rattle.std.proofs.Common.{◌≡◌, ◌∙◌, ◌+◌, ◌<◌, All, ap, length, map, subst, sym, arith, List}
 use Rattle.cyc_base.specs.declared.sig.Sig.{Sig}
 use Rattle.netlist.specs.declared.parts.Gate.{Gate}
 use Rattle.case_split.specs.declared.operands.Operand.{Operand}
-use Rattle.case_split.specs.contracts.operands.OperandPartialEq.TheImpl.{eq-value}
 use Rattle.netlist.specs.Netlists.{count, gate_at, no_gate}
 use Rattle.case_split.specs.Operands.{IsWithin}
 use Rattle.case_split.specs.Tables.{operand_at}
-use Rattle.case_split.proofs.TableLemmas.{nothing_copied, copy_answer, operands_within, gate_name_fits}
+use Rattle.case_split.proofs.TableLemmas.{nothing_copied, copy_answer, operands_decide, operands_within, gate_name_fits}
 use Rattle.case_split.proofs.tables.copy_gate.Goals as goal
-
-operands_decide : (a b : Operand) → Decides (eq-value.it a b) (a ≡ b)
-operands_decide a b = grind arith
 
 pub returns : goal.returns
 returns c =

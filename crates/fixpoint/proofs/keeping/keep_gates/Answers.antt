@@ -1,6 +1,7 @@
-use Rattle.std.proofs.Common.{◌+◌, Some, None, refl, arith}
-use Rattle.fixpoint.proofs.Common.{HoldsRails, rails_at}
-use Rattle.fixpoint.proofs.KeptLemmas.{GainsRoots_chain}
+use Rattle.std.proofs.Common.{ℕ, ◌+◌, Some, None, get_or, refl, arith}
+use Rattle.cyc_base.proofs.ListLemmas.{Contains-nothing}
+use Rattle.fixpoint.proofs.Common.{HoldsRails, rails_at, take_all, unknown}
+use Rattle.fixpoint.proofs.KeptLemmas.{AreRailsOf-gained, GainsRoots-refl, GainsRoots_chain}
 use Rattle.fixpoint.proofs.KeepingLemmas.{holds-gained}
 use Rattle.fixpoint.proofs.WireLemmas.{set-taken, set-others}
 use Rattle.fixpoint.proofs.keeping.keep_gates.Goals as goal
@@ -17,4 +18,19 @@ loop-gate-preserved c =
     }
 
 pub keep-requires : goal.keep-requires
-keep-requires c = grind arith
+keep-requires c =
+    let i : ℕ = c.loop-gate.gate-index in
+    let place : ℕ = c.args.first + get_or c.args.gates.now i 0 in
+    AreRailsOf-gained c.loop-gate.invariant.gains (rails_at c.args.rails.now place) (c.requires.proper place unknown (omega (arith, c.requires.width, c.requires.gates i 0 c.loop-gate-test.true)))
+
+pub loop-gate-init : goal.loop-gate-init
+loop-gate-init c = record { gains = GainsRoots-refl c.args.d.now; kept = λ n has. absurd (Contains-nothing n has); others = λ n none. refl }
+
+pub returns-in_err-kept-clause-gains : goal.returns-in_err-kept-clause-gains
+returns-in_err-kept-clause-gains c = GainsRoots_chain c.loop-gate.invariant.gains c.keep.ensures.gains
+
+pub returns-clause-kept : goal.returns-clause-kept
+returns-clause-kept c = rw (take_all c.loop-gate.gate-index c.args.gates.now c.loop-gate-test.false) at c.loop-gate.invariant.kept
+
+pub returns-clause-others : goal.returns-clause-others
+returns-clause-others c = rw (take_all c.loop-gate.gate-index c.args.gates.now c.loop-gate-test.false) at c.loop-gate.invariant.others

@@ -1,4 +1,4 @@
-use Rattle.std.proofs.Common.{◌≡◌, ◌∙◌, ◌+◌, ◌++◌, ℕ, Bool, List, false, length, drop, sym, ap, subst, arith}
+use Rattle.std.proofs.Common.{◌≡◌, ◌∙◌, ◌++◌, ℕ, Bool, List, false, length, drop, take, sym, ap, subst, arith}
 use Rattle.fixpoint.proofs.Common.{range_with_len, length-replicate, IsLayout, first_gate, columns_read, AreTaken}
 use Rattle.std.proofs.lemmas.List.{take_at}
 use Rattle.fixpoint.specs.Orders.{order}
@@ -12,7 +12,10 @@ loop-column-preserved c =
     let marks : List Bool = c.take_column.new.marks in
     let value = c.deref_mut-in-loop-column.ensures.value in
     let back = take_at marks (drop (length marks) c.loop-column.marks.items) c.loop-column.marks.len (c.take_column.ensures.width ∙ c.deref_mut-in-loop-column.ensures.len) in
-    grind (arith, columns-more read column)
+    rw back (record {
+      width = c.take_column.ensures.width ∙ ap length value ∙ c.loop-column.invariant.width;
+      taken = rw (columns-more read column) at (c.in_ok-take_column.ensures.taken (read ++ range_with_len 0 column) (rw value c.loop-column.invariant.taken));
+    })
 
 pub returns-clause-layout : goal.returns-clause-layout
 returns-clause-layout c =
@@ -37,4 +40,8 @@ loop-gate-preserved c =
     let value = c.deref_mut.ensures.value in
     let old : length c.deref_mut.result.now ≡ n = ap length value ∙ c.loop-gate.invariant.width in
     let back = take_at marks (drop (length marks) c.loop-gate.marks.items) c.loop-gate.marks.len (c.in_ok-take_read.ensures.width ∙ c.deref_mut.ensures.len) in
-    grind (arith, gate-more n net.gates gate c.gate.result.now c.gate.ensures.gate)
+    rw back (record {
+      width = c.in_ok-take_read.ensures.width ∙ old;
+      taken = rw (gate-more n net.gates gate c.gate.result.now c.gate.ensures.gate)
+          (rw (old, c.items.ensures) at (c.in_ok-take_read.ensures.taken (columns_read n (take gate net.gates)) (rw value c.loop-gate.invariant.taken)));
+    })

@@ -1,5 +1,5 @@
 use Rattle.std.proofs.Common.{◌≡◌, ◌∙◌, ap, arith, map}
-use Rattle.fixpoint.proofs.Common.{within_moved, within_refused, within_answered, value, Gate, gate_at}
+use Rattle.fixpoint.proofs.Common.{within_moved, within_refused, within_answered, Gate, gate_at}
 use Rattle.fixpoint.specs.Lifting.{rails_of_pin}
 use Rattle.fixpoint.proofs.WireLemmas.{rails_at-proper, pins-proper, pins-values}
 use Rattle.fixpoint.proofs.lifting.lift_gate.Goals as goal

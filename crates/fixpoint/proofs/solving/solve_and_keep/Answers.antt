@@ -45,7 +45,7 @@ returns-clause-solved c =
     let first_is : c.columns-first.result ≡ first_gate c.args.looped.now.net = omega (arith, c.columns-first.ensures.columns, ap first_gate c.net.ensures.net) in
     let gates_are : c.gates_of-gates.result.now ≡ (block_at c.args.looped.now.blocks c.args.place).gates = c.gates_of-gates.ensures.gates in
     let home = (c.gates_of-gates.ensures.home 0 0 c.gates_of-gates.ensures.some).1 in
-    rw (c.keep_block.ensures.before, c.keep_block.ensures.rails)
+    rw c.keep_block.ensures.wires
     (solved-next c.args.looped.now c.net.ensures.looped stay c.keep_block.ensures.gains c.args.given.now c.args.place c.requires.place c.args.progress.now.wires.before.items c.args.progress.now.wires.rails.items c.args.progress.now.places.items c.requires.solved
     c.solve_block.new.wires.before.items c.solve_block.new.wires.rails.items c.keep_block.new.progress.places.items
     c.gates_of-gates.result.now gates_are

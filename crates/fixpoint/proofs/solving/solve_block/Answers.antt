@@ -1,12 +1,16 @@
-use Rattle.std.proofs.Common.{◌+◌, ◌*◌, length, ◌≡◌, false, arith}
-use Rattle.fixpoint.proofs.Common.{get_or_default, GrowsWithin, size, gate_at, IsWide, loops_by, IsWorking, HasLargeCover, block_cost, within_moved, within_more, within_refused, within_answered, block_at, home_of, no_block, vectors}
+use Rattle.std.proofs.Common.{◌+◌, ◌*◌, ℕ, length, ◌≡◌, ◌∙◌, false, ap}
+use Rattle.fixpoint.proofs.Common.{get_or_default, GrowsWithin, size, gate_at, IsWide, loops_by, IsWorking, HasLargeCover, block_cost, within_moved, within_more, within_refused, within_answered, Block, block_at, home_of, no_block, vectors}
 use Rattle.fixpoint.proofs.BoundLemmas.{plain-bounds, plain-cost, gate-few}
 use Rattle.fixpoint.proofs.BlockLemmas.{plain-solved}
 use Rattle.fixpoint.proofs.solving.solve_block.Goals as goal
 use Rattle.fixpoint.proofs.solving.solve_block.Goals.{After-set_gate}
 
 plain : (c : After-set_gate) → (block_at c.args.looped.now.blocks (home_of c.args.looped.now.blocks c.args.gate)).looped ≡ false
-plain c = grind (arith, get_or_default c.args.looped.now.blocks.list (home_of c.args.looped.now.blocks c.args.gate) no_block c.index-items-place.result (c.blocks-blocks.ensures.looped.blocks.home c.args.gate c.requires.gate))
+plain c =
+    let l = c.args.looped.now in
+    let place : ℕ = home_of l.blocks c.args.gate in
+    let home = c.blocks-blocks.ensures.looped.blocks.home c.args.gate c.requires.gate in
+    ap (λ (b : Block). b.looped) (get_or_default l.blocks.list place no_block c.index-items-place.result home) ∙ rw (c.items-2.ensures, c.items.ensures, c.blocks-blocks.ensures.blocks) at c.if-items-place.false
 
 pub returns-clause-solved : goal.returns-clause-solved
 returns-clause-solved c =

@@ -1,10 +1,12 @@
-use Rattle.std.proofs.Common.{◌≡◌, ◌≤◌, ◌+◌, length, sym, ap, ◌∙◌, arith}
+use Rattle.std.proofs.Common.{◌≡◌, ◌≤◌, ◌+◌, length, sym, subst, ap, ◌∙◌, arith}
+use Rattle.std.proofs.lemmas.Result.{IfOk-weaker}
 use Rattle.cyc_base.specs.declared.limits.TheConstants.{MAX_FLAT_ITEMS}
 use Rattle.flatten.proofs.Common.{lines_of, linked}
 use Rattle.flatten.specs.Alone.{own_lines, flat_alone}
+use Rattle.flatten.specs.Printable.{ArePrintedLines}
 use Rattle.flatten.proofs.OwnLines.{few_own_lines, own_lines_printed, alone_fits}
 use Rattle.flatten.proofs.Valid.{linked_valid}
-use Rattle.flatten.proofs.Results.{handed_on}
+use Rattle.flatten.proofs.Results.{fault_of}
 use Rattle.flatten.proofs.alone.parts_alone.Goals as goal
 use Rattle.flatten.proofs.alone.parts_alone.Goals.{In_ok-lines}
 
@@ -21,15 +23,15 @@ few c = grind (arith, same c, few_own_lines c.args.model.body)
 pub link-requires-clause-lines : goal.link-requires-clause-lines
 link-requires-clause-lines c = few (goal.at.link-requires-clause-lines c).In_ok-lines
 
-pub returns-in_err-link-clause-fault : goal.returns-in_err-link-clause-fault
-returns-in_err-link-clause-fault c =
-    handed_on _ c.from_residual-in_err-link.result _ c.from_residual-in_err-link.ensures.1 c.in_err-link.ensures.fault
-    (λ h. linked_alone (goal.at.returns-in_err-link-clause-fault c).In_ok-lines ∙ h)
+pub returns-clause-fault : goal.returns-clause-fault
+returns-clause-fault c =
+    fault_of _ _ c.link.result (λ fault h. linked_alone (goal.at.returns-clause-fault c).In_ok-lines ∙ h) c.link.ensures.fault
 
 pub returns-clause-parts : goal.returns-clause-parts
-returns-clause-parts c = linked_alone (goal.at.returns-clause-parts c).In_ok-lines ∙ c.in_ok-link.ensures.parts
+returns-clause-parts c = IfOk-weaker c.link.result _ _ (λ parts is. linked_alone (goal.at.returns-clause-parts c).In_ok-lines ∙ is) c.link.ensures.parts
 
 pub returns-clause-valid : goal.returns-clause-valid
 returns-clause-valid c =
     let here = (goal.at.returns-clause-valid c).In_ok-lines in
-    grind (arith, same here, own_lines_printed c.args.model.body c.requires.sound.body, linked_valid c.args.model (lines_of c.in_ok-lines.lines) c.in_ok-link.field-0 c.requires.sound, few here)
+    let printed = subst ArePrintedLines (sym (same here)) (own_lines_printed c.args.model.body c.requires.sound.body) in
+    IfOk-weaker c.link.result _ _ (λ parts is. linked_valid c.args.model (lines_of c.in_ok-lines.lines) parts c.requires.sound printed (few here) is) c.link.ensures.parts

@@ -1,5 +1,5 @@
 use Rattle.std.proofs.Common.{◌≡◌, ◌∙◌, ap, arith, map}
-use Rattle.fixpoint.proofs.Common.{within_moved, within_refused, within_answered, value, Sig, Rails, Gate, Parts, gate_at, rails_read}
+use Rattle.fixpoint.proofs.Common.{within_moved, within_refused, within_answered, Sig, Rails, Gate, Parts, gate_at, rails_read}
 use Rattle.fixpoint.proofs.WireLemmas.{rails_read-proper, pins-proper, pins-values}
 use Rattle.fixpoint.proofs.wires.Wires.set_gate.Goals as goal
 use Rattle.fixpoint.proofs.wires.Wires.set_gate.Goals.{After-gate_rails}

@@ -11,7 +11,7 @@ Underway c b v = IsUnderway c.args.looped.now c.args.d.now v b c.args.plan.now.c
 
 ready : (c : After-sweep) (b : ℕ) (v : Vectors) → IsPlanOf c.args.looped.now b c.args.plan.now → Underway c b v
     → IsSweepable c.args.looped.now c.args.d.now v (after_sweeps c.args.looped.now v (length c.args.steps.now.items)) b c.items.result.now c.args.self.now.before.items c.args.self.now.rails.items
-ready c b v plan under = grind arith
+ready c b v plan under = record { are = plan.are; loop = plan.loop; follows = rw c.items.ensures plan.order; solved = under.solved; cuts = under.cuts_are }
 
 -- what it costs
 swept-once : (c : After-sweep) (b : ℕ) (v : Vectors) → IsPlanOf c.args.looped.now b c.args.plan.now → Underway c b v
