@@ -19,16 +19,34 @@ column-is c = ap (λ (xs : List ℕ). get_or xs (c.loop-variable.variable - 1) 0
 -- ---- the variables and their columns
 
 pub loop-variable-init : goal.loop-variable-init
-loop-variable-init c = grind (arith, nothing_grown, drop_all c.columns-variable.result (order c.args.net.now), order-is c.args.net.now)
+loop-variable-init c =
+    let n : ℕ = c.columns-variable.result in
+    let none = drop_all n (order c.args.net.now) (omega (arith, c.columns-variable.ensures.columns, (order-is c.args.net.now).long)) in
+    record {
+      grows = nothing_grown;
+      later = record { node = c.of-set.ensures.node c.args.d.now; value = λ w wide. c.of-set.ensures.value c.args.d.now w ∙ sym (ap (λ cs. all_may_start_at c.args.net.now cs (drop n w)) none) };
+    }
 
 pub bounds-order-variable : goal.bounds-order-variable
-bounds-order-variable c = grind (arith, order-is c.args.net.now)
+bounds-order-variable c =
+    let net = c.args.net.now in
+    omega (arith, c.loop-variable-test.true, c.loop-variable.auto.variable, c.columns-variable.ensures.columns, ap length c.requires.order, (order-is net).long)
 
 pub latch-requires : goal.latch-requires
-latch-requires c = grind (arith, order-is c.args.net.now)
+latch-requires c =
+    let k : ℕ = c.loop-variable.variable - 1 in
+    let inside : k < columns c.args.net.now = omega (arith, c.loop-variable-test.true, c.loop-variable.auto.variable, c.columns-variable.ensures.columns) in
+    let within = (order-is c.args.net.now).within k inside in
+    let same = ap (λ (xs : List ℕ). get_or xs k 0) c.requires.order in
+    omega (arith, within, same, c.if-column-first.true, c.inputs-first.ensures.inputs)
 
 pub bounds-rails-column : goal.bounds-rails-column
-bounds-rails-column c = grind (arith, order-is c.args.net.now)
+bounds-rails-column c =
+    let k : ℕ = c.loop-variable.variable - 1 in
+    let inside : k < columns c.args.net.now = omega (arith, c.loop-variable-test.true, c.loop-variable.auto.variable, c.columns-variable.ensures.columns) in
+    let within = (order-is c.args.net.now).within k inside in
+    let same = ap (λ (xs : List ℕ). get_or xs k 0) c.requires.order in
+    omega (arith, within, same, c.requires.columns.width, c.requires.vars)
 
 -- ---- the latch and those after it, and what this adds
 
@@ -58,7 +76,9 @@ both c w wide =
     ∙ sym (next_column net w c.loop-variable.variable k (omega (arith, c.loop-variable-test.true)) inside (wide ∙ vars))
 
 fits-one : (c : After-and) (w : ℕ) → BoundsStarts c.args.net.now w → nodes c.loop-variable.d.vars (conjunction c.loop-variable.d c.may_start_on-latch.result c.loop-variable.set) ≤ w
-fits-one c w fits = grind (arith, variable-inside c, later-nodes c.args.net.now c.loop-variable.d c.loop-variable.set c.may_start_on-latch.result (c.loop-variable.variable - 1) w, both c)
+fits-one c w fits =
+    let inside = variable-inside c in
+    later-nodes c.args.net.now c.loop-variable.d c.loop-variable.set c.may_start_on-latch.result (c.loop-variable.variable - 1) w (omega (arith, inside)) (c.loop-variable.invariant.grows.keeps.vars ∙ c.requires.vars) (both c) fits
 
 one-more : (c : After-and) → columns c.args.net.now - c.loop-variable.variable + 1 ≤ columns c.args.net.now - (c.loop-variable.variable - 1)
 one-more c = let inside = variable-inside c in omega (arith, c.loop-variable-test.true, c.loop-variable.auto.variable, inside, c.inputs-first.ensures.inputs, c.columns-variable.ensures.columns)

@@ -1,5 +1,7 @@
-use Rattle.std.proofs.Common.{◌+◌, ◌*◌, ◌<◌, refl, arith, ◌∙◌}
-use Rattle.diagram_decision.proofs.Common.{within_then, within_moved, within_only, within_more, within_answered, within_refused, within_memory, GrowsInDecision, AreFixed, count}
+use Rattle.std.proofs.Common.{◌+◌, ◌*◌, ◌<◌, length, refl, ap, arith, ◌∙◌}
+use Rattle.std.proofs.lemmas.List.Elements.{All-nil}
+use Rattle.bdd_store.proofs.GrowthLemmas.{nothing_grown}
+use Rattle.diagram_decision.proofs.Common.{AreRailsOf, rails_at-proper, within_then, within_moved, within_only, within_more, within_answered, within_refused, within_memory, GrowsInDecision, AreFixed, count}
 use Rattle.diagram_decision.proofs.DecisionLemmas.{known-bounded, wide-kept}
 use Rattle.diagram_decision.proofs.NextLemmas.{next-all, next-more, source-within}
 use Rattle.diagram_decision.proofs.PartLemmas.{AreFixed-kept, Tells-kept}
@@ -10,12 +12,23 @@ fixed : (c : After-restricted) → AreFixed c.args.question.now.net c.args.d.now
 fixed c = rw c.items-rails.ensures c.requires.fixed
 
 within : (c : After-restricted) → c.latch.result.now.from.0 < count c.args.question.now.net
-within c = grind (arith, source-within c.args.question.now.net c.loop-number.number c.latch.result.now)
+within c = source-within c.args.question.now.net c.loop-number.number c.latch.result.now (rw c.net-net.ensures.net at c.latch.ensures.valid) (rw c.net-net.ensures.net at c.latch.ensures.latch)
 
 pub bounds-rails-latch : goal.bounds-rails-latch
 bounds-rails-latch c =
-    let q = c.args.question.now in
-    grind (arith, source-within q.net c.loop-number.number c.latch.result.now)
+    let source = source-within c.args.question.now.net c.loop-number.number c.latch.result.now (rw c.net-net.ensures.net at c.latch.ensures.valid) (rw c.net-net.ensures.net at c.latch.ensures.latch) in
+    omega (arith, source, c.requires.fixed.width, ap length c.items-rails.ensures)
+
+pub restricted-requires-clause-set : goal.restricted-requires-clause-set
+restricted-requires-clause-set c = (Tells-kept c.loop-number.invariant.grows.keeps c.requires.set).node
+
+pub restricted-requires-clause-rails : goal.restricted-requires-clause-rails
+restricted-requires-clause-rails c =
+    let fixed : AreFixed c.args.question.now.net c.args.d.now c.items-rails.result.now = rw c.items-rails.ensures c.requires.fixed in
+    rails_at-proper c.loop-number.d c.items-rails.result.now (AreFixed-kept c.loop-number.invariant.grows.keeps fixed).proper c.latch.result.now.from.0
+
+pub loop-number-init : goal.loop-number-init
+loop-number-init c = record { grows = nothing_grown; first = rw c.new-list.ensures.items (record { width = refl; proper = All-nil (AreRailsOf c.args.d.now); values = λ v wide. refl }) }
 
 -- one latch more
 step : (c : After-restricted) → GrowsInDecision c.restricted.result c.args.d.now c.restricted.new.d c.args.question.now.net c.args.question.now.care (2 * c.loop-number.number + 2)
