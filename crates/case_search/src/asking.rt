@@ -23,7 +23,10 @@ fn fixed_value(value: ColumnValue) -> Fixed
 pub(crate) fn fixed_values(alloc: Global, values: &[ColumnValue]) -> Result<Vec<Fixed>, AllocError>
     ensures { IfOk result (λ all. all.items ≡ map fixed_of values.now) }
 {
-    values.iter().map(|value| fixed_value(*value)).collect(alloc)
+    values
+        .iter()
+        .map(|value| fixed_value(*value))
+        .collect(alloc)
 }
 
 pub(crate) fn opposite(value: ColumnValue) -> ColumnValue

@@ -20,7 +20,7 @@ pub(crate) const NOTHING: LeftOver = LeftOver {
 };
 
 /// A region with all that lies upstream of it. Its inputs are the columns there, latches too.
-pub(crate) struct Cone {
+pub(crate) struct RegionCone {
     net: Netlist,
     fanout: Fanout,
     /// The region's gates, by their numbers in the cone.
@@ -29,9 +29,9 @@ pub(crate) struct Cone {
     signals: Vec<u32>,
 }
 
-impl Drop for Cone {
+impl Drop for RegionCone {
     fn drop(self) {
-        let Cone {
+        let RegionCone {
             net: _,
             fanout: _,
             gates: _,
@@ -197,13 +197,13 @@ fn numbers_of(
     Ok(numbers)
 }
 
-impl Cone {
+impl RegionCone {
     /// The cone of these gates.
     pub(crate) fn of(
         alloc: Global,
         net: &Netlist,
         gates: &[u32],
-    ) -> Result<Option<Cone>, AllocError>
+    ) -> Result<Option<RegionCone>, AllocError>
         requires gates { All (λ n. n < length net.now.gates) gates.now }
         requires few { length gates.now < 4294967295 }
         ensures { IfOk result (λ found. IfSome found IsCone) }
@@ -214,7 +214,7 @@ impl Cone {
         };
         let gates = numbers_of(alloc, net, &own, &signals, gates)?;
         let fanout = Fanout::of(alloc, &own)?;
-        Ok(Some(Cone {
+        Ok(Some(RegionCone {
             net: own,
             fanout,
             gates,

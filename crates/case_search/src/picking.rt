@@ -4,7 +4,7 @@ ghost use Rattle.std.specs.Prelude.{◌≡◌, ◌<◌, ◌≤◌, length, All, 
 ghost use Rattle.case_search.specs.Searches.{IsCone};
 
 use crate::asking::{forced_values, join, with};
-use crate::cones::{Cone, NOTHING};
+use crate::cones::{NOTHING, RegionCone};
 use crate::reducing::reduced_case;
 use care_sets::Care;
 use case_split::{Case, ColumnValue, LeftOver};
@@ -27,9 +27,9 @@ pub(crate) struct Implication {
 
 /// What cases are picked for.
 #[derive(Drop)]
-pub(crate) struct Search<'a> {
+pub(crate) struct CaseSearch<'a> {
     /// The gates whose loops are to vanish, with all that lies upstream of them.
-    cone: &'a Cone,
+    cone: &'a RegionCone,
     /// Columns that the care set speaks of.
     care_columns: &'a [u32],
     implications: &'a [Implication],
@@ -45,7 +45,7 @@ struct Halves {
 }
 
 /// A case of the tree.
-struct Node {
+struct TreeCase {
     /// The values on the way to it.
     cube: Vec<ColumnValue>,
     /// Those that the care set forces there.
@@ -57,9 +57,9 @@ struct Node {
     halves: Option<Halves>,
 }
 
-impl Drop for Node {
+impl Drop for TreeCase {
     fn drop(self) {
-        let Node {
+        let TreeCase {
             cube: _,
             known: _,
             left: _,
@@ -106,8 +106,8 @@ fn is_much_shorter(after: u64, before: u64) -> bool {
 /// All values that hold where a case has one more, as far as they are known without a question.
 fn values_with(
     alloc: Global,
-    search: &Search<'_>,
-    node: &Node,
+    search: &CaseSearch<'_>,
+    node: &TreeCase,
     value: ColumnValue,
 ) -> Result<Vec<ColumnValue>, AllocError> {
     let mut values = join(alloc, &node.cube, &node.known)?;
@@ -122,8 +122,8 @@ fn values_with(
 
 fn left_with(
     alloc: Global,
-    search: &Search<'_>,
-    node: &Node,
+    search: &CaseSearch<'_>,
+    node: &TreeCase,
     value: ColumnValue,
 ) -> Result<LeftOver, AllocError>
     requires { IsCone search.now.cone.now }
@@ -138,8 +138,8 @@ fn value_of(column: u32, value: bool) -> ColumnValue {
 
 fn try_column(
     alloc: Global,
-    search: &Search<'_>,
-    node: &Node,
+    search: &CaseSearch<'_>,
+    node: &TreeCase,
     column: u32,
 ) -> Result<Tried, AllocError>
     requires { IsCone search.now.cone.now }
@@ -152,7 +152,11 @@ fn try_column(
 }
 
 /// The columns of a case that are tried, those first that leave few gates in loops.
-fn tried_columns(alloc: Global, search: &Search<'_>, node: &Node) -> Result<Vec<Tried>, AllocError>
+fn tried_columns(
+    alloc: Global,
+    search: &CaseSearch<'_>,
+    node: &TreeCase,
+) -> Result<Vec<Tried>, AllocError>
     requires { IsCone search.now.cone.now }
 {
     let mut tried = Vec::new(alloc);
@@ -207,7 +211,7 @@ fn columns_without(
 /// The values that the care set forces in a cube, of columns that have none there; or none where no care vector is in it.
 fn known_in(
     alloc: Global,
-    search: &Search<'_>,
+    search: &CaseSearch<'_>,
     questions: &mut CareQuestions,
     cube: &[ColumnValue],
 ) -> Result<Option<Vec<ColumnValue>>, AllocError> {
@@ -225,17 +229,17 @@ fn known_in(
 /// A case that isn't split.
 fn new_node(
     alloc: Global,
-    search: &Search<'_>,
+    search: &CaseSearch<'_>,
     cube: Vec<ColumnValue>,
     known: Vec<ColumnValue>,
     columns: &[u32],
-) -> Result<Node, AllocError>
+) -> Result<TreeCase, AllocError>
     requires { IsCone search.now.cone.now }
 {
     let values = join(alloc, &cube, &known)?;
     let left = search.cone.left_by(alloc, &values)?;
     let columns = columns_without(alloc, columns, &values)?;
-    Ok(Node {
+    Ok(TreeCase {
         cube,
         known,
         left,
@@ -248,11 +252,11 @@ fn new_node(
 /// The case of these values, or none where no care vector has them.
 fn node_of(
     alloc: Global,
-    search: &Search<'_>,
+    search: &CaseSearch<'_>,
     questions: &mut CareQuestions,
     cube: Vec<ColumnValue>,
     columns: &[u32],
-) -> Result<Option<Node>, AllocError>
+) -> Result<Option<TreeCase>, AllocError>
     requires { IsCone search.now.cone.now }
 {
     let Some(known) = known_in(alloc, search, questions, &cube)? else {
@@ -264,12 +268,12 @@ fn node_of(
 /// The case of a node and one more value.
 fn half(
     alloc: Global,
-    search: &Search<'_>,
+    search: &CaseSearch<'_>,
     questions: &mut CareQuestions,
-    node: &Node,
+    node: &TreeCase,
     value: ColumnValue,
     columns: &[u32],
-) -> Result<Option<Node>, AllocError>
+) -> Result<Option<TreeCase>, AllocError>
     requires { IsCone search.now.cone.now }
 {
     let cube = with(alloc, &node.cube, value)?;
@@ -279,12 +283,12 @@ fn half(
 /// The two cases of a column, or none where no care vector is in one of them.
 fn halves_by(
     alloc: Global,
-    search: &Search<'_>,
+    search: &CaseSearch<'_>,
     questions: &mut CareQuestions,
-    node: &Node,
+    node: &TreeCase,
     column: u32,
     columns: &[u32],
-) -> Result<Option<(Node, Node)>, AllocError>
+) -> Result<Option<(TreeCase, TreeCase)>, AllocError>
     requires { IsCone search.now.cone.now }
 {
     let Some(low) = half(
@@ -314,10 +318,10 @@ fn halves_by(
 /// The two cases of the best column, or none where nothing is won.
 fn halves_of(
     alloc: Global,
-    search: &Search<'_>,
+    search: &CaseSearch<'_>,
     questions: &mut CareQuestions,
-    node: &Node,
-) -> Result<Option<(Node, Node)>, AllocError>
+    node: &TreeCase,
+) -> Result<Option<(TreeCase, TreeCase)>, AllocError>
     requires { IsCone search.now.cone.now }
 {
     let tried = tried_columns(alloc, search, node)?;
@@ -346,7 +350,7 @@ fn is_worse(left: LeftOver, worst: Option<Open>) -> bool {
 }
 
 /// The place of the open case with most left in loops.
-fn worst_open(tree: &[Node]) -> Option<usize>
+fn worst_open(tree: &[TreeCase]) -> Option<usize>
     ensures { IfSome result (λ place. place < length tree.now) }
 {
     let mut worst: Option<Open> = None;
@@ -365,9 +369,9 @@ fn worst_open(tree: &[Node]) -> Option<usize>
 /// Splits the case at a place, and answers whether it did.
 fn split_at(
     alloc: Global,
-    search: &Search<'_>,
+    search: &CaseSearch<'_>,
     questions: &mut CareQuestions,
-    tree: &mut Vec<Node>,
+    tree: &mut Vec<TreeCase>,
     place: usize,
 ) -> Result<bool, AllocError>
     requires search { IsCone search.now.cone.now }
@@ -390,9 +394,9 @@ fn split_at(
 /// Splits the case with most left in loops, and answers whether it did; or none where no case is open.
 fn split_worst(
     alloc: Global,
-    search: &Search<'_>,
+    search: &CaseSearch<'_>,
     questions: &mut CareQuestions,
-    tree: &mut Vec<Node>,
+    tree: &mut Vec<TreeCase>,
 ) -> Result<Option<bool>, AllocError>
     requires { IsCone search.now.cone.now }
 {
@@ -411,7 +415,7 @@ fn worse(a: LeftOver, b: LeftOver) -> LeftOver {
 }
 
 /// What the worst case within each case leaves.
-fn worst_within(alloc: Global, tree: &[Node]) -> Result<Vec<LeftOver>, AllocError> {
+fn worst_within(alloc: Global, tree: &[TreeCase]) -> Result<Vec<LeftOver>, AllocError> {
     let mut worst: Vec<LeftOver> = tree.iter().map(|node| node.left).collect(alloc)?;
     for place in (0..tree.len()).rev() {
         if let Some(halves) = tree[place].halves {
@@ -444,7 +448,7 @@ fn mark(marks: &mut [bool], place: usize) {
 }
 
 /// The halves of a case, where they are worth it.
-fn kept_halves(node: &Node, worst: LeftOver) -> Option<Halves> {
+fn kept_halves(node: &TreeCase, worst: LeftOver) -> Option<Halves> {
     match node.halves {
         Some(halves) if is_worth(node.left, worst) => Some(halves),
         _ => None,
@@ -452,7 +456,7 @@ fn kept_halves(node: &Node, worst: LeftOver) -> Option<Halves> {
 }
 
 /// The places of the cases, where splits that aren't worth it are undone.
-fn leaves_of(alloc: Global, tree: &[Node]) -> Result<Vec<usize>, AllocError> {
+fn leaves_of(alloc: Global, tree: &[TreeCase]) -> Result<Vec<usize>, AllocError> {
     let worst = worst_within(alloc, tree)?;
     let mut kept = vec![in alloc; false; tree.len()]?;
     mark(&mut kept, 0);
@@ -475,10 +479,10 @@ fn leaves_of(alloc: Global, tree: &[Node]) -> Result<Vec<usize>, AllocError> {
 /// The tree with its root alone, or without a case where there is no care vector.
 fn root_of(
     alloc: Global,
-    search: &Search<'_>,
+    search: &CaseSearch<'_>,
     questions: &mut CareQuestions,
     columns: &[u32],
-) -> Result<Vec<Node>, AllocError>
+) -> Result<Vec<TreeCase>, AllocError>
     requires { IsCone search.now.cone.now }
 {
     let mut tree = Vec::new(alloc);
@@ -491,11 +495,11 @@ fn root_of(
 /// The tree of splits into at most so many cases.
 fn tree_of(
     alloc: Global,
-    search: &Search<'_>,
+    search: &CaseSearch<'_>,
     questions: &mut CareQuestions,
     columns: &[u32],
     most: usize,
-) -> Result<Vec<Node>, AllocError>
+) -> Result<Vec<TreeCase>, AllocError>
     requires { IsCone search.now.cone.now }
 {
     let mut tree = root_of(alloc, search, questions, columns)?;
@@ -566,7 +570,7 @@ fn care_columns_of(alloc: Global, care: &Care, columns: &[u32]) -> Result<Vec<u3
 fn case_of(
     alloc: Global,
     questions: &mut CareQuestions,
-    node: &Node,
+    node: &TreeCase,
     leaves: usize,
 ) -> Result<Case, AllocError> {
     if leaves > MOST_REDUCED {
@@ -580,7 +584,7 @@ fn case_of(
 fn cases_of(
     alloc: Global,
     questions: &mut CareQuestions,
-    tree: &[Node],
+    tree: &[TreeCase],
 ) -> Result<Vec<Case>, AllocError> {
     let leaves = leaves_of(alloc, tree)?;
     let mut cases = Vec::new(alloc);
@@ -595,7 +599,7 @@ fn cases_of(
 /// The cases that are picked by a search.
 fn searched_cases(
     alloc: Global,
-    search: &Search<'_>,
+    search: &CaseSearch<'_>,
     questions: &mut CareQuestions,
     columns: &[u32],
     most: usize,
@@ -609,7 +613,7 @@ fn searched_cases(
 /// Cases by which few of a cone's gates are left in loops.
 fn cases_in_cone(
     alloc: Global,
-    cone: &Cone,
+    cone: &RegionCone,
     care: &Care,
     questions: &mut CareQuestions,
     most: usize,
@@ -621,7 +625,7 @@ fn cases_in_cone(
     let care_columns = care_columns_of(alloc, care, &columns)?;
     let implications = implications_of(alloc, questions, &care_columns)?;
     let splits = most.saturating_mul(regions);
-    let search = Search {
+    let search = CaseSearch {
         cone,
         care_columns: &care_columns,
         implications: &implications,
@@ -650,7 +654,7 @@ pub(crate) fn pick_cases(
     requires gates { All (λ n. n < length net.now.gates) gates.now }
     requires few { length gates.now < 4294967295 }
 {
-    match Cone::of(alloc, net, gates)? {
+    match RegionCone::of(alloc, net, gates)? {
         Some(cone) => cases_in_cone(alloc, &cone, care, questions, most, regions),
         None => Ok(Vec::new(alloc)),
     }

@@ -18,7 +18,7 @@ use std::alloc::{AllocError, Global};
 
 /// At most how many cases each region has, and how many regions there are.
 #[derive(Clone, Copy)]
-struct Plan {
+struct SplitLimits {
     cases: usize,
     regions: usize,
 }
@@ -87,12 +87,12 @@ fn picked_cases(
     net: &Netlist,
     care: &Care,
     gates: &[u32],
-    plan: Plan,
+    limits: SplitLimits,
 ) -> Result<Vec<Case>, AllocError>
     requires care { IsCareOf net.now care.now }
     requires gates { All (λ n. n < length net.now.gates) gates.now }
 {
-    let most = cases_that_fit(net, gates.len(), plan.cases);
+    let most = cases_that_fit(net, gates.len(), limits.cases);
     if most < 2 || gates.len() > MAX_REWRITTEN_ITEMS as usize {
         return Ok(Vec::new(alloc));
     }
@@ -104,7 +104,7 @@ fn picked_cases(
             &mut questions,
             gates,
             most,
-            plan.regions,
+            limits.regions,
         ),
         None => Ok(Vec::new(alloc)),
     }
@@ -123,7 +123,7 @@ fn split_marked(
     net: &Netlist,
     care: &Care,
     copied: &[bool],
-    plan: Plan,
+    limits: SplitLimits,
 ) -> Result<Option<Netlist>, AllocError>
     requires care { IsCareOf net.now care.now }
     requires copied { length copied.now ≡ length net.now.gates }
@@ -131,7 +131,7 @@ fn split_marked(
     ensures { IfOk result (λ made. IfSome made (IsSplitOf net.now care.now)) }
 {
     let gates = marked_gates(alloc, net, copied)?;
-    let cases = picked_cases(alloc, net, care, &gates, plan)?;
+    let cases = picked_cases(alloc, net, care, &gates, limits)?;
     if !put_values_in(&cases) {
         return Ok(None);
     }
@@ -157,14 +157,14 @@ fn split_region(
     net: &Netlist,
     care: &Care,
     region: &[u32],
-    plan: Plan,
+    limits: SplitLimits,
 ) -> Result<Option<Netlist>, AllocError>
     requires care { IsCareOf net.now care.now }
     requires inputs { length net.now.inputs ≤ 4000000000 }
     ensures { IfOk result (λ made. IfSome made (IsSplitOf net.now care.now)) }
 {
     let copied = marks_of(alloc, net, region)?;
-    split_marked(alloc, net, care, &copied, plan)
+    split_marked(alloc, net, care, &copied, limits)
 }
 
 /// What is made of a netlist split by some regions, or of the netlist, split by one more.
@@ -174,7 +174,7 @@ fn split_further(
     care: &Care,
     made: Option<Netlist>,
     region: &[u32],
-    plan: Plan,
+    limits: SplitLimits,
 ) -> Result<Option<Netlist>, AllocError>
     requires care { IsCareOf net.now care.now }
     requires inputs { length net.now.inputs ≤ 4000000000 }
@@ -182,9 +182,9 @@ fn split_further(
     ensures { IfOk result (λ made. IfSome made (IsSplitOf net.now care.now)) }
 {
     let Some(other) = made else {
-        return split_region(alloc, net, care, region, plan);
+        return split_region(alloc, net, care, region, limits);
     };
-    match split_region(alloc, &other, care, region, plan)? {
+    match split_region(alloc, &other, care, region, limits)? {
         Some(next) => Ok(Some(next)),
         None => Ok(Some(other)),
     }
@@ -202,13 +202,13 @@ fn split_regions(
     requires inputs { length net.now.inputs ≤ 4000000000 }
     ensures { IfOk result (λ made. IfSome made (IsSplitOf net.now care.now)) }
 {
-    let plan = Plan {
+    let limits = SplitLimits {
         cases,
         regions: regions.len(),
     };
     let mut made: Option<Netlist> = None;
     for region in regions {
-        made = split_further(alloc, net, care, made, region.gates(), plan)?;
+        made = split_further(alloc, net, care, made, region.gates(), limits)?;
     }
     Ok(made)
 }
