@@ -2,8 +2,8 @@ use Rattle.std.proofs.Common.{◌∙◌, refl}
 use Rattle.clause_pairs.proofs.CubeLemmas.{asked-inside, not-possible, ruled-out-inside}
 use Rattle.clause_pairs.proofs.cubes.CareQuestions.rules_out.Goals as goal
 
-pub assumed-requires : goal.assumed-requires
-assumed-requires c = c.has_columns.ensures.0 c.if-not-has_columns.false
+pub literals_within-requires : goal.literals_within-requires
+literals_within-requires c = c.has_columns.ensures.0 c.if-not-has_columns.false
 
 pub is_possible-requires : goal.is_possible-requires
 is_possible-requires c =
