@@ -11,8 +11,8 @@ least_by_pairs-requires-clause-paired c =
     let m = c.self.inside in
     let is = c.self.invariant in
     let fits = is.fits in
-    let own : c.new-looped.result.net ≡ c.args.net.now = ap (λ (l : Looped). l.net) c.new-looped.ensures in
-    let same : c.new-looped.result.net ≡ joined m.a.now m.b.now [] = own ∙ c.requires ∙ ap (λ (x : Accepted). joined x.a x.b []) (sym c.self.view_is) in
+    let own : c.looped-looped.result.net ≡ c.args.net.now = ap (λ (l : Looped). l.net) c.looped-looped.ensures.looped ∙ c.in_ok-loops.ensures in
+    let same : c.looped-looped.result.net ≡ joined m.a.now m.b.now [] = own ∙ c.requires ∙ ap (λ (x : Accepted). joined x.a x.b []) (sym c.self.view_is) in
     record {
       joined_is = same;
       fits = omega (arith, fits);
@@ -27,8 +27,8 @@ pub least_by_pairs-requires-clause-least : goal.least_by_pairs-requires-clause-l
 least_by_pairs-requires-clause-least c =
     let m = c.self.inside in
     let is = c.self.invariant in
-    let same : c.new-looped.result.net ≡ joined m.a.now m.b.now [] =
-    ap (λ (l : Looped). l.net) c.new-looped.ensures ∙ c.requires ∙ ap (λ (x : Accepted). joined x.a x.b []) (sym c.self.view_is) in
+    let same : c.looped-looped.result.net ≡ joined m.a.now m.b.now [] =
+    ap (λ (l : Looped). l.net) c.looped-looped.ensures.looped ∙ c.in_ok-loops.ensures ∙ c.requires ∙ ap (λ (x : Accepted). joined x.a x.b []) (sym c.self.view_is) in
     ap₂ (λ (net : Parts) (pairs : List Pair). least_apart net m.care.now pairs) same is.pairs_are
     ∙ least_joined m.a.now m.b.now is.valid_a is.valid_b is.names m.care.now is.are_accepted []
     ∙ ap (λ (x : Accepted). difference x.a x.b x.care) c.self.view_is

@@ -9,7 +9,7 @@ pub invariant_of-comparison : goal.invariant_of-comparison
 invariant_of-comparison c =
     let m = c.self.inside in
     let is = c.self.invariant in
-    let same : c.new-looped.result.net ≡ joined m.a.now m.b.now [] = ap (λ (l : Looped). l.net) c.new-looped.ensures ∙ c.in_ok-net.ensures in
+    let same : c.looped-looped.result.net ≡ joined m.a.now m.b.now [] = ap (λ (l : Looped). l.net) c.looped-looped.ensures.looped ∙ c.in_ok-loops.ensures ∙ c.in_ok-net.ensures in
     record {
       laid = subst (λ (net : Parts). IsLayout (columns net) c.deref.result.now) (sym same)
           (subst (λ (order : List ℕ). IsLayout (columns c.self.inside.a.now) order) (sym c.deref.ensures.value) c.in_ok-order.ensures.layout);
@@ -20,14 +20,14 @@ invariant_of-comparison c =
 pub least_on-requires-clause-care : goal.least_on-requires-clause-care
 least_on-requires-clause-care c =
     let m = c.self.inside in
-    let same : c.new-looped.result.net ≡ joined m.a.now m.b.now [] = ap (λ (l : Looped). l.net) c.new-looped.ensures ∙ c.in_ok-net.ensures in
+    let same : c.looped-looped.result.net ≡ joined m.a.now m.b.now [] = ap (λ (l : Looped). l.net) c.looped-looped.ensures.looped ∙ c.in_ok-loops.ensures ∙ c.in_ok-net.ensures in
     subst (λ (net : Parts). IsCareOf net c.self.inside.care.now) (sym same) (care_joined m.a.now m.b.now [] m.care.now c.self.invariant.care_is)
 
 pub returns : goal.returns
 returns c =
     let m = c.self.inside in
     let is = c.self.invariant in
-    let same : c.new-looped.result.net ≡ joined m.a.now m.b.now [] = ap (λ (l : Looped). l.net) c.new-looped.ensures ∙ c.in_ok-net.ensures in
+    let same : c.looped-looped.result.net ≡ joined m.a.now m.b.now [] = ap (λ (l : Looped). l.net) c.looped-looped.ensures.looped ∙ c.in_ok-loops.ensures ∙ c.in_ok-net.ensures in
     record {
       found = subst (λ (o : Option (List Bool)). IfOk c.least_on.result (λ found. found ≡ o))
           (ap₂ (λ (net : Parts) (pairs : List Pair). least_apart net m.care.now pairs) same is.pairs_are
@@ -42,6 +42,6 @@ returns c =
           subst (λ (x : Accepted). IsBelowEnoughFor (order x.a) (joined x.a x.b []) x.care (joined_pairs x.a x.b) c.args.limit) c.self.view_is
           (subst (λ (pairs : List Pair). IsBelowEnoughFor (order c.self.inside.a.now) (joined c.self.inside.a.now c.self.inside.b.now []) c.self.inside.care.now pairs c.args.limit) is.pairs_are
           (subst (λ (net : Parts). IsBelowEnoughFor (order c.self.inside.a.now) net c.self.inside.care.now c.self.inside.pairs.now c.args.limit) same
-          (subst (λ (columns : List ℕ). IsBelowEnoughFor columns c.new-looped.result.net c.self.inside.care.now c.self.inside.pairs.now c.args.limit) (c.deref.ensures.value ∙ c.in_ok-order.ensures.order)
+          (subst (λ (columns : List ℕ). IsBelowEnoughFor columns c.looped-looped.result.net c.self.inside.care.now c.self.inside.pairs.now c.args.limit) (c.deref.ensures.value ∙ c.in_ok-order.ensures.order)
           (c.least_on.ensures.below e))));
     }
