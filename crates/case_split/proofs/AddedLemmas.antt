@@ -1,5 +1,6 @@
 -- Lists of gates that go on.
-use Rattle.std.proofs.Common.{◌≡◌, inl, inr, ℕ, ◌+◌, ◌<◌, ◌≤◌, List, [], ◌∷◌, ◌++◌, length, get_or, All, sym, ap, ◌∙◌, refl, subst, arith}
+use Rattle.std.proofs.Common.{◌≡◌, inl, inr, ℕ, ◌+◌, ◌*◌, ◌<◌, ◌≤◌, List, [], ◌∷◌, ◌++◌, length, get_or, All, sym, ap, ◌∙◌, refl, subst, arith}
+use Rattle.std.proofs.Math.Nat.{mul-le-mul}
 use Rattle.std.proofs.lemmas.Bool.{cases_lt}
 use Rattle.std.proofs.lemmas.List.{append-nil, append_assoc, get_or_append_left, length-append}
 use Rattle.cyc_base.specs.Names.{IsBlifName}
@@ -38,6 +39,15 @@ more_length a b m h =
     let x = ap length h.is ∙ length-append a h.rest in
     let y = h.few in
     (omega arith, omega arith)
+
+-- there is room for one part more
+pub room_left : (first each n all : ℕ) (old mid : List Gate) → IsMore old mid (n * each) → n < all → first + length old + all * each ≤ 4294967295 → first + length mid + each ≤ 4294967295
+room_left first each n all old mid h l room =
+    let longer = (more_length old mid (n * each) h).1 in
+    let next : n + 1 ≤ all = omega arith in
+    let product = mul-le-mul next (let same : each ≤ each = omega arith in same) in
+    let split : (n + 1) * each ≡ n * each + each = omega arith in
+    omega arith
 
 pub agrees_before : (f : Sig → Trit) (first : ℕ) (a b : List Gate) (m : ℕ) → IsMore a b m → Agrees f first b → Agrees f first a
 agrees_before f first a b m h agree i l =

@@ -3,7 +3,7 @@ use Rattle.std.proofs.Common.{◌≡◌, inl, inr, ℕ, zero, suc, ◌+◌, ◌*
 use Rattle.std.specs.List.{range_with_len}
 use Rattle.std.specs.List.Sorted.{IsPermutation}
 use Rattle.std.proofs.lemmas.Bool.{cases_eq, cases_lt, eq-eqb, ne_eqb}
-use Rattle.std.proofs.lemmas.List.{get_or-append-add, get_or_append_left, get_or_default, get_or-map, get_or_past, length-append, length-map, map-append, take_more}
+use Rattle.std.proofs.lemmas.List.{get_or_append_left, get_or_default, get_or-map, get_or_past, length-append, length-map, map-append, take_more}
 use Rattle.std.proofs.lemmas.List.Elements.{All-append, All-cons, All-contains, All-head, All-map, All-nil, All-push, All-tail, All-weaker, Contains-get_or}
 use Rattle.std.proofs.lemmas.List.FromFn.{get_or-range_with_len, length-range_with_len}
 use Rattle.std.proofs.lemmas.List.Sorted.{All-permutation, Contains-permutation, length_permutation}
@@ -26,11 +26,23 @@ use Rattle.case_split.specs.declared.pins.Pin.TheVariants.{Column, Leaf}
 use Rattle.case_split.specs.Choices.{AreNarrow, HoldsBy}
 use Rattle.case_split.specs.Cubes.{asked_of, literal_of}
 use Rattle.case_split.specs.Operands.{value_by, IsWithin}
-use Rattle.case_split.specs.Pins.{asked_at, column_pins, operand_on, pins_for, AddsPins, ArePinsAt, ArePinsOf, AreRows, AreRowsOf, IsPinWithin}
+use Rattle.case_split.specs.Pins.{asked_at, column_pins, operand_on, pins_for, AddsPins, AreFirstsUpTo, ArePinsAt, ArePinsOf, AreRows, AreRowsOf, IsPinWithin}
 use Rattle.case_split.proofs.CofactorLemmas.{no_fault}
+use Rattle.case_split.proofs.ListLemmas.{last_is}
 use Rattle.case_split.proofs.CubeLemmas.{all_back, all_front, asked_must, may_not}
 
 -- ---- the first places of leaves
+
+pub firsts_next : (leaves : List Operand) (n first : ℕ) (firsts : List ℕ) → AreFirstsUpTo leaves n firsts → ((d : Operand) → get_or leaves first d ≡ get_or leaves n d) → AreFirstsUpTo leaves (n + 1) (firsts ++ first ∷ [])
+firsts_next leaves n first firsts h is = record {
+  width = length-append firsts (first ∷ []) ∙ ap (λ (k : ℕ). k + 1) h.width;
+  same = λ i d l. elim (cases_lt i n) [
+    | inl before ↦ ap (λ (k : ℕ). get_or leaves k d) (get_or_append_left firsts (first ∷ []) 0 i (let w = h.width in omega arith)) ∙ h.same i d before
+    | inr after ↦
+        let here : n ≡ i = omega (arith, after, l) in
+        subst (λ (k : ℕ). get_or leaves (get_or (firsts ++ first ∷ []) k 0) d ≡ get_or leaves k d) here (ap (λ (k : ℕ). get_or leaves k d) (last_is firsts first n 0 h.width) ∙ is d)
+  ];
+}
 
 -- ---- pins that are added
 
@@ -140,9 +152,6 @@ operands_within bound more cases firsts pins leaves are low within =
 abbrev row_asks : List Case → List ℕ → List Pin → ℕ → Case → List Lit
 row_asks cases firsts pins i c = map (asked_at (get_or cases i c).cube.items (get_or firsts i 0)) pins
 
-row_last : (rows : List Row) (row : Row) (n : ℕ) (d : Row) → length rows ≡ n → get_or (rows ++ row ∷ []) n d ≡ row
-row_last rows row n d wide = ap (λ (i : ℕ). get_or (rows ++ row ∷ []) i d) (let e : n ≡ length rows + 0 = omega (arith, wide) in e) ∙ get_or-append-add rows (row ∷ []) 0 d
-
 pub rows_next : (cases : List Case) (firsts : List ℕ) (pins : List Pin) (n : ℕ) (case : Case) (rows : List Row) (row : Row) → AreRowsOf cases firsts pins n rows → n < length cases → case ≡ get_or cases n case → row.lits ≡ map (asked_at case.cube.items (get_or firsts n 0)) pins →
     AreRowsOf cases firsts pins (n + 1) (rows ++ row ∷ [])
 rows_next cases firsts pins n case rows row h inside is asks = record {
@@ -153,7 +162,7 @@ rows_next cases firsts pins n case rows row h inside is asks = record {
     | inr most ↦
         let last : i ≡ n = omega (arith, most, l) in
         subst (λ (k : ℕ). (get_or (rows ++ row ∷ []) k d).lits ≡ row_asks cases firsts pins k c) (sym last)
-        (ap (λ (r : Row). r.lits) (row_last rows row n d h.width) ∙ asks ∙ ap (λ (x : Case). map (asked_at x.cube.items (get_or firsts n 0)) pins) (is ∙ get_or_default cases n case c inside))
+        (ap (λ (r : Row). r.lits) (last_is rows row n d h.width) ∙ asks ∙ ap (λ (x : Case). map (asked_at x.cube.items (get_or firsts n 0)) pins) (is ∙ get_or_default cases n case c inside))
   ];
 }
 
@@ -161,7 +170,7 @@ pub rows_all : (cases : List Case) (firsts : List ℕ) (pins : List Pin) (rows :
 rows_all cases firsts pins rows row h asks = record {
   width = length-append rows (row ∷ []) ∙ ap (λ (k : ℕ). k + 1) h.width;
   each = λ i c d l. ap (λ (r : Row). r.lits) (get_or_append_left rows (row ∷ []) d i (let w = h.width in omega arith)) ∙ h.each i c d l;
-  last = λ d. ap (λ (r : Row). r.lits) (row_last rows row (length cases) d h.width) ∙ asks;
+  last = λ d. ap (λ (r : Row). r.lits) (last_is rows row (length cases) d h.width) ∙ asks;
 }
 
 pub rows_fit : (cases : List Case) (firsts : List ℕ) (pins : List Pin) (rows : List Row) → ArePinsOf cases firsts pins → AreNarrow cases → AreRows cases firsts pins rows → first_fault (length pins) rows ≡ None

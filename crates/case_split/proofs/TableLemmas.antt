@@ -156,16 +156,11 @@ module _ (net : Parts) (n : ℕ) (old new : List Gate) (table : List Operand) (o
 
 -- ---- by what is known of the parts
 
-pub copy_answer : (net : Parts) (n : ℕ) (old new : List Gate) (table : List Operand) (operand : Operand) (signal : Sig) (found : Operand) (own : Gate) (pins : List Sig) (os : List Operand) → IsNetlist net → n < length net.gates → length table ≡ count net → signal ≡ gate_sig net n → found ≡ operand_at table signal → found ≡ Wire signal →
-    own ≡ gate_at net n → pins ≡ own.pins → os ≡ map (operand_at table) pins → IsAdded net own.cover os old new operand → All (IsWithin (count net + length old)) table → IsCopyStep net n old new table (set table signal.0 operand)
-copy_answer net n old new table operand signal found own pins os valid l width es ef ei eo ep em is within =
+pub copy_answer : (net : Parts) (n : ℕ) (old new : List Gate) (table : List Operand) (operand : Operand) (signal : Sig) → IsNetlist net → n < length net.gates → length table ≡ count net → signal ≡ gate_sig net n → operand_at table signal ≡ Wire signal →
+    IsAdded net (gate_at net n).cover (map (operand_at table) (gate_at net n).pins) old new operand → All (IsWithin (count net + length old)) table → IsCopyStep net n old new table (set table signal.0 operand)
+copy_answer net n old new table operand signal valid l width es itself is within =
     subst (λ (s : Sig). IsCopyStep net n old new table (set table s.0 operand)) (sym es)
-    (gate_copied net n old new table operand l width
-    (subst (λ (s : Sig). operand_at table s ≡ Wire s) es (sym ef ∙ ei))
-    (valid.pin_counts n no_gate l)
-    (subst (λ (g : Gate). IsAdded net g.cover (map (operand_at table) g.pins) old new operand) eo
-    (subst (λ (xs : List Operand). IsAdded net own.cover xs old new operand) (em ∙ ap (map (operand_at table)) ep) is))
-    within)
+    (gate_copied net n old new table operand l width (subst (λ (s : Sig). operand_at table s ≡ Wire s) es itself) (valid.pin_counts n no_gate l) is within)
 
 pub operands_within : (bound : ℕ) (table : List Operand) (pins : List Sig) → All (λ s. s.0 < length table) pins → All (IsWithin bound) table → All (IsWithin bound) (map (operand_at table) pins)
 operands_within bound table pins inside all = All-map (IsWithin bound) (operand_at table) pins (λ i d k. all (get_or pins i d).0 (Wire (get_or pins i d)) (inside i d k))

@@ -2,10 +2,10 @@
 
 ghost use Rattle.std.specs.Prelude.{◌≡◌, ◌+◌, ◌<◌, ◌≤◌, length, map, All, IfOk, OnOk};
 ghost use Rattle.netlist.specs.Fixpoint.{fix};
-ghost use Rattle.netlist.specs.Netlists.{count};
+ghost use Rattle.netlist.specs.Netlists.{count, gate_at};
 ghost use Rattle.loops.specs.Sweeps.{first_gate};
 ghost use Rattle.ternary_run.specs.Reading.{IsFanoutOf};
-ghost use Rattle.case_split.specs.Added.{AreNew};
+ghost use Rattle.case_split.specs.Added.{AreNew, IsAdded};
 ghost use Rattle.case_split.specs.Operands.{IsWithin};
 ghost use Rattle.case_split.specs.Tables.{operand_at, plain_of, ArePlain, IsCopyStep, AreCopySteps};
 
@@ -77,6 +77,26 @@ pub(crate) fn operands_of(
         .collect(alloc)
 }
 
+/// What stands for a gate of which a copy is added, where these operands stand for what it reads.
+fn copy_of(
+    alloc: Global,
+    base: &Base<'_>,
+    added: &mut Added,
+    table: &[Operand],
+    gate: u32,
+) -> Result<Operand, AllocError>
+    requires gate { gate < length base.now.net.now.gates }
+    requires room { count base.now.net.now + length added.old.gates.items < 4294967295 }
+    requires new { AreNew base.now.net.now added.old.gates.items }
+    requires width { length table.now ≡ count base.now.net.now }
+    requires within { All (IsWithin (count base.now.net.now + length added.old.gates.items)) table.now }
+    ensures { IfOk result (IsAdded base.now.net.now (gate_at base.now.net.now gate).cover (map (operand_at table.now) (gate_at base.now.net.now gate).pins) added.old.gates.items added.new.gates.items) }
+{
+    let own = base.net.gate(gate);
+    let operands = operands_of(alloc, table, own.pins.items())?;
+    added.add(alloc, base, &own.name, &own.cover, &operands)
+}
+
 /// Copies a gate, unless something stands for it already.
 fn copy_gate(
     alloc: Global,
@@ -96,9 +116,7 @@ fn copy_gate(
     if operand_of(table, signal) != Operand::Wire(signal) {
         return Ok(());
     }
-    let own = base.net.gate(gate);
-    let operands = operands_of(alloc, table, own.pins.items())?;
-    let operand = added.add(alloc, base, &own.name, &own.cover, &operands)?;
+    let operand = copy_of(alloc, base, added, table, gate)?;
     table[signal.0 as usize] = operand;
     Ok(())
 }
