@@ -1,13 +1,14 @@
 //! Care vectors at which a loop needs many sweeps. From one at which it needs some, columns are flipped one after another,
 //! and a flip is kept where gates are then known later.
 
-ghost use Rattle.std.specs.Prelude.{◌≡◌, ◌<◌, ◌≤◌, length, IfOk, IfSome};
+ghost use Rattle.std.specs.Prelude.{◌≡◌, ◌<◌, ◌≤◌, length, All, IfOk, IfSome};
 ghost use Rattle.netlist.specs.Netlists.{columns};
 ghost use Rattle.care_sets.specs.Binding.{IsCareOf};
 ghost use Rattle.loop_simulation.specs.Climbing.{IsWitness, NeedAtLeast};
 ghost use Rattle.loop_simulation.specs.LoopsAt.{gates_in, loops_in};
 ghost use Rattle.loop_simulation.specs.Readers.{AreReaders};
 
+use crate::columns::columns_upstream;
 use crate::looped_block::LoopedBlock;
 use crate::readers::readers_in;
 use crate::simulating::{Count, count_at};
@@ -44,6 +45,8 @@ struct LoopOnCare<'a> {
     care: &'a Care,
     /// For each gate the gates of the loop that read it.
     readers: &'a [GateList],
+    /// The columns that lie upstream of the loop: the others change nothing in it.
+    columns: &'a [u32],
 }
 
 /// The witness that a vector is, if it is one of care.
@@ -69,7 +72,7 @@ fn later_witness(
     alloc: Global,
     on_care: &LoopOnCare<'_>,
     witness: &Witness,
-    column: usize,
+    column: u32,
 ) -> Result<Option<Witness>, AllocError>
     requires care { IsCareOf on_care.now.block.now.net on_care.now.care.now }
     requires readers { AreReaders on_care.now.block.now (gates_in on_care.now.block.now) on_care.now.readers.now }
@@ -78,7 +81,7 @@ fn later_witness(
     ensures { IfOk result (λ found. IfSome found (IsWitness on_care.now.block.now.net (loops_in on_care.now.block.now) on_care.now.care.now (gates_in on_care.now.block.now))) }
 {
     let mut vector = witness.vector.to_vec(alloc)?;
-    vector[column] = !vector[column];
+    vector[column as usize] = !vector[column as usize];
     match witness_at(alloc, on_care, vector)? {
         Some(other) if other.count.is_later(&witness.count) => Ok(Some(other)),
         _ => Ok(None),
@@ -100,18 +103,19 @@ fn climb_from(
     requires care { IsCareOf on_care.now.block.now.net on_care.now.care.now }
     requires readers { AreReaders on_care.now.block.now (gates_in on_care.now.block.now) on_care.now.readers.now }
     requires witness { IsWitness on_care.now.block.now.net (loops_in on_care.now.block.now) on_care.now.care.now (gates_in on_care.now.block.now) witness }
+    requires columns { All (λ column. column < columns on_care.now.block.now.net) on_care.now.columns.now }
     ensures { IfOk result (IsWitness on_care.now.block.now.net (loops_in on_care.now.block.now) on_care.now.care.now (gates_in on_care.now.block.now)) }
 {
     let most = on_care.block.cut_count();
-    let width = on_care.block.net().columns() as usize;
+    let columns = on_care.columns;
     // How many tries in a row have failed.
     let mut failed: usize = 0;
     for turn in 0..tries_for(on_care.block, most) {
         let sweeps = witness.count.sweeps;
-        if failed == width || sweeps >= most || turn >= tries_for(on_care.block, sweeps) {
+        if failed == columns.len() || sweeps >= most || turn >= tries_for(on_care.block, sweeps) {
             return Ok(witness);
         }
-        match later_witness(alloc, on_care, &witness, turn % width)? {
+        match later_witness(alloc, on_care, &witness, columns[turn % columns.len()])? {
             Some(later) => {
                 witness = later;
                 failed = 0;
@@ -141,10 +145,12 @@ pub fn climb(
         return Ok(sweeps);
     }
     let readers = readers_in(alloc, block)?;
+    let columns = columns_upstream(alloc, block)?;
     let on_care = LoopOnCare {
         block,
         care,
         readers: &readers,
+        columns: &columns,
     };
     let Some(witness) = witness_at(alloc, &on_care, vector)? else {
         return Ok(sweeps);

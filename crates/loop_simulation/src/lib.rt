@@ -1,5 +1,6 @@
 //! How many sweeps a loop needs at one vector, by ternary simulation of its gates, and care vectors near one at which it
-//! needs more. What sweeps loops need on a care set is defined here too (`specs/Sweeping`), for all who count them.
+//! needs more; cut wires that are known at some care vector. What sweeps loops need on a care set is defined here too
+//! (`specs/Sweeping`), for all who count them.
 //!
 //! It stands on `loops`, for blocks, cut wires and the laws of sweeps, and on `ternary_run`, for the fixpoint of a vector.
 //! The layers above use that `sweeps_at` counts the sweeps of the definition, and that care vectors need as many as `climb`
@@ -7,6 +8,7 @@
 #![tactic(auto)]
 
 mod climbing;
+mod columns;
 mod known;
 pub mod laws;
 mod looped_block;
