@@ -66,29 +66,28 @@ fn formals_of(alloc: Global, model: &BlifModel) -> Result<IndexSet<Name>, AllocE
     Ok(set)
 }
 
-/// Adds a model: its name, and what its instances may bind.
-fn add_model(alloc: Global, library: &mut Library, model: &BlifModel) -> Result<(), AllocError>
-    ensures places { OnOk result (library.new.places.keys ≡ insert_key bytes_eq library.old.places.keys model.now.name) }
-    ensures formals { OnOk result
-        (map (λ set. set.keys) library.new.formals.items ≡ map (λ set. set.keys) library.old.formals.items ++ each_once (formals model.now) ∷ []) }
+/// Adds the names of models, each once.
+#[tactic(auto, using(crate::proofs::Libraries::names_taken))]
+fn add_model_names(set: &mut IndexSet<Name>, models: &[BlifModel]) -> Result<(), AllocError>
+    requires { set.old.keys ≡ [] }
+    ensures { OnOk result (set.new.keys ≡ each_once (map (λ model. model.name) models.now)) }
 {
-    add_copy(&mut library.places, &model.name)?;
-    library.formals.push(formals_of(alloc, model)?)?;
+    for model in models {
+        add_copy(set, &model.name)?;
+    }
     Ok(())
 }
 
-#[tactic(auto, using(crate::proofs::Libraries::names_taken))]
-fn add_models(alloc: Global, library: &mut Library, models: &[BlifModel]) -> Result<(), AllocError>
-    requires places { library.old.places.keys ≡ [] }
-    requires formals { library.old.formals.items ≡ [] }
-    ensures places { OnOk result (library.new.places.keys ≡ each_once (map (λ model. model.name) models.now)) }
-    ensures formals { OnOk result
-        (map (λ set. set.keys) library.new.formals.items ≡ map (λ model. each_once (formals model)) models.now) }
+/// What instances of each of these models may bind.
+fn formals_of_each(alloc: Global, models: &[BlifModel]) -> Result<Vec<IndexSet<Name>>, AllocError>
+    ensures { IfOk result
+        (λ each. map (λ set. set.keys) each.items ≡ map (λ model. each_once (formals model)) models.now) }
 {
+    let mut each = Vec::with_capacity(alloc, models.len())?;
     for model in models {
-        add_model(alloc, library, model)?;
+        each.push_reserved(formals_of(alloc, model)?);
     }
-    Ok(())
+    Ok(each)
 }
 
 /// The tables of these models.
@@ -96,11 +95,11 @@ pub(crate) fn library_of(alloc: Global, models: &[BlifModel]) -> Result<Library,
     requires { IsDistinct bytes_eq (map (λ model. model.name) models.now) }
     ensures { IfOk result (λ library. IsLibraryOf models.now library) }
 {
-    let formals = Vec::with_capacity(alloc, models.len())?;
+    let formals = formals_of_each(alloc, models)?;
     let mut library = Library {
         places: IndexSet::new(alloc),
         formals,
     };
-    add_models(alloc, &mut library, models)?;
+    add_model_names(&mut library.places, models)?;
     Ok(library)
 }
