@@ -75,13 +75,21 @@ fn bind_pairs(
     Ok(())
 }
 
+/// The first of these names that the table doesn't have.
+fn first_unbound<'a>(table: &IndexMap<Name, Name>, names: &'a [Name]) -> Option<&'a Name>
+    ensures { option_copied result ≡ first_open_by table.now.entries names.now }
+{
+    names.iter().find(|name| !table.contains_key(*name))
+}
+
 /// The first input, or else the first clock, of the model that the table doesn't have.
 fn first_open<'a>(table: &IndexMap<Name, Name>, model: &'a BlifModel) -> Option<&'a Name>
     ensures { option_copied result ≡ first_open_by table.now.entries (model.now.inputs ++ model.now.clocks) }
 {
-    let inputs = model.inputs.items().iter();
-    let clocks = model.clocks.items().iter();
-    inputs.chain(clocks).find(|name| !table.contains_key(*name))
+    match first_unbound(table, model.inputs.items()) {
+        Some(name) => Some(name),
+        None => first_unbound(table, model.clocks.items()),
+    }
 }
 
 /// That the table has each input and each clock of the model.

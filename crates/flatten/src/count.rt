@@ -52,6 +52,14 @@ fn check_pairs(
     )
 }
 
+/// Whether the pairs of an instance of this model are found to have no fault.
+fn pairs_fit(alloc: Global, hierarchy: &Hierarchy<'_>, model: usize, pairs: &[(Name, Name)]) -> bool
+    requires { model < length hierarchy.now.models }
+    ensures { result ≡ true → pairs_fault (model_at hierarchy.now.models model) pairs.now ≡ None }
+{
+    check_pairs(alloc, hierarchy, model, pairs).is_ok()
+}
+
 /// Whether the pairs of an instance are found to have no fault.
 fn fits(alloc: Global, hierarchy: &Hierarchy<'_>, item: &Item) -> bool
     ensures { result ≡ true → Fits hierarchy.now.models item.now }
@@ -59,7 +67,7 @@ fn fits(alloc: Global, hierarchy: &Hierarchy<'_>, item: &Item) -> bool
     match item {
         Item::Gate(_) | Item::Latch(_) => true,
         Item::Part(part) => match hierarchy.find(&part.model) {
-            Some(model) => check_pairs(alloc, hierarchy, model, part.pairs.items()).is_ok(),
+            Some(model) => pairs_fit(alloc, hierarchy, model, part.pairs.items()),
             None => false,
         },
     }

@@ -59,6 +59,28 @@ fn flat_parts(
 }
 
 /// The parts of the flat netlist of the model of this name.
+fn parts_of_model(
+    alloc: Global,
+    hierarchy: &Hierarchy<'_>,
+    top: &Name,
+    limit: u32,
+) -> Result<Parts, FlatFault>
+    requires { limit ≤ MAX_FLAT_ITEMS }
+    ensures parts { IfOk result
+        (λ parts. flat_within hierarchy.now.depth limit hierarchy.now.models top.now ≡ Ok parts) }
+    ensures valid { IfOk result IsNetlist }
+    ensures fault { IfErr result
+        (λ fault. (fault ≡ FlatFault.Memory)
+        ⊎ (flat_within hierarchy.now.depth limit hierarchy.now.models top.now ≡ Err fault)) }
+{
+    match hierarchy.find(top) {
+        Some(place) => flat_parts(alloc, hierarchy, place, limit),
+        None => Err(FlatFault::UnknownModel { name: top.copy()? }),
+    }
+}
+
+/// The same of models without their hierarchy, where at most `depth` instances may lie in one another, and at most
+/// `limit` gates, latches and instances may come.
 fn parts_within(
     alloc: Global,
     models: &[BlifModel],
@@ -74,30 +96,7 @@ fn parts_within(
         (λ fault. (fault ≡ FlatFault.Memory) ⊎ (flat_within depth limit models.now top.now ≡ Err fault)) }
 {
     let hierarchy = Hierarchy::new(alloc, models, depth)?;
-    match hierarchy.find(top) {
-        Some(place) => flat_parts(alloc, &hierarchy, place, limit),
-        None => Err(FlatFault::UnknownModel { name: top.copy()? }),
-    }
-}
-
-/// The flat netlist, where at most `depth` instances may lie in one another, and at most `limit` gates,
-/// latches and instances may come.
-fn flatten_within(
-    alloc: Global,
-    models: &[BlifModel],
-    top: &Name,
-    depth: usize,
-    limit: u32,
-) -> Result<Netlist, FlatFault>
-    requires sound { CanBeFlattened models.now }
-    requires limit { limit ≤ MAX_FLAT_ITEMS }
-    ensures netlist { IfOk result (λ net. flat_within depth limit models.now top.now ≡ Ok net) }
-    ensures valid { IfOk result IsNetlist }
-    ensures fault { IfErr result
-        (λ fault. (fault ≡ FlatFault.Memory) ⊎ (flat_within depth limit models.now top.now ≡ Err fault)) }
-{
-    let parts = parts_within(alloc, models, top, depth, limit)?;
-    netlist_of(alloc, parts)
+    parts_of_model(alloc, &hierarchy, top, limit)
 }
 
 /// The flat netlist of a model of the file, with all instances below it: its gates and latches in depth-first
@@ -112,13 +111,9 @@ pub fn flatten(alloc: Global, models: &Models, top: &Name) -> Result<Netlist, Fl
     ensures fault { IfErr result
         (λ fault. (fault ≡ FlatFault.Memory) ⊎ (flat models.now.list top.now ≡ Err fault)) }
 {
-    flatten_within(
-        alloc,
-        models.list.items(),
-        top,
-        MAX_DEPTH as usize,
-        MAX_FLAT_ITEMS,
-    )
+    let depth = MAX_DEPTH as usize;
+    let parts = parts_within(alloc, models.list.items(), top, depth, MAX_FLAT_ITEMS)?;
+    netlist_of(alloc, parts)
 }
 
 /// The place of the model of this name, where no instance stands in it.

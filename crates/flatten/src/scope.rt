@@ -1,4 +1,4 @@
-ghost use Rattle.std.specs.Prelude.{◌≡◌, ◌++◌, [], IfOk, map};
+ghost use Rattle.std.specs.Prelude.{◌≡◌, ◌++◌, [], IfOk, OnOk, map};
 ghost use Rattle.std.specs.Fmt.{decimal};
 ghost use Rattle.flatten.specs.Laws.{resolved};
 ghost use Rattle.flatten.specs.Levels.{gate_by, latch_by, clock_by};
@@ -64,9 +64,17 @@ fn resolve_all(alloc: Global, scope: &NameScope, names: &[Name]) -> Result<Vec<N
 {
     let mut printed = Vec::with_capacity(alloc, names.len())?;
     for name in names {
-        printed.push(resolve(alloc, scope, name)?)?;
+        printed.push_reserved(resolve(alloc, scope, name)?);
     }
     Ok(printed)
+}
+
+/// Appends the decimal digits of a number.
+fn add_number(alloc: Global, bytes: &mut Vec<u8>, number: usize) -> Result<(), AllocError>
+    ensures { OnOk result (bytes.new.items ≡ bytes.old.items ++ decimal number) }
+{
+    let digits = format!(in alloc; "{number}")?;
+    bytes.extend_from_slice(digits.as_bytes())
 }
 
 /// The prefix of an instance, by the prefix of its parent and its number there.
@@ -78,9 +86,8 @@ pub(crate) fn inner_prefix(
 ) -> Result<Name, AllocError>
     ensures { IfOk result (λ inner. inner ≡ prefix.now ++ (decimal number ++ mark.now)) }
 {
-    let digits = format!(in alloc; "{number}")?;
     let mut bytes = prefix.bytes().to_vec(alloc)?;
-    bytes.extend_from_slice(digits.as_bytes())?;
+    add_number(alloc, &mut bytes, number)?;
     bytes.extend_from_slice(mark.bytes())?;
     Ok(Name::new(bytes))
 }
