@@ -176,20 +176,14 @@ fn has_other(latch: &LatchLine, first: &Clock, fits: bool) -> bool
     }
 }
 
-fn first_other<'a>(latches: &'a [LatchLine], first: &Clock, fits: bool) -> Option<&'a LatchLine>
-    ensures { option_copied result ≡ find (has_other_control fits first.now) latches.now }
-{
-    latches.iter().find(|latch| has_other(*latch, first, fits))
-}
-
 /// The first latch whose control is no clock of the top, or isn't the first control.
+#[tactic(auto, using(crate::proofs::Gathering::find_other, crate::proofs::Gathering::find_none))]
 fn first_bad_clock<'a>(top: &BlifModel, latches: &'a [LatchLine]) -> Option<&'a LatchLine>
     ensures { option_copied result ≡ find (has_bad_control top.now (first_control_by latches.now)) latches.now }
 {
-    match first_control(latches) {
-        Some(first) => first_other(latches, first, is_clock(top, &first.name)),
-        None => None,
-    }
+    let first = first_control(latches)?;
+    let fits = is_clock(top, &first.name);
+    latches.iter().find(|latch| has_other(*latch, first, fits))
 }
 
 /// The signal of the driver at this place of the table, or `None` for a clock.
@@ -253,9 +247,30 @@ fn read_all(
 {
     let mut sigs = Vec::with_capacity(alloc, names.len())?;
     for name in names {
-        sigs.push(read(drivers, name, clock)?)?;
+        sigs.push_reserved(read(drivers, name, clock)?);
     }
     Ok(sigs)
+}
+
+/// The latch of a line.
+fn flat_latch(
+    drivers: &Drivers,
+    latch: &LatchLine,
+    clock: &mut Option<Name>,
+) -> Result<Latch, FlatFault>
+    requires { HasSignals drivers.now }
+    ensures latch { IfOk result (λ flat. flat ≡ latch_with (sig_or drivers.now) latch.now) }
+    ensures read { OnOk result (AreRead drivers.now (latch.now.from ∷ []) clock.old clock.new) }
+    ensures fault { IfErr result (λ fault. (fault ≡ FlatFault.Memory)
+        ⊎ (undriven_among drivers.now (latch.now.from ∷ []) ≡ Some fault)) }
+{
+    let from = read(drivers, &latch.from, clock)?;
+    Ok(Latch {
+        name: latch.output.copy()?,
+        from,
+        init: latch.init,
+        clocked: latch.control.is_some(),
+    })
 }
 
 fn flat_latches(
@@ -272,13 +287,7 @@ fn flat_latches(
 {
     let mut flat = Vec::with_capacity(alloc, latches.len())?;
     for latch in latches {
-        let from = read(drivers, &latch.from, clock)?;
-        flat.push(Latch {
-            name: latch.output.copy()?,
-            from,
-            init: latch.init,
-            clocked: latch.control.is_some(),
-        })?;
+        flat.push_reserved(flat_latch(drivers, latch, clock)?);
     }
     Ok(flat)
 }
@@ -315,7 +324,7 @@ fn flat_gates(
 {
     let mut flat = Vec::with_capacity(alloc, gates.len())?;
     for gate in Remaining::of(gates) {
-        flat.push(flat_gate(alloc, drivers, gate, clock)?)?;
+        flat.push_reserved(flat_gate(alloc, drivers, gate, clock)?);
     }
     Ok(flat)
 }
@@ -325,7 +334,7 @@ fn copy_names(alloc: Global, names: &[Name]) -> Result<Vec<Name>, AllocError>
 {
     let mut copied = Vec::with_capacity(alloc, names.len())?;
     for name in names {
-        copied.push(name.copy()?)?;
+        copied.push_reserved(name.copy()?);
     }
     Ok(copied)
 }
@@ -379,26 +388,39 @@ fn drivers_of(alloc: Global, top: &BlifModel, lines: &FlatBody) -> Result<Driver
     })
 }
 
-/// Parts with the top's name, inputs and clock, and nothing else yet.
-fn bare_parts(alloc: Global, top: &BlifModel, latches: &[LatchLine]) -> Result<Parts, AllocError>
-    ensures { IfOk result (λ parts. parts ≡ record { name = top.now.name; inputs = top.now.inputs; clock = first_control_by latches.now; latches = []; gates = []; outputs = [] }) }
+/// Parts with this name, and nothing else yet.
+fn named_parts(alloc: Global, name: Name) -> Parts
+    ensures { result.name ≡ name }
 {
-    let name = top.name.copy()?;
-    let inputs = Items::of(copy_names(alloc, top.inputs.items())?);
-    let clock = copy_control(latches)?;
-    Ok(Parts {
+    Parts {
         name,
-        inputs,
-        clock,
+        inputs: Items::of(Vec::new(alloc)),
+        clock: None,
         latches: Items::of(Vec::new(alloc)),
         gates: Items::of(Vec::new(alloc)),
         outputs: Items::of(Vec::new(alloc)),
-    })
+    }
 }
 
-/// Adds the outputs, the latches and the gates to parts of the netlist: its signals are the inputs, the latches and the
-/// gates. Each wire that is read is looked up once, in the order of the reads, and the first clock among them is noted. The
-/// gates are taken out of the lines.
+/// Gives parts the inputs of the top, and the clock of its latches.
+fn fill_ports(
+    alloc: Global,
+    top: &BlifModel,
+    latches: &[LatchLine],
+    parts: &mut Parts,
+) -> Result<(), AllocError>
+    ensures name { OnOk result (parts.new.name ≡ parts.old.name) }
+    ensures inputs { OnOk result (parts.new.inputs ≡ top.now.inputs) }
+    ensures clock { OnOk result (parts.new.clock ≡ first_control_by latches.now) }
+{
+    parts.inputs = Items::of(copy_names(alloc, top.inputs.items())?);
+    parts.clock = copy_control(latches)?;
+    Ok(())
+}
+
+/// Gives parts that have the top's name, its inputs and the clock their outputs, latches and gates: the signals are the
+/// inputs, the latches and the gates. Each wire that is read is looked up once, in the order of the reads, and the first
+/// clock among them is noted. The gates are taken out of the lines.
 fn fill_lines(
     alloc: Global,
     drivers: &Drivers,
@@ -408,7 +430,9 @@ fn fill_lines(
     clock: &mut Option<Name>,
 ) -> Result<(), FlatFault>
     requires signals { HasSignals drivers.now }
-    requires bare { parts.old ≡ record { name = top.now.name; inputs = top.now.inputs; clock = first_control_by lines.old.latches.items; latches = []; gates = []; outputs = [] } }
+    requires name { parts.old.name ≡ top.now.name }
+    requires inputs { parts.old.inputs ≡ top.now.inputs }
+    requires clock { parts.old.clock ≡ first_control_by lines.old.latches.items }
     ensures parts { OnOk result (parts.new ≡ netlist_by (sig_or drivers.now) top.now (lines_of lines.old)) }
     ensures latches { lines.new.latches.items ≡ lines.old.latches.items }
     ensures read { OnOk result (AreRead drivers.now (reads top.now (lines_of lines.old)) clock.old clock.new) }
@@ -439,7 +463,7 @@ fn check_clocks(top: &BlifModel, latches: &[LatchLine], read: Option<Name>) -> R
     }
 }
 
-/// The same, where the controls are one clock of the top, and no clock is read.
+/// Gives parts that have the top's name all else. The controls are to be one clock of the top, and no clock is to be read.
 fn fill_parts(
     alloc: Global,
     drivers: &Drivers,
@@ -450,11 +474,12 @@ fn fill_parts(
     requires drivers { IsDriversOf top.now (lines_of lines.old) drivers.now }
     requires once { option_or (declared_twice top.now) (driven_twice top.now (lines_of lines.old)) ≡ None }
     requires signals { HasSignals drivers.now }
-    requires bare { parts.old ≡ record { name = top.now.name; inputs = top.now.inputs; clock = first_control_by lines.old.latches.items; latches = []; gates = []; outputs = [] } }
+    requires name { parts.old.name ≡ top.now.name }
     ensures parts { OnOk result (linked top.now (lines_of lines.old) ≡ Ok parts.new) }
     ensures fault { IfErr result
         (λ fault. (fault ≡ FlatFault.Memory) ⊎ (linked top.now (lines_of lines.old) ≡ Err fault)) }
 {
+    fill_ports(alloc, top, &lines.latches, parts)?;
     let mut clock = None;
     fill_lines(alloc, drivers, top, lines, parts, &mut clock)?;
     check_clocks(top, &lines.latches, clock)
@@ -474,7 +499,7 @@ fn parts_of(
     ensures fault { IfErr result
         (λ fault. (fault ≡ FlatFault.Memory) ⊎ (linked top.now (lines_of lines.old) ≡ Err fault)) }
 {
-    let mut parts = bare_parts(alloc, top, &lines.latches)?;
+    let mut parts = named_parts(alloc, top.name.copy()?);
     fill_parts(alloc, drivers, top, lines, &mut parts)?;
     Ok(parts)
 }

@@ -25,10 +25,12 @@ loop-name-preserved c =
     let x = c.name-item.result in
     let inside : i < length names = omega arith in
     record {
-      sigs = mapped_next (sig_or d) names i x c.loop-name.sigs.items c.push.new.self.items inside c.name-item.is c.loop-name.invariant.sigs
-          (c.in_ok-push.ensures.items ∙ ap (λ (sig : Sig). c.loop-name.sigs.items ++ sig ∷ []) c.in_ok-read.ensures.sig);
+      sigs = mapped_next (sig_or d) names i x c.loop-name.sigs.items c.push_reserved.new.self.items inside c.name-item.is c.loop-name.invariant.sigs
+          (c.push_reserved.ensures.items ∙ ap (λ (sig : Sig). c.loop-name.sigs.items ++ sig ∷ []) c.in_ok-read.ensures.sig);
       left = fewer_left d names (drop i names) (x ∷ []) (drop (i + 1) names)
           c.args.clock.now c.loop-name.clock c.read.new.clock (drop-item names i x inside c.name-item.is) c.loop-name.invariant.left c.in_ok-read.ensures.read;
+      len = omega (arith, c.push_reserved.ensures.len, c.loop-name.invariant.len);
+      room = omega (arith, c.push_reserved.ensures.capacity, c.loop-name.invariant.room);
     }
 
 pub returns-clause-read : goal.returns-clause-read
