@@ -1,27 +1,19 @@
 // The care set of a care file: its models `assume` and `invariant`, flattened and bound to the netlist.
-ghost use Rattle.std.specs.Prelude.{◌≡◌, ◌≤◌, Ok, IfOk, IfErr, length};
+ghost use Rattle.std.specs.Prelude.{◌≡◌, Ok, IfOk, IfErr};
 ghost use Rattle.blif_read.specs.Flattening.{CanBeFlattened};
 ghost use Rattle.care_sets.specs.Binding.{IsCareOf};
 ghost use Rattle.parsed_files.specs.CareFiles.{care_models, care_of as care_meant, part_of};
 ghost use Rattle.parsed_files.specs.Faults.{IsErrorOf};
 ghost use Rattle.parsed_files.specs.Seen.{error_seen};
 
-use crate::errors::too_long;
+use crate::errors::check_length;
 use crate::fault::FileError;
 use blif_read::{Models, read};
 use care_sets::{Care, bind};
-use cyc_base::{MAX_FILE_BYTES, Name};
+use cyc_base::Name;
 use flatten::flatten;
 use netlist::Netlist;
-use std::alloc::{AllocError, Global};
-
-fn name_of(alloc: Global, bytes: &[u8]) -> Result<Name, AllocError>
-    ensures { IfOk result (λ name. name ≡ bytes.now) }
-{
-    let mut name = Vec::new(alloc);
-    name.extend_from_slice(bytes)?;
-    Ok(Name::new(name))
-}
+use std::alloc::Global;
 
 // The flat netlist of the model of this name, where the file has one.
 fn flatten_part(alloc: Global, models: &Models, part: &[u8]) -> Result<Option<Netlist>, FileError>
@@ -29,7 +21,7 @@ fn flatten_part(alloc: Global, models: &Models, part: &[u8]) -> Result<Option<Ne
     ensures good { IfOk result (λ net. part_of models.now.list part.now ≡ Ok net) }
     ensures bad { IfErr result (λ error. IsErrorOf (part_of models.now.list part.now) (error_seen error)) }
 {
-    let name = name_of(alloc, part)?;
+    let name = Name::copied_from(alloc, part)?;
     if models.find(&name).is_none() {
         return Ok(None);
     }
@@ -48,17 +40,6 @@ fn care_of_models(alloc: Global, net: &Netlist, models: &Models) -> Result<Care,
     Ok(bind(alloc, net, assume, invariant)?)
 }
 
-// The care set of a text that isn't too long.
-fn care_in(alloc: Global, net: &Netlist, bytes: &[u8]) -> Result<Care, FileError>
-    requires { length bytes.now ≤ MAX_FILE_BYTES }
-    ensures good { IfOk result (λ care. care_meant net.now bytes.now ≡ Ok care) }
-    ensures fits { IfOk result (IsCareOf net.now) }
-    ensures bad { IfErr result (λ error. IsErrorOf (care_meant net.now bytes.now) (error_seen error)) }
-{
-    let models = read(alloc, bytes)?;
-    Ok(care_of_models(alloc, net, &models)?)
-}
-
 /// The care set of a care file for a netlist, or the file's first fault. The assumption is flattened before the
 /// invariant, and then both are bound.
 #[tactic(auto, using(crate::proofs::CareLemmas::care_of_long))]
@@ -67,8 +48,7 @@ pub fn care_of(alloc: Global, net: &Netlist, bytes: &[u8]) -> Result<Care, FileE
     ensures fits { IfOk result (IsCareOf net.now) }
     ensures bad { IfErr result (λ error. IsErrorOf (care_meant net.now bytes.now) (error_seen error)) }
 {
-    if bytes.len() > MAX_FILE_BYTES {
-        return Err(too_long());
-    }
-    care_in(alloc, net, bytes)
+    check_length(bytes)?;
+    let models = read(alloc, bytes)?;
+    care_of_models(alloc, net, &models)
 }

@@ -1,5 +1,5 @@
 // The codes of faults, and which fault an error of the readers is.
-ghost use Rattle.std.specs.Prelude.{◌≡◌, ◌⊎◌, IfOk, Some, None};
+ghost use Rattle.std.specs.Prelude.{◌≡◌, ◌<◌, ◌≤◌, ◌⊎◌, IfErr, IfOk, OnOk, Some, None, length};
 ghost use Rattle.netlist.specs.Netlists.{gate_at};
 ghost use Rattle.report.specs.Texts.{tail_text};
 ghost use Rattle.parsed_files.specs.Faults.{at_line, blif_fault, care_fault, flat_fault, of_file as whole, of_name, of_name_at, of_number_at, too_long as long};
@@ -11,7 +11,7 @@ ghost use Rattle.delay_core.specs.declared.fault.PlayFault.TheVariants as play_f
 use crate::fault::{Fault, FaultTail, FileError};
 use blif_read::BlifFault;
 use care_sets::CareFault;
-use cyc_base::Name;
+use cyc_base::{MAX_FILE_BYTES, Name};
 use delay_core::{EventFault, PlayFault};
 use flatten::FlatFault;
 use netlist::Netlist;
@@ -95,6 +95,17 @@ pub fn too_long() -> FileError
     ensures { error_seen result ≡ Some long }
 {
     of_file(FaultCode::FileTooLong)
+}
+
+/// That the bytes of a file aren't too many.
+pub(crate) fn check_length(bytes: &[u8]) -> Result<(), FileError>
+    ensures short { OnOk result (length bytes.now ≤ MAX_FILE_BYTES) }
+    ensures long { IfErr result (λ error. (MAX_FILE_BYTES < length bytes.now) × (error_seen error ≡ Some long)) }
+{
+    if bytes.len() > MAX_FILE_BYTES {
+        return Err(too_long());
+    }
+    Ok(())
 }
 
 impl From<BlifFault> for FileError {

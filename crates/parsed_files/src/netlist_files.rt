@@ -1,5 +1,5 @@
 // The netlist of a netlist file.
-ghost use Rattle.std.specs.Prelude.{◌≡◌, ◌≢◌, ◌≤◌, ◌<◌, Ok, Err, IfOk, IfErr, MatchResult, length, nat_lt};
+ghost use Rattle.std.specs.Prelude.{◌≡◌, ◌≢◌, ◌≤◌, ◌<◌, Ok, Err, IfOk, IfErr, MatchResult, length};
 ghost use Rattle.blif_read.specs.Reads.{reads};
 ghost use Rattle.blif_read.specs.Flattening.{CanBeFlattened};
 ghost use Rattle.blif_read.specs.declared.fault.BlifFault.TheVariants.{Memory};
@@ -8,7 +8,7 @@ ghost use Rattle.parsed_files.specs.Faults.{IsErrorOf};
 ghost use Rattle.parsed_files.specs.NetlistFiles.{netlist_of as netlist_meant, top_of};
 ghost use Rattle.parsed_files.specs.Seen.{error_seen};
 
-use crate::errors::too_long;
+use crate::errors::check_length;
 use crate::fault::FileError;
 use blif_read::{BlifFault, BlifModel, Models, read};
 use cyc_base::{MAX_FILE_BYTES, MAX_FLAT_ITEMS, Name};
@@ -25,12 +25,6 @@ fn top(models: &[BlifModel]) -> &Name
     &models[0].name
 }
 
-fn is_too_long(bytes: &[u8]) -> bool
-    ensures { result ≡ nat_lt MAX_FILE_BYTES (length bytes.now) }
-{
-    bytes.len() > MAX_FILE_BYTES
-}
-
 // The models of a text, which is dropped once its lines stand.
 fn models_of(alloc: Global, bytes: Vec<u8>) -> Result<Models, BlifFault>
     ensures models { MatchResult result
@@ -39,20 +33,6 @@ fn models_of(alloc: Global, bytes: Vec<u8>) -> Result<Models, BlifFault>
     ensures flat { length bytes.items ≤ 4000000000 → IfOk result (λ models. CanBeFlattened models.list) }
 {
     read(alloc, &bytes)
-}
-
-// The netlist of a text that isn't too long.
-fn netlist_in(alloc: Global, bytes: Vec<u8>) -> Result<Netlist, FileError>
-    requires { length bytes.items ≤ MAX_FILE_BYTES }
-    ensures good { IfOk result (λ net. netlist_meant bytes.items ≡ Ok net) }
-    ensures valid { IfOk result IsNetlist }
-    ensures inputs { IfOk result (λ net. length net.inputs ≤ MAX_FILE_BYTES) }
-    ensures latches { IfOk result (λ net. length net.latches ≤ MAX_FLAT_ITEMS) }
-    ensures bad { IfErr result (λ error. IsErrorOf (netlist_meant bytes.items) (error_seen error)) }
-{
-    let models = models_of(alloc, bytes)?;
-    let top = top(models.list.items()).copy()?;
-    Ok(flatten_owned(alloc, models, &top)?)
 }
 
 /// The netlist of a file at its first model, or the file's first fault: that it is over 67,108,864 bytes long, then
@@ -66,8 +46,8 @@ pub fn netlist_of(alloc: Global, bytes: Vec<u8>) -> Result<Netlist, FileError>
     ensures latches { IfOk result (λ net. length net.latches ≤ MAX_FLAT_ITEMS) }
     ensures bad { IfErr result (λ error. IsErrorOf (netlist_meant bytes.items) (error_seen error)) }
 {
-    if is_too_long(&bytes) {
-        return Err(too_long());
-    }
-    netlist_in(alloc, bytes)
+    check_length(&bytes)?;
+    let models = models_of(alloc, bytes)?;
+    let top = top(models.list.items()).copy()?;
+    Ok(flatten_owned(alloc, models, &top)?)
 }

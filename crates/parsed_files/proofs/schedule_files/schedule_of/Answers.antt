@@ -1,7 +1,7 @@
 use Rattle.std.proofs.Common.{ap, ◌∙◌, arith}
 use Rattle.parsed_files.specs.ScheduleFiles.{of_sched}
 use Rattle.parsed_files.proofs.ScheduleLemmas.{sched_says, schedule_of_short}
-use Rattle.parsed_files.proofs.schedule_files.schedule_in.Goals as goal
+use Rattle.parsed_files.proofs.schedule_files.schedule_of.Goals as goal
 
 pub returns-in-Ok-clause-good : goal.returns-in-Ok-clause-good
 returns-in-Ok-clause-good c = grind arith
@@ -9,4 +9,4 @@ returns-in-Ok-clause-good c = grind arith
 pub returns-in-Err-clause-bad : goal.returns-in-Err-clause-bad
 returns-in-Err-clause-bad c =
     sched_says c.args.net.now _ c.in-Err.fault _ c.sched_error.ensures
-    (λ differs. schedule_of_short c.args.net.now c.args.ticks c.args.bytes.now c.requires ∙ ap (of_sched c.args.net.now) (c.in-Err.ensures.schedule differs))
+    (λ differs. schedule_of_short c.args.net.now c.args.ticks c.args.bytes.now c.in_ok-check_length.ensures.short ∙ ap (of_sched c.args.net.now) (c.in-Err.ensures.schedule differs))
