@@ -29,6 +29,10 @@ pub(crate) fn fixed_values(alloc: Global, values: &[ColumnValue]) -> Result<Vec<
         .collect(alloc)
 }
 
+pub(crate) fn value_of(column: u32, value: bool) -> ColumnValue {
+    ColumnValue { column, value }
+}
+
 pub(crate) fn opposite(value: ColumnValue) -> ColumnValue
     ensures { result ≡ opposite_of value }
 {
@@ -78,17 +82,28 @@ pub(crate) fn join(
 }
 
 /// Both values of each of these columns, 0 before 1.
-fn both_values(alloc: Global, columns: &[u32]) -> Result<Vec<ColumnValue>, AllocError> {
+pub(crate) fn both_values(alloc: Global, columns: &[u32]) -> Result<Vec<ColumnValue>, AllocError> {
     let mut values = Vec::new(alloc);
     for column in columns {
-        for value in [false, true] {
-            values.push(ColumnValue {
-                column: *column,
-                value,
-            })?;
-        }
+        values.push(value_of(*column, false))?;
+        values.push(value_of(*column, true))?;
     }
     Ok(values)
+}
+
+/// Those of the values that aren't in the cube.
+pub(crate) fn others_than(
+    alloc: Global,
+    values: &[ColumnValue],
+    cube: &[ColumnValue],
+) -> Result<Vec<ColumnValue>, AllocError> {
+    let mut others = Vec::new(alloc);
+    for value in values {
+        if !cube.contains(value) {
+            others.push(*value)?;
+        }
+    }
+    Ok(others)
 }
 
 /// The values that are forced where these marks rule out others, or none where both values of a column are ruled out.

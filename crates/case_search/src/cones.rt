@@ -8,7 +8,7 @@ use crate::cases_shown::has_columns;
 use case_split::{ColumnValue, LeftOver, left_in_loops, near_columns};
 use cyc_base::{Items, Name, Sig};
 use indexmap::IndexSet;
-use netlist::{Gate, Netlist, Parts, PartsFault};
+use netlist::{Gate, Netlist, Parts, PartsFault, copy_gate};
 use std::alloc::{AllocError, Global};
 use ternary_run::Fanout;
 
@@ -59,19 +59,33 @@ fn meet_pins(net: &Netlist, met: &mut IndexSet<u32>, place: usize) -> Result<boo
     Ok(true)
 }
 
+/// Meets the signals of these gates.
+fn meet_gates(net: &Netlist, met: &mut IndexSet<u32>, gates: &[u32]) -> Result<(), AllocError>
+    requires { All (λ n. n < length net.now.gates) gates.now }
+{
+    for gate in gates {
+        met.insert(net.gate_sig(*gate).0)?;
+    }
+    Ok(())
+}
+
+/// Meets all signals upstream of those that were met.
+fn meet_upstream(net: &Netlist, met: &mut IndexSet<u32>) -> Result<(), AllocError> {
+    for place in 0..net.count() as usize {
+        if !meet_pins(net, met, place)? {
+            break;
+        }
+    }
+    Ok(())
+}
+
 /// The signals of these gates and all upstream of them, in the order of their numbers.
 fn signals_of(alloc: Global, net: &Netlist, gates: &[u32]) -> Result<Vec<u32>, AllocError>
     requires { All (λ n. n < length net.now.gates) gates.now }
 {
     let mut met = IndexSet::new(alloc);
-    for gate in gates {
-        met.insert(net.gate_sig(*gate).0)?;
-    }
-    for place in 0..net.count() as usize {
-        if !meet_pins(net, &mut met, place)? {
-            break;
-        }
-    }
+    meet_gates(net, &mut met, gates)?;
+    meet_upstream(net, &mut met)?;
     let mut signals = met.as_slice().to_vec(alloc)?;
     signals.sort_unstable();
     Ok(signals)
@@ -105,10 +119,10 @@ fn moved_gate(
     requires { number < length net.now.gates }
 {
     let own = net.gate(number);
-    let pins = Items::of(moved_pins(alloc, signals, own.pins.items())?);
-    let name = own.name.copy()?;
-    let cover = own.cover.copy()?;
-    Ok(Gate { name, pins, cover })
+    let pins = moved_pins(alloc, signals, own.pins.items())?;
+    let mut gate = copy_gate(alloc, own)?;
+    gate.pins = Items::of(pins);
+    Ok(gate)
 }
 
 /// The names of the columns among these signals.

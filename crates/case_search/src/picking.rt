@@ -3,7 +3,7 @@
 ghost use Rattle.std.specs.Prelude.{◌≡◌, ◌<◌, ◌≤◌, length, All, IfOk, IfSome};
 ghost use Rattle.case_search.specs.Searches.{IsCone};
 
-use crate::asking::{forced_values, join, with};
+use crate::asking::{both_values, forced_values, join, others_than, value_of, with};
 use crate::cones::{NOTHING, RegionCone};
 use crate::reducing::reduced_case;
 use care_sets::Care;
@@ -132,10 +132,6 @@ fn left_with(
     search.cone.left_by(alloc, &values)
 }
 
-fn value_of(column: u32, value: bool) -> ColumnValue {
-    ColumnValue { column, value }
-}
-
 fn try_column(
     alloc: Global,
     search: &CaseSearch<'_>,
@@ -183,12 +179,20 @@ fn best_of(tried: &[Tried]) -> Option<Tried> {
 }
 
 fn has_column(values: &[ColumnValue], column: u32) -> bool {
-    values.iter().any(|value| value.column == column)
+    for value in values {
+        if value.column == column {
+            return true;
+        }
+    }
+    false
 }
 
 /// The columns that were tried, and the others.
 fn ranked_columns(alloc: Global, tried: &[Tried], columns: &[u32]) -> Result<Vec<u32>, AllocError> {
-    let mut ranked: Vec<u32> = tried.iter().map(|t| t.column).collect(alloc)?;
+    let mut ranked = Vec::new(alloc);
+    for t in tried {
+        ranked.push(t.column)?;
+    }
     for column in columns.iter().skip(tried.len()) {
         ranked.push(*column)?;
     }
@@ -201,29 +205,26 @@ fn columns_without(
     columns: &[u32],
     values: &[ColumnValue],
 ) -> Result<Vec<u32>, AllocError> {
-    columns
-        .iter()
-        .copied()
-        .filter(|column| !has_column(values, *column))
-        .collect(alloc)
+    let mut without = Vec::new(alloc);
+    for column in columns {
+        if !has_column(values, *column) {
+            without.push(*column)?;
+        }
+    }
+    Ok(without)
 }
 
-/// The values that the care set forces in a cube, of columns that have none there; or none where no care vector is in it.
+/// The values that the care set forces in a cube, beside its own; or none where no care vector is in it.
 fn known_in(
     alloc: Global,
     search: &CaseSearch<'_>,
     questions: &mut CareQuestions,
     cube: &[ColumnValue],
 ) -> Result<Option<Vec<ColumnValue>>, AllocError> {
-    let Some(forced) = forced_values(alloc, questions, cube, search.care_columns)? else {
-        return Ok(None);
-    };
-    let known: Vec<ColumnValue> = forced
-        .iter()
-        .copied()
-        .filter(|value| !has_column(cube, value.column))
-        .collect(alloc)?;
-    Ok(Some(known))
+    match forced_values(alloc, questions, cube, search.care_columns)? {
+        Some(forced) => Ok(Some(others_than(alloc, &forced, cube)?)),
+        None => Ok(None),
+    }
 }
 
 /// A case that isn't split.
@@ -360,10 +361,7 @@ fn worst_open(tree: &[TreeCase]) -> Option<usize>
             worst = Some(Open { place, left });
         }
     }
-    match worst {
-        Some(open) => Some(open.place),
-        None => None,
-    }
+    Some(worst?.place)
 }
 
 /// Splits the case at a place, and answers whether it did.
@@ -541,10 +539,8 @@ fn implications_of(
     columns: &[u32],
 ) -> Result<Vec<Implication>, AllocError> {
     let mut implications = Vec::new(alloc);
-    for column in columns {
-        let (low, high) = (value_of(*column, false), value_of(*column, true));
-        add_implications(alloc, questions, columns, low, &mut implications)?;
-        add_implications(alloc, questions, columns, high, &mut implications)?;
+    for from in &both_values(alloc, columns)? {
+        add_implications(alloc, questions, columns, *from, &mut implications)?;
     }
     Ok(implications)
 }
@@ -558,12 +554,13 @@ fn tries_for(looks: usize, splits: usize, gates: usize) -> usize {
 
 /// Those of the columns that the care set speaks of.
 fn care_columns_of(alloc: Global, care: &Care, columns: &[u32]) -> Result<Vec<u32>, AllocError> {
-    let (assume, invariant) = (care.assume_columns(), care.invariant_columns());
-    columns
-        .iter()
-        .copied()
-        .filter(|column| assume.contains(column) || invariant.contains(column))
-        .collect(alloc)
+    let mut care_columns = Vec::new(alloc);
+    for column in columns {
+        if care.assume_columns().contains(column) || care.invariant_columns().contains(column) {
+            care_columns.push(*column)?;
+        }
+    }
+    Ok(care_columns)
 }
 
 /// The case of a leaf, where there are so many.

@@ -1,6 +1,6 @@
 //! Cases by few values: those are left out of a cube that its others imply on care.
 
-use crate::asking::{is_ruled_out, join, opposite, with};
+use crate::asking::{is_ruled_out, join, opposite, others_than, with};
 use case_split::{Case, ColumnValue};
 use clause_pairs::CareQuestions;
 use std::alloc::{AllocError, Global};
@@ -60,19 +60,6 @@ fn shortest(
     } else {
         Ok(short)
     }
-}
-
-/// Those of the values that aren't in the cube.
-fn others_than(
-    alloc: Global,
-    values: &[ColumnValue],
-    cube: &[ColumnValue],
-) -> Result<Vec<ColumnValue>, AllocError> {
-    values
-        .iter()
-        .copied()
-        .filter(|value| !cube.contains(value))
-        .collect(alloc)
 }
 
 /// The case of a cube and of what the care set forces there, by few values.

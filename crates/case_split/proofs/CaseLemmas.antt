@@ -153,6 +153,16 @@ case_more net marks case a b m table h (inl is) = inl (record {
 })
 case_more net marks case a b m table h (inr is) = inr is
 
+pub tables_none : (net : Parts) (marks : List Bool) (cases : List Case) (gates : List Gate) → AreNew net gates → AreTables net marks cases 0 gates gates []
+tables_none net marks cases gates are = record {
+  width = refl;
+  each = λ i c d l. absurd (omega arith);
+  wide = All-nil (λ table. length table ≡ count net);
+  within = All-nil (All (IsWithin (count net + length gates)));
+  more = more_weaker gates gates 0 (0 * length (copied_gates net marks)) (omega arith) (more_none gates);
+  are = are;
+}
+
 pub tables_next : (net : Parts) (marks : List Bool) (cases : List Case) (n : ℕ) (case : Case) (old mid new : List Gate) (tables : List (List Operand)) (table : List Operand) → AreTables net marks cases n old mid tables → n < length cases → case ≡ get_or cases n case → IsEntry net marks case mid new table → AreTables net marks cases (n + 1) old new (tables ++ table ∷ [])
 tables_next net marks cases n case old mid new tables table h inside is entry =
     let width = h.width in

@@ -4,7 +4,7 @@ use Rattle.std.specs.List.{range_with_len}
 use Rattle.std.specs.List.Sorted.{IsPermutation}
 use Rattle.std.proofs.lemmas.Bool.{cases_eq, cases_lt, eq-eqb, ne_eqb}
 use Rattle.std.proofs.lemmas.List.{get_or_append_left, get_or_default, get_or-map, get_or_past, length-append, length-map, map-append, take_more}
-use Rattle.std.proofs.lemmas.List.Elements.{All-append, All-cons, All-contains, All-head, All-map, All-nil, All-push, All-tail, All-weaker, Contains-get_or}
+use Rattle.std.proofs.lemmas.List.Elements.{All-append, All-cons, All-contains, All-head, All-map, All-nil, All-push, All-tail, All-weaker, Contains-append_left, Contains-get_or, Contains-push}
 use Rattle.std.proofs.lemmas.List.FromFn.{get_or-range_with_len, length-range_with_len}
 use Rattle.std.proofs.lemmas.List.Sorted.{All-permutation, Contains-permutation, length_permutation}
 use Rattle.cyc_base.specs.declared.sig.Sig.{Sig}
@@ -46,6 +46,14 @@ firsts_next leaves n first firsts h is = record {
 
 -- ---- pins that are added
 
+pub adds_new : (pin : Pin) (old : List Pin) → AddsPins (pin ∷ []) old (old ++ pin ∷ [])
+adds_new pin old = record {
+  keeps = λ p k. Contains-append_left old (pin ∷ []) p k;
+  each = All-cons (Contains (old ++ pin ∷ [])) pin [] (Contains-push old pin) (All-nil (Contains (old ++ pin ∷ [])));
+  within = λ bound h all. All-append (IsPinWithin bound) old (pin ∷ []) h all;
+  few = (let e = length-append old (pin ∷ []) in omega arith);
+}
+
 pub adds_both : (pin : Pin) (more old mid new : List Pin) → AddsPins (pin ∷ []) old mid → AddsPins more mid new → AddsPins (pin ∷ more) old new
 adds_both pin more old mid new first second = record {
   keeps = λ p k. second.keeps p (first.keeps p k);
@@ -82,6 +90,13 @@ columns_next cube i d old mid new h l is =
 module _ (cases : List Case) (firsts : List ℕ) where
   abbrev HasPins : List Pin → ℕ → Type 0
   HasPins pins place = (d : Case) → All (Contains pins) (pins_for (get_or cases place d) (get_or firsts place 0))
+
+  pub at_none : ArePinsAt cases firsts [] []
+  at_none = record {
+    each = All-nil (λ place. (d : Case) → All (Contains []) (pins_for (get_or cases place d) (get_or firsts place 0)));
+    within = λ bound h. All-nil (IsPinWithin bound);
+    few = λ most h. omega arith;
+  }
 
   pub at_next : (order : List ℕ) (k place : ℕ) (case : Case) (old new : List Pin) → ArePinsAt cases firsts (take k order) old → k < length order → get_or order k 0 ≡ place → place < length cases → case ≡ get_or cases place case → AddsPins (pins_for case (get_or firsts place 0)) old new →
       ArePinsAt cases firsts (take (k + 1) order) new

@@ -180,7 +180,7 @@ fn left_of(
     }
     let rows = left_rows(alloc, live, &left)?;
     let rest = cover_by(wires.len(), plane, rows);
-    Ok(folded(rest, wires))
+    Ok(fold(rest, wires))
 }
 
 /// What is left of a cover where these operands are on its pins: rows that a constant contradicts go, and so do pins of
@@ -210,7 +210,7 @@ fn is_same(cover: &Cover) -> bool
 }
 
 /// A cover of wires, or the one wire that it is the same as.
-fn folded(rest: Cover, wires: Vec<Sig>) -> Cofactor
+fn fold(rest: Cover, wires: Vec<Sig>) -> Cofactor
     requires { length wires.items ≡ rest.pins }
     ensures { (cover : Rows) (operands : List Operand) → IsLeft cover operands rest wires.items → IsCofactor cover operands result }
 {

@@ -91,21 +91,35 @@ fn longest_before(graph: &Graph, homes: &[u32], sizes: &[u64], before: &[u64], n
     longest
 }
 
-/// The nodes of the longest path.
-fn depth_of(alloc: Global, graph: &Graph, components: &Components) -> Result<u64, AllocError> {
-    let homes = components.home.items();
-    let sizes = sizes_of(alloc, components)?;
+/// The nodes of the longest path, by the nodes in order.
+fn longest_path(
+    alloc: Global,
+    graph: &Graph,
+    homes: &[u32],
+    sizes: &[u64],
+    nodes: &[u32],
+) -> Result<u64, AllocError>
+    requires { All (λ node. node < length graph.now) nodes.now }
+{
     let mut before = vec![in alloc; 0_u64; sizes.len()]?;
     let mut depth = 0;
-    for node in &nodes_in_order(alloc, graph, homes)? {
-        let longest = longest_before(graph, homes, &sizes, &before, *node);
+    for node in nodes {
+        let longest = longest_before(graph, homes, sizes, &before, *node);
         let home = home_at(homes, *node);
         if (home as usize) < before.len() {
             before[home as usize] = longest;
         }
-        depth = depth.max(longest.saturating_add(number_at(&sizes, home)));
+        depth = depth.max(longest.saturating_add(number_at(sizes, home)));
     }
     Ok(depth)
+}
+
+/// The nodes of the longest path.
+fn depth_of(alloc: Global, graph: &Graph, components: &Components) -> Result<u64, AllocError> {
+    let homes = components.home.items();
+    let sizes = sizes_of(alloc, components)?;
+    let nodes = nodes_in_order(alloc, graph, homes)?;
+    longest_path(alloc, graph, homes, &sizes, &nodes)
 }
 
 /// The nodes of a graph that lie on its cycles, the edges between them, and the longest path.

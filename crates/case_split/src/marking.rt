@@ -35,25 +35,33 @@ fn reads_marked(net: &Netlist, marks: &[bool], gate: u32) -> bool
     false
 }
 
-/// Marks those of these gates that are in a loop or read a marked one.
-fn mark_readers(looped: &LoopedNetlist<'_>, gates: &[u32], marks: &mut [bool])
+/// Marks those of these gates that lie in a loop, or upstream of one and read a marked gate.
+fn mark_between(looped: &LoopedNetlist<'_>, upstream: &[bool], gates: &[u32], marks: &mut [bool])
     requires gates { All (λ n. n < length looped.now.net.gates) gates.now }
+    requires upstream { length upstream.now ≡ length looped.now.net.gates }
     requires width { length marks.old ≡ length looped.now.net.gates }
 {
     for gate in gates {
-        if looped.are_in_one_loop(*gate, *gate) || reads_marked(looped.net(), marks, *gate) {
+        if upstream[*gate as usize]
+            && (looped.are_in_one_loop(*gate, *gate) || reads_marked(looped.net(), marks, *gate))
+        {
             marks[*gate as usize] = true;
         }
     }
 }
 
-/// Marks of the gates of loops and of all that lies downstream of them.
-fn downstream_marks(alloc: Global, looped: &LoopedNetlist<'_>) -> Result<Vec<bool>, AllocError>
+/// Marks of the gates of loops, and of those downstream of a loop that lie upstream of one.
+fn marks_between(
+    alloc: Global,
+    looped: &LoopedNetlist<'_>,
+    upstream: &[bool],
+) -> Result<Vec<bool>, AllocError>
+    requires { length upstream.now ≡ length looped.now.net.gates }
     ensures { IfOk result (λ marks. length marks.items ≡ length looped.now.net.gates) }
 {
     let mut marks = vec![in alloc; false; looped.net().gates() as usize]?;
     for place in 0..looped.blocks().list.items().len() {
-        mark_readers(looped, gates_at(looped, place), &mut marks);
+        mark_between(looped, upstream, gates_at(looped, place), &mut marks);
     }
     Ok(marks)
 }
@@ -68,14 +76,5 @@ pub fn copied_marks(alloc: Global, looped: &LoopedNetlist<'_>) -> Result<Vec<boo
 {
     let gates = looped_gates(alloc, looped)?;
     let upstream = upstream_of(alloc, looped, &gates)?;
-    let mut marks = downstream_marks(alloc, looped)?;
-    leave_upstream(&upstream, &mut marks);
-    Ok(marks)
-}
-
-/// Leaves those marks that are marked here too.
-fn leave_upstream(upstream: &[bool], marks: &mut [bool]) {
-    for (mark, up) in marks.iter_mut().zip(upstream) {
-        *mark = *mark && *up;
-    }
+    marks_between(alloc, looped, &upstream)
 }

@@ -24,10 +24,14 @@ fn places_of(alloc: Global, net: &Netlist, gates: &[u32]) -> Result<Vec<u32>, Al
     Ok(places)
 }
 
-/// The place of the gate that drives a wire, if it has one.
-fn place_of(net: &Netlist, places: &[u32], wire: Sig) -> Option<u32> {
-    let gate = wire.0.checked_sub(net.columns())?;
+/// The place of a gate among those that have one.
+fn place_of(places: &[u32], gate: u32) -> Option<u32> {
     places.get(gate as usize)?.checked_sub(1)
+}
+
+/// The place of the gate that drives a wire, if it has one.
+fn driver_place(net: &Netlist, places: &[u32], wire: Sig) -> Option<u32> {
+    place_of(places, wire.0.checked_sub(net.columns())?)
 }
 
 /// The wires that a gate reads where these operands stand for signals.
@@ -57,7 +61,7 @@ fn places_at(
 ) -> Result<Vec<u32>, AllocError> {
     let mut reads = Vec::new(alloc);
     for wire in wires {
-        if let Some(place) = place_of(net, places, *wire) {
+        if let Some(place) = driver_place(net, places, *wire) {
             reads.push(place)?;
         }
     }
@@ -79,6 +83,27 @@ fn reads_of(
     places_at(alloc, net, places, &wires)
 }
 
+/// The graph of these gates, each with an edge to those that it reads where these operands stand for signals.
+fn graph_by(
+    alloc: Global,
+    net: &Netlist,
+    table: &[Operand],
+    places: &[u32],
+    gates: &[u32],
+) -> Result<Graph, AllocError>
+    requires gates { All (λ n. n < length net.now.gates) gates.now }
+    requires few { length gates.now < 4294967295 }
+    requires table { length table.now ≡ count net.now }
+    ensures { IfOk result (λ graph. length graph ≡ length gates.now) }
+{
+    let mut graph = Graph::new(alloc);
+    for gate in gates {
+        graph.add_node(&reads_of(alloc, net, table, places, *gate)?)?;
+    }
+    Ok(graph)
+}
+
+/// The graph of these gates. Its nodes are their places.
 pub(crate) fn graph_of(
     alloc: Global,
     net: &Netlist,
@@ -91,53 +116,41 @@ pub(crate) fn graph_of(
     ensures { IfOk result (λ graph. length graph ≡ length gates.now) }
 {
     let places = places_of(alloc, net, gates)?;
-    let mut graph = Graph::new(alloc);
-    for gate in gates {
-        graph.add_node(&reads_of(alloc, net, table, &places, *gate)?)?;
-    }
-    Ok(graph)
+    graph_by(alloc, net, table, &places, gates)
 }
 
-fn components_of(
+/// The components of the graph of these gates.
+fn components_by(
     alloc: Global,
     net: &Netlist,
     table: &[Operand],
+    places: &[u32],
     gates: &[u32],
 ) -> Result<Components, AllocError>
     requires gates { All (λ n. n < length net.now.gates) gates.now }
     requires few { length gates.now < 4294967295 }
     requires table { length table.now ≡ count net.now }
 {
-    let graph = graph_of(alloc, net, table, gates)?;
+    let graph = graph_by(alloc, net, table, places, gates)?;
     Components::of(alloc, &graph)
 }
 
-/// For each of these gates the number of its component.
-fn ranks_of(
+/// The number of a gate's component.
+fn home_of(places: &[u32], homes: &[u32], gate: u32) -> Option<u32> {
+    homes.get(place_of(places, gate)? as usize).copied()
+}
+
+/// These gates by their components, those of one component in their order.
+fn sorted_by_home(
     alloc: Global,
-    net: &Netlist,
+    places: &[u32],
+    homes: &[u32],
     gates: &[u32],
-    components: &Components,
 ) -> Result<Vec<u32>, AllocError>
-    requires gates { All (λ n. n < length net.now.gates) gates.now }
-{
-    let mut ranks = vec![in alloc; 0; net.gates() as usize]?;
-    for (home, gate) in components.home.items().iter().zip(gates) {
-        ranks[*gate as usize] = *home;
-    }
-    Ok(ranks)
-}
-
-fn rank_of(ranks: &[u32], gate: u32) -> u32 {
-    ranks.get(gate as usize).copied().unwrap_or(0)
-}
-
-/// These gates by their ranks, those of one rank in their order.
-fn ranked(alloc: Global, gates: &[u32], ranks: &[u32]) -> Result<Vec<u32>, AllocError>
     ensures { IfOk result (λ order. IsPermutation gates.now order.items) }
 {
     let mut order = gates.to_vec(alloc)?;
-    order.sort_by_key(|gate| rank_of(ranks, *gate))?;
+    order.sort_by_key(|gate| home_of(places, homes, *gate))?;
     Ok(order)
 }
 
@@ -154,7 +167,7 @@ pub(crate) fn in_order(
     requires table { length table.now ≡ count net.now }
     ensures { IfOk result (λ order. IsPermutation gates.now order.items) }
 {
-    let components = components_of(alloc, net, table, gates)?;
-    let ranks = ranks_of(alloc, net, gates, &components)?;
-    ranked(alloc, gates, &ranks)
+    let places = places_of(alloc, net, gates)?;
+    let components = components_by(alloc, net, table, &places, gates)?;
+    sorted_by_home(alloc, &places, components.home.items(), gates)
 }

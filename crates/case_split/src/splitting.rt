@@ -72,8 +72,8 @@ fn check_size(net: &Netlist, copied: &[bool], cases: usize) -> Result<(), SplitF
     Ok(())
 }
 
-/// The heads of all gates, and the copies behind them.
-fn split_gates(
+/// The heads of all gates, and the copies behind them, where these are the gates that are copied.
+fn split_marked(
     alloc: Global,
     base: &Base<'_>,
     gates: &[u32],
@@ -88,6 +88,16 @@ fn split_gates(
     let mut all = split_heads(alloc, base, &mut added, gates, cases)?;
     all.append(&mut added.gates)?;
     Ok(all)
+}
+
+/// The heads of all gates, and the copies behind them.
+fn split_gates(alloc: Global, base: &Base<'_>, cases: &[Case]) -> Result<Vec<Gate>, AllocError>
+    requires cases { All (IsUsable (first_gate base.now.net.now)) cases.now }
+    requires fits { count base.now.net.now + 2 * (length cases.now * length (copied_gates base.now.net.now base.now.copied.now)) ≤ 4294967295 }
+    ensures { IfOk result (λ all. IsSplit base.now.net.now base.now.copied.now cases.now all.items) }
+{
+    let gates = marked_gates(alloc, base.net, base.copied)?;
+    split_marked(alloc, base, &gates, cases)
 }
 
 /// Adds all copies and selections, and answers the heads.
@@ -134,15 +144,13 @@ fn split_small(
     ensures { IfOk result (IsSplitNetlist net.now copied.now cases.now) }
 {
     net.laws();
-    let gates = marked_gates(alloc, net, copied)?;
     let base = Base {
         net,
         copied,
         mark: mark(alloc, net)?,
     };
-    let all = split_gates(alloc, &base, &gates, cases)?;
-    let other = netlist_by(alloc, net, all)?;
-    Ok(other)
+    let all = split_gates(alloc, &base, cases)?;
+    netlist_by(alloc, net, all)
 }
 
 /// The netlist split by cases.

@@ -5,8 +5,11 @@ use Rattle.netlist.specs.Netlists.{count}
 use Rattle.case_split.specs.Added.{IsMore}
 use Rattle.case_split.specs.CaseTables.{AreTables}
 use Rattle.case_split.proofs.AddedLemmas.{room_left}
-use Rattle.case_split.proofs.CaseLemmas.{tables_next}
+use Rattle.case_split.proofs.CaseLemmas.{tables_next, tables_none}
 use Rattle.case_split.proofs.case_tables.tables_by.Goals as goal
+
+pub loop-case-init : goal.loop-case-init
+loop-case-init c = rw c.new-tables.ensures.items (tables_none c.args.base.now.net.now c.args.base.now.copied.now c.args.cases.now c.args.added.now.gates.items c.requires.new)
 
 pub loop-case-preserved : goal.loop-case-preserved
 loop-case-preserved c =

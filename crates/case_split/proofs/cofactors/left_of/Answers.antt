@@ -17,7 +17,7 @@ cover_by-rest-requires c =
 
 pub returns : goal.returns
 returns c =
-    c.folded.ensures c.args.cover.now c.args.operands.now
+    c.fold.ensures c.args.cover.now c.args.operands.now
     (left_answer c.args.cover.now c.args.operands.now c.args.live.now c.in_ok-left.left.items c.in_ok-wires.wires.items
     c.plane-plane.ensures.proper c.requires.counted c.requires.live c.in_ok-left.ensures (c.in_ok-wires.ensures ∙ ap wires_of c.deref.ensures.value)
     c.plane-plane.result c.in_ok-rows.rows.items c.len.result c.cover_by-rest.result

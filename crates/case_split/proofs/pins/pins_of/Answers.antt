@@ -3,8 +3,11 @@ use Rattle.std.proofs.lemmas.List.{take_all}
 use Rattle.std.specs.List.{range_with_len}
 use Rattle.std.specs.List.Sorted.{IsPermutation}
 use Rattle.case_split.specs.Pins.{pins_for, AddsPins, ArePinsAt}
-use Rattle.case_split.proofs.PinLemmas.{at_next, at_all}
+use Rattle.case_split.proofs.PinLemmas.{at_none, at_next, at_all}
 use Rattle.case_split.proofs.pins.pins_of.Goals as goal
+
+pub loop-place-init : goal.loop-place-init
+loop-place-init c = rw c.new-pins.ensures.items (at_none c.args.cases.now c.args.firsts.now)
 
 pub loop-place-preserved : goal.loop-place-preserved
 loop-place-preserved c =

@@ -1,4 +1,5 @@
 use Rattle.std.proofs.Common.{◌≡◌, ◌∙◌, ◌+◌, ◌<◌, All, IfOk, ap, length, map, subst, sym, arith, List}
+use Rattle.std.proofs.lemmas.List.{length-map}
 use Rattle.cyc_base.specs.declared.sig.Sig.{Sig}
 use Rattle.cyc_base.specs.Names.{IsBlifName}
 use Rattle.netlist.specs.declared.parts.Gate.{Gate}
@@ -34,3 +35,10 @@ returns c =
     let new = c.add.new.self.gates.items in
     subst (λ (g : Gate). IfOk c.add.result (IsAdded net g.cover (map (operand_at c.args.table.now) g.pins) old new)) c.gate-own.ensures.at
     (subst (λ (os : List Operand). IfOk c.add.result (IsAdded net c.gate-own.result.now.cover os old new)) (c.deref.ensures.value ∙ c.in_ok-operands.ensures ∙ ap (map (operand_at c.args.table.now)) c.items.ensures) c.add.ensures)
+
+pub add-requires-clause-counted : goal.add-requires-clause-counted
+add-requires-clause-counted c =
+    ap length (c.deref.ensures.value ∙ c.in_ok-operands.ensures)
+    ∙ length-map c.items.result.now (operand_at c.args.table.now)
+    ∙ ap length c.items.ensures
+    ∙ subst (λ (g : Gate). length g.pins ≡ g.cover.pins) (sym c.gate-own.ensures.at) (c.gate-own.ensures.valid.pin_counts c.args.gate no_gate c.requires.gate)

@@ -3,7 +3,7 @@ use Rattle.cyc_base.specs.declared.sig.Sig.{Sig}
 use Rattle.case_split.specs.declared.operands.Operand.TheVariants.{Wire}
 use Rattle.case_split.specs.Cofactors.{IsFolded}
 use Rattle.case_split.proofs.CofactorLemmas.{same_folded}
-use Rattle.case_split.proofs.cofactors.folded.Goals as goal
+use Rattle.case_split.proofs.cofactors.fold.Goals as goal
 
 pub returns-then-is_same : goal.returns-then-is_same
 returns-then-is_same c cover os is =
