@@ -10,7 +10,7 @@ use thiserror::Error;
 
 /// Why a text holds no vectors or no schedule. A bad byte anywhere comes before all others; then the first line with
 /// a fault decides, and on one line the first in the order here. Lines are counted from 1.
-#[derive(Debug, Drop, Error)]
+#[derive(Drop, Error)]
 pub enum SchedFault {
     /// A byte outside comments is neither blank, tab nor a printed character, or the line isn't one that may stand
     /// there; or a line is missing where the text ends.
@@ -24,6 +24,12 @@ pub enum SchedFault {
     /// The line begins a tick over the number of vectors, or there are fewer ticks where the text ends.
     TickCount { line: u64 },
     Memory,
+}
+
+impl fmt::Debug for SchedFault {
+    fn fmt<W: fmt::Write>(&self, f: &mut fmt::Formatter<W>) -> fmt::Result {
+        fmt::Display::fmt(self, f)
+    }
 }
 
 impl fmt::Display for SchedFault {

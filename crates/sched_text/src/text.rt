@@ -1,7 +1,7 @@
 // Schedule files.
 ghost use Rattle.std.specs.Prelude.{◌≡◌, ◌≢◌, ◌+◌, ◌<◌, ◌≤◌, ◌^◌, MatchResult, IfOk, IfErr, OnOk, Ok, Err, None, length, option_map};
 ghost use Rattle.sched_text.specs.declared.fault.SchedFault.TheVariants.{BadLine, Memory};
-ghost use Rattle.sched_text.specs.Answers.{Answers, IsFault};
+ghost use Rattle.sched_text.specs.Answers.{IsFault};
 ghost use Rattle.sched_text.specs.Fitting.{FitsNetlist};
 ghost use Rattle.sched_text.specs.Pieces.{bad_line};
 ghost use Rattle.sched_text.specs.ReadingOn.{ReadsPiece, FailsPiece};
@@ -83,19 +83,6 @@ fn read_lines(
     Ok(())
 }
 
-fn read_text(
-    alloc: Global,
-    net: &Netlist,
-    ticks: usize,
-    bytes: &[u8],
-) -> Result<Schedule, SchedFault>
-    ensures { Answers result (schedule_read bytes.now net.now ticks) }
-{
-    let mut draft = Draft::new(alloc);
-    read_lines(alloc, net, ticks, bytes, &mut draft)?;
-    Ok(draft.end()?)
-}
-
 /// The schedule of a text in format 1 or 2, for a netlist and so many ticks.
 ///
 /// Each fault but `Memory` comes exactly where the text has it, and it is the text's first: a bad byte anywhere comes
@@ -115,5 +102,7 @@ pub fn read_schedule(
         (λ fault. fault ≢ Memory → schedule_read bytes.now net.now ticks ≡ Err fault) }
     ensures fits { IfOk result (λ found. FitsNetlist net.now ticks found) }
 {
-    Ok(read_text(alloc, net, ticks, bytes)?)
+    let mut draft = Draft::new(alloc);
+    read_lines(alloc, net, ticks, bytes, &mut draft)?;
+    Ok(draft.end()?)
 }

@@ -1,7 +1,9 @@
-use Rattle.std.proofs.Common.{◌<◌, ◌≤◌, [], length, subst, arith}
+use Rattle.std.proofs.Common.{◌<◌, ◌≤◌, [], length, List, subst, arith}
+use Rattle.std.specs.Prelude.{All}
 use Rattle.sched_text.proofs.Common.{PlannedEvent, All-more, event_text, HasSmallAges, appended_none, appended_copied, appended_in_copied, appended_items}
 use Rattle.std.proofs.lemmas.List.{get_or_default}
 use Rattle.delay_core.specs.EventLists.{planned_at}
+use Rattle.std.proofs.lemmas.List.{take_all}
 use Rattle.sched_text.proofs.put.put_events.Goals as goal
 
 pub put_event-requires-clause-gate : goal.put_event-requires-clause-gate
@@ -26,3 +28,8 @@ returns-in_err-put_event-clause-text g c =
 
 pub returns-clause-text : goal.returns-clause-text
 returns-clause-text g c = appended_items (event_text c.args.net.now) c.args.events.now c.loop-i.i _ _ (let far : length c.args.events.now ≤ c.loop-i.i = omega (arith, c.loop-i-test.false, c.len-i-end.ensures) in far) c.loop-i.invariant.text
+
+pub returns-clause-small : goal.returns-clause-small
+returns-clause-small g c =
+    let far : length c.args.events.now ≤ c.loop-i.i = omega (arith, c.loop-i-test.false, c.len-i-end.ensures) in
+    subst (λ (events : List PlannedEvent). All HasSmallAges events) (take_all c.loop-i.i c.args.events.now far) c.loop-i.invariant.small

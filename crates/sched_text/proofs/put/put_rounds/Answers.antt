@@ -1,5 +1,7 @@
-use Rattle.std.proofs.Common.{arith, subst}
+use Rattle.std.proofs.Common.{arith, subst, List}
+use Rattle.std.specs.Prelude.{All}
 use Rattle.sched_text.proofs.Common.{RoundPlan, All-more, round_text, AreSmall, appended_none, appended_item, appended_in_item, appended_items}
+use Rattle.std.proofs.lemmas.List.{take_all}
 use Rattle.sched_text.proofs.put.put_rounds.Goals as goal
 
 pub loop-round-init : goal.loop-round-init
@@ -16,3 +18,6 @@ returns-in_err-put_round-clause-text g c = appended_in_item (round_text c.args.n
 
 pub returns-clause-text : goal.returns-clause-text
 returns-clause-text g c = appended_items (round_text c.args.net.now) c.args.rounds.now c.loop-round.round-index _ _ (omega arith) c.loop-round.invariant.text
+
+pub returns-clause-small : goal.returns-clause-small
+returns-clause-small g c = subst (λ (rounds : List RoundPlan). All AreSmall rounds) (take_all c.loop-round.round-index c.args.rounds.now (omega arith)) c.loop-round.invariant.small

@@ -1,6 +1,7 @@
 use Rattle.std.proofs.Common.{arith, subst, List}
 use Rattle.sched_text.proofs.Common.{RoundPlan, All-more, tick_text, AreSmall, appended_none, appended_item, appended_in_item, appended_items}
 use Rattle.std.specs.Prelude.{All}
+use Rattle.std.proofs.lemmas.List.{take_all}
 use Rattle.sched_text.proofs.put.put_ticks.Goals as goal
 
 pub loop-tick-init : goal.loop-tick-init
@@ -17,3 +18,6 @@ returns-in_err-put_tick-clause-text g c = appended_in_item (tick_text c.args.net
 
 pub returns-clause-text : goal.returns-clause-text
 returns-clause-text g c = appended_items (tick_text c.args.net.now) c.args.ticks.now c.loop-tick.tick-index _ _ (omega arith) c.loop-tick.invariant.text
+
+pub returns-clause-small : goal.returns-clause-small
+returns-clause-small g c = subst (λ (ticks : List (List RoundPlan)). All (All AreSmall) ticks) (take_all c.loop-tick.tick-index c.args.ticks.now (omega arith)) c.loop-tick.invariant.small

@@ -1,7 +1,9 @@
-use Rattle.std.proofs.Common.{◌+◌}
-use Rattle.sched_text.proofs.Common.{option_map, BadLine, bad_line}
+use Rattle.std.proofs.Common.{◌+◌, ◌≤◌, length, ap, arith}
+use Rattle.sched_text.proofs.Common.{option_map, BadLine, bad_line, is_lf}
 use Rattle.sched_text.specs.Answers.{IsFault}
 use Rattle.sched_text.proofs.PieceLemmas.{is_err, fault_here, next_here}
+use Rattle.std.proofs.lemmas.List.{length-take-le}
+use Rattle.std.proofs.lemmas.List.Sums.{count_by-le-length}
 use Rattle.sched_text.proofs.pieces.Pieces.next_piece.Goals as goal
 
 pub returns-in_err-piece-clause-fault : goal.returns-in_err-piece-clause-fault
@@ -18,3 +20,10 @@ returns-clause-next c =
     next_here c.args.self.now.before c.args.self.now.left.now c.piece_len.result c.piece_len.ensures.some c.piece_len.ensures.inside c.piece_len.ensures.cut
     c.split_at.result.0.now c.split_at.result.1.now c.split_at.ensures.front c.split_at.ensures.back
     c.count_breaks.result c.in_ok-piece.piece c.count_breaks.ensures c.in_ok-piece.ensures.no_fault c.in_ok-piece.ensures.is
+
+pub overflow_add-self : goal.overflow_add-self
+overflow_add-self c =
+    let front = c.split_at.result.0.now in
+    let left = c.args.self.now.left.now in
+    let shorter : length front ≤ length left = omega (arith, ap length c.split_at.ensures.front, length-take-le c.piece_len.result left c.piece_len.ensures.inside, c.piece_len.ensures.inside) in
+    omega (arith, shorter, count_by-le-length is_lf front, c.count_breaks.ensures, c.requires)
