@@ -22,3 +22,6 @@ returns-in-Some-clause-found c =
 
 pub returns-clause-none : goal.returns-clause-none
 returns-clause-none c = grind (arith, unknown_reaches)
+
+pub open_graph-requires : goal.open_graph-requires
+open_graph-requires c = grind (arith, fix_size c.args.net.now c.args.vector.now c.requires.width)

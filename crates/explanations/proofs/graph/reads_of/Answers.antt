@@ -1,4 +1,4 @@
-use Rattle.std.proofs.Common.{◌≡◌, ◌+◌, length, ap, subst, ℕ}
+use Rattle.std.proofs.Common.{arith, ◌≡◌, ◌+◌, length, ap, subst, ℕ}
 use Rattle.std.proofs.lemmas.Result.{IfOk-weaker}
 use Rattle.cyc_base.specs.declared.sig.Sig.{Sig}
 use Rattle.netlist.specs.Netlists.{gate_at, gate_sig}
@@ -20,3 +20,9 @@ returns c =
     (λ reads. HasOpenReads (c.columns-first.result) known c.gate-gate.result.now (length c.gate-gate.result.now.pins) reads.items)
     (λ reads. ReadsOpen net known c.args.gate reads.items)
     (λ reads h. reads_these net known c.args.gate reads.items c.columns-first.ensures.valid c.requires.gate is (rw (first, same) at h)) c.open_reads.ensures
+
+pub open_reads-requires-clause-within : goal.open_reads-requires-clause-within
+open_reads-requires-clause-within c = grind arith
+
+pub open_reads-requires-clause-size : goal.open_reads-requires-clause-size
+open_reads-requires-clause-size c = grind arith

@@ -14,3 +14,6 @@ unknown_gates-requires c =
     let net = c.args.net.now in
     let v = c.args.vector.now in
     rw (c.deref-2.ensures.value, c.in_ok-known.ensures.known, c.deref.ensures.value, c.in_ok-given.ensures) (length-fix net (bits v) (width_of_bits net v c.requires.width))
+
+pub values_determined_by-requires-clause-width : goal.values_determined_by-requires-clause-width
+values_determined_by-requires-clause-width c = rw (c.deref.ensures.value, c.in_ok-given.ensures) (width_of_bits c.args.net.now c.args.vector.now c.requires.width)

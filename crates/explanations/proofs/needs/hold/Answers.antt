@@ -27,3 +27,9 @@ loop-run-preserved c = record {
   within = c.next-run.ensures.within;
   some = c.next-run.ensures.some;
 }
+
+pub leave_out-requires-clause-gates : goal.leave_out-requires-clause-gates
+leave_out-requires-clause-gates c = grind arith
+
+pub returns : goal.returns
+returns c = grind arith

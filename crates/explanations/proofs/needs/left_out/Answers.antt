@@ -23,3 +23,10 @@ returns c =
     let test = c.loop-column-test.false in
     let there : c.loop-column.column ≡ c.args.last = omega arith in
     subst (λ (n : ℕ). IsWithoutRun c.args.kept.now c.args.first n c.args.given.now c.loop-column.fewer.items) there c.loop-column.invariant
+
+pub bounds-kept-column : goal.bounds-kept-column
+bounds-kept-column c =
+    let size = EachBelow-length c.args.kept.now c.args.given.now c.requires.kept in
+    let within = c.requires.within in
+    let inside = c.loop-column-test.true in
+    omega arith

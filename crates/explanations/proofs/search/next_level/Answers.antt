@@ -1,3 +1,4 @@
+use Rattle.std.proofs.Common.{arith}
 use Rattle.std.proofs.lemmas.List.{get_or_default}
 use Rattle.explanations.proofs.SearchLemmas.{level_more}
 use Rattle.explanations.proofs.search.next_level.Goals as goal
@@ -8,3 +9,6 @@ loop-node-preserved c =
     c.loop-node.next.items c.visit_all.new.found.items c.loop-node-test.true
     (get_or_default c.args.level.now c.loop-node.node-index _ 0 c.loop-node-test.true)
     c.successors.ensures c.loop-node.invariant c.in_ok-visit_all.ensures
+
+pub returns : goal.returns
+returns c = grind arith

@@ -40,3 +40,6 @@ loop-depth-preserved c =
 
 pub returns : goal.returns
 returns c = grind arith
+
+pub overflow_add-depth-in-loop-depth : goal.overflow_add-depth-in-loop-depth
+overflow_add-depth-in-loop-depth c = grind arith
