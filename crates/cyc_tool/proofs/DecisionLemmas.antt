@@ -20,8 +20,7 @@ use Rattle.refusals.specs.declared.refusal.Refusal.TheVariants.{Initial, EmptyCa
 use Rattle.refusals.proofs.LawLemmas.{accepted_without_refusal, refusal_is_shown}
 use Rattle.report.specs.Verdicts.{accepted_text, ring_line}
 use Rattle.rewriting.specs.Graphs.{graph_of, most_ands, most_columns, IsGraphIn, IsGraphing}
-use Rattle.rewriting.specs.Rewriting.{rewritten, rewritten_size, IsCaseFault, IsCountedOnCare, IsLoopFreeForm, IsRewriting}
-use Rattle.unroll.specs.Counted.{Counted}
+use Rattle.rewriting.specs.Rewriting.{rewritten, rewritten_size, IsCaseFault, IsLoopFreeForm, IsRewriting}
 use Rattle.unroll.specs.Laws.{KeepsInterface}
 use Rattle.unroll.specs.Unrolled.{IsUnrollFault}
 use Rattle.unroll.specs.declared.fault.UnrollFault.{UnrollFault}
@@ -36,7 +35,7 @@ use Rattle.cyc_tool.specs.Calls.{IsAccepted, IsMadeFor, Verdict as ByVerdict}
 use Rattle.cyc_tool.specs.Endings.{accepted_told, aiger_told, loops_explained, where_outputs}
 use Rattle.plain_commands.specs.Texts.{count_of_loops, graph_text, limit_reached}
 use Rattle.plain_commands.specs.Plans.{Decision, Declines}
-use Rattle.cyc_tool.specs.Seen.{IsLimitOf, IsOutgrown, IsRefusalTold, IsToldOf, IsToldOfGraph}
+use Rattle.cyc_tool.specs.Seen.{IsLimitOf, IsOutgrown, IsToldOf, IsToldOfGraph}
 use Rattle.plain_commands.specs.Seen.{IsShown}
 use Rattle.plain_commands.specs.declared.outcome.Outcome.{Outcome as Told}
 
@@ -58,24 +57,9 @@ pub accepted_decides : (net : Parts) (care : CareSet) (limit : ℕ) (what : Obse
 accepted_decides net care limit what purpose nodes end valid accepts is =
     of_verdict net care limit what purpose nodes end None ((accepted_without_refusal net care what valid).1 accepts) is.is is.made
 
-refusal_decides : (net : Parts) (care : CareSet) (limit : ℕ) (what : Observe) (purpose : Purpose) (nodes : Arena) (end : Outcome) (refused : Refusal)
+pub refusal_decides : (net : Parts) (care : CareSet) (limit : ℕ) (what : Observe) (purpose : Purpose) (nodes : Arena) (end : Outcome) (refused : Refusal)
     → refusal net care what ≡ Some refused → IsRefusalOutcome net purpose refused end → IsDecided (decision_of net care limit what) purpose nodes end
 refusal_decides net care limit what purpose nodes end refused is ends = of_verdict net care limit what purpose nodes end (Some refused) is ends tt
-
-pub refused_decides : (net : Parts) (care : CareSet) (limit : ℕ) (what : Observe) (purpose : Purpose) (nodes : Arena) (end : Outcome) (refused : Refusal)
-    → IsNetlist net → refusal net care what ≡ Some refused → IsRefusalTold net purpose refused end
-    → IsDecided (decision_of net care limit what) purpose nodes end
-refused_decides net care limit what Judges nodes end refused valid is same = refusal_decides net care limit what Judges nodes end refused is same
-refused_decides net care limit what (Rewrites cases) nodes end refused valid is same = refusal_decides net care limit what (Rewrites cases) nodes end refused is same
-refused_decides net care limit what (WritesGraph encoding cases) nodes end refused valid is same = refusal_decides net care limit what (WritesGraph encoding cases) nodes end refused is same
-refused_decides net care limit what (Demonstrates cells) nodes end refused valid is same = refusal_decides net care limit what (Demonstrates cells) nodes end refused is same
-refused_decides net care limit what (Storms rounds) nodes end refused valid is same = refusal_decides net care limit what (Storms rounds) nodes end refused is same
-refused_decides net care limit what (Explains form) nodes end (Initial q) valid is same = refusal_decides net care limit what (Explains form) nodes end (Initial q) is same
-refused_decides net care limit what (Explains form) nodes end EmptyCare valid is same = refusal_decides net care limit what (Explains form) nodes end EmptyCare is same
-refused_decides net care limit what (Explains form) nodes end (LeavesCare v q) valid is same = refusal_decides net care limit what (Explains form) nodes end (LeavesCare v q) is same
-refused_decides net care limit what (Explains form) nodes end (Undetermined v wire) valid is same =
-    let known = (refusal_is_shown net care what (Undetermined v wire) valid is).1 (λ e. cc) in
-    refusal_decides net care limit what (Explains form) nodes end (Undetermined v wire) is (same known.unknown)
 
 pub refusal_fits : (net : Parts) (care : CareSet) (what : Observe) (refused : Refusal) → IsNetlist net → refusal net care what ≡ Some refused
     → IsRefusalOf net refused
@@ -144,47 +128,28 @@ demonstrated net care limit what cells gates end same is = record {
   made = tt;
 }
 
--- the gates of a netlist that was made by rewriting
-pub gates_counted : (counted : Counted) (made : Result Parts UnrollFault) (other : Parts) (gates : ℕ) → made ≡ Ok other → gates ≡ length other.gates
-    → IfOk made (λ other. (care : CareSet) (what : Observe) → Accepts counted.net care what → IsCountedOnCare counted care → IsRewriting counted.net care other)
-    → (care : CareSet) (what : Observe) → Accepts counted.net care what → IsCountedOnCare counted care → gates ≡ length (rewritten counted.net care).gates
-gates_counted counted made other gates is same rewriting care what accepts sweeps =
-    let P : Result Parts UnrollFault → Type 0 = λ r. IfOk r (λ other. (care : CareSet) (what : Observe) → Accepts counted.net care what
-    → IsCountedOnCare counted care → IsRewriting counted.net care other) in
-    let here : (care : CareSet) (what : Observe) → Accepts counted.net care what → IsCountedOnCare counted care → IsRewriting counted.net care other = subst P is rewriting in
-    same ∙ ap (λ (n : Parts). length n.gates) (here care what accepts sweeps).is
-
 is_within : (size : ℕ) → size ≤ MAX_REWRITTEN_ITEMS → nat_le size MAX_REWRITTEN_ITEMS ≡ true
 is_within size small = grind (arith, small)
 
 is_over : (size : ℕ) → MAX_REWRITTEN_ITEMS < size → nat_le size MAX_REWRITTEN_ITEMS ≡ false
 is_over size over = grind (arith, over)
 
-pub was_rewritten : (counted : Counted) (care : CareSet) (limit : ℕ) (what : Observe)
-    (made : Result Parts UnrollFault) (end : Told) → IsToldOf made end → Accepts counted.net care what → IsCountedOnCare counted care
-    → IfOk made (λ other. (care : CareSet) (what : Observe) → Accepts counted.net care what → IsCountedOnCare counted care → IsRewriting counted.net care other)
-    → OnOk made ((care : CareSet) → IsCountedOnCare counted care → rewritten_size counted.net care ≤ MAX_REWRITTEN_ITEMS)
-    → IfErr made (λ fault. (care : CareSet) → IsCountedOnCare counted care → IsUnrollFault (rewritten_size counted.net care) fault)
-    → IsAccepted (decision_of counted.net care limit what) (Rewrites None) (outcome_of end)
-was_rewritten counted care limit what (Ok other) end same accepts sweeps rewriting small fault =
-    let net = counted.net in
-    let is = rewriting care what accepts sweeps in
-    record {
-      is = same ∙ ap (λ (n : Parts). told (Prints (written n))) is.is
-          ∙ sym (ap (λ (t : Bool). told (if t then Prints (written (rewritten net care)) else Outgrows (rewritten_size net care)))
-          (is_within (rewritten_size net care) (small care sweeps)));
-      made = λ within. subst (IsRewriting net care) is.is is;
-    }
-was_rewritten counted care limit what (Err (TooLarge size)) end same accepts sweeps rewriting small fault =
-    let net = counted.net in
-    let is = fault care sweeps in
-    record {
-      is = same ∙ ap (λ (n : ℕ). told (Outgrows n)) is.1
-          ∙ sym (ap (λ (t : Bool). told (if t then Prints (written (rewritten net care)) else Outgrows (rewritten_size net care)))
-          (is_over (rewritten_size net care) is.0));
-      made = λ within. absurd (let over = is.0 in omega (arith, over, within));
-    }
-was_rewritten counted care limit what (Err Memory) end same accepts sweeps rewriting small fault = absurd same
+pub was_rewritten : (net : Parts) (care : CareSet) (limit : ℕ) (what : Observe) (made : Result Parts UnrollFault) (end : Told) → IsToldOf made end
+    → IfOk made (IsRewriting net care) → OnOk made (rewritten_size net care ≤ MAX_REWRITTEN_ITEMS) → IfErr made (IsUnrollFault (rewritten_size net care))
+    → IsAccepted (decision_of net care limit what) (Rewrites None) (outcome_of end)
+was_rewritten net care limit what (Ok other) end same is small fault = record {
+  is = same ∙ ap (λ (n : Parts). told (Prints (written n))) is.is
+      ∙ sym (ap (λ (t : Bool). told (if t then Prints (written (rewritten net care)) else Outgrows (rewritten_size net care)))
+      (is_within (rewritten_size net care) small));
+  made = λ within. subst (IsRewriting net care) is.is is;
+}
+was_rewritten net care limit what (Err (TooLarge size)) end same rewriting small is = record {
+  is = same ∙ ap (λ (n : ℕ). told (Outgrows n)) is.1
+      ∙ sym (ap (λ (t : Bool). told (if t then Prints (written (rewritten net care)) else Outgrows (rewritten_size net care)))
+      (is_over (rewritten_size net care) is.0));
+  made = λ within. absurd (let over = is.0 in omega (arith, over, within));
+}
+was_rewritten net care limit what (Err Memory) end same rewriting small fault = absurd same
 
 -- how many columns a netlist has that keeps the interface
 pub kept_columns : (net other : Parts) → KeepsInterface net other → columns net ≤ most_columns → columns other ≤ most_columns

@@ -2,7 +2,6 @@ pub mod Common
 pub mod AnswerLemmas
 pub mod CauseLemmas
 pub mod DecisionLemmas
-mod ProblemLemmas
 mod OptionLemmas
 pub mod RingLemmas
 pub mod RunLemmas

@@ -10,16 +10,8 @@ use Rattle.assumptions.specs.declared.assumption.Assumption.TheVariants as assum
 use Rattle.care_sets.specs.Binding.{IsCareOf}
 use Rattle.commands.specs.declared.encoding.Encoding.{Encoding}
 use Rattle.blif_write.specs.Written.{written}
-use Rattle.commands.specs.Words.{Purpose, Explains}
-use Rattle.commands.specs.declared.form.Form.{Form}
 use Rattle.refusals.specs.Refusals.{IsRefusalOf}
-use Rattle.refusals.specs.declared.refusal.Refusal.{Refusal}
-use Rattle.refusals.specs.declared.refusal.Refusal.TheVariants.{Undetermined}
-use Rattle.cyc_base.specs.declared.trit.Trit.TheVariants.{X}
-use Rattle.cyc_base.specs.Values.{bits}
-use Rattle.netlist.specs.Fixpoint.{fix, wire as wire_of}
 use Rattle.plain_commands.specs.Texts.{graph_text, told as done}
-use Rattle.cyc_tool.specs.Endings.{refused_told}
 use Rattle.unroll.specs.declared.fault.UnrollFault.{UnrollFault}
 use Rattle.unroll.specs.declared.fault.UnrollFault.TheVariants.{TooLarge, Memory as NoMemory}
 use Rattle.rewriting.specs.Graphs.{most_ands}
@@ -27,7 +19,6 @@ use Rattle.equal.specs.declared.fault.EqualFault.{EqualFault}
 use Rattle.equal.specs.declared.fault.EqualFault.TheVariants.{NodeLimit as PairLimit, Memory as NoPair}
 use Rattle.verdict.specs.declared.fault.DecideFault.{DecideFault}
 use Rattle.verdict.specs.declared.fault.DecideFault.TheVariants.{NodeLimit, Memory as NoNodes}
-use Rattle.cyc_tool.specs.Answer.{IsWireExplained}
 use Rattle.plain_commands.specs.Plans as plans
 use Rattle.plain_commands.specs.Texts as texts
 use Rattle.plain_commands.specs.declared.outcome.Outcome.{Outcome}
@@ -52,16 +43,6 @@ IsOverfull NoRoom told = ⊥
 abbrev pub IsToldOfGraph : Encoding → Parts → Result Built AigFault → Outcome → Type 0
 IsToldOfGraph encoding other (Ok graph) told = outcome_of told ≡ done (plans.Prints (graph_text encoding other graph))
 IsToldOfGraph encoding other (Err fault) told = IsOverfull fault told
-
--- what is told of a refusal to explain it: a wire that is undetermined at the vector is told with why
-abbrev pub IsRefusalExplained : Form → Parts → Refusal → texts.Outcome → Type 0
-IsRefusalExplained form net (Undetermined v wire) end = wire_of (fix net (bits v)) wire ≡ X → IsWireExplained form net v wire end
-IsRefusalExplained form net refused end = end ≡ done (refused_told net (Explains form) refused)
-
--- what is told of a refusal for a purpose
-abbrev pub IsRefusalTold : Parts → Purpose → Refusal → texts.Outcome → Type 0
-IsRefusalTold net (Explains form) refused end = IsRefusalExplained form net refused end
-IsRefusalTold net purpose refused end = end ≡ done (refused_told net purpose refused)
 
 -- what is told of a decision without a verdict: the limit that it met
 abbrev pub IsLimitOf : DecideFault → Outcome → Type 0

@@ -11,23 +11,22 @@ ghost use Rattle.netlist.specs.Netlists.{IsNetlist, columns};
 ghost use Rattle.netlist.specs.Walks.{IsLoopFree};
 ghost use Rattle.netlist.specs.declared.parts.Parts.{Parts};
 ghost use Rattle.refusals.specs.Acceptance.{Accepts};
-ghost use Rattle.refusals.specs.Refusals.{IsRefusalOf};
 ghost use Rattle.refusals.specs.declared.observe.Observe.{Observe as Observed};
 ghost use Rattle.report.specs.Verdicts.{accepted_text, ring_line};
 ghost use Rattle.rewriting.specs.Graphs.{most_columns};
 ghost use Rattle.rewriting.specs.Rewriting.{rewritten as rewritten_netlist, rewritten_size as rewritten_size_of, IsLoopFreeForm, IsRewriting};
 ghost use Rattle.diagram_decision.specs.Judgements.{AreLoose, IsJudgement};
-ghost use Rattle.verdict.specs.Verdicts.{IsVerdict};
 ghost use Rattle.plain_commands.specs.Texts.{told as done, count_of_loops};
-ghost use Rattle.cyc_tool.specs.Problems.{decision_in, decision_on};
+ghost use Rattle.cyc_tool.specs.Problems.{IsVerdictOn, decision_in};
+ghost use Rattle.cyc_tool.specs.Answer.{IsRefusalOutcome};
 ghost use Rattle.cyc_tool.specs.Calls.{IsAccepted, IsDecided};
 ghost use Rattle.cyc_tool.specs.Endings.{where_outputs};
 ghost use Rattle.plain_commands.specs.Plans.{Declines, Prints};
-ghost use Rattle.cyc_tool.specs.Seen.{IsLimitOf, IsOutgrown, IsOverfull, IsRefusalTold, IsToldOf, IsToldOfGraph};
-ghost use Rattle.plain_commands.specs.Seen.{IsShown, outcome_of};
+ghost use Rattle.cyc_tool.specs.Seen.{IsLimitOf, IsOutgrown, IsOverfull, IsToldOf, IsToldOfGraph};
+ghost use Rattle.plain_commands.specs.Seen.{outcome_of};
 
 use crate::explained::{tell_explained, tell_loops_explained};
-use crate::problem::{Accepted, Problem};
+use crate::problem::{Accepted, Problem, Refused};
 use crate::split::{tell_graphed_in, tell_rewritten_in};
 use bdd_ops::Diagrams;
 use care_sets::Care;
@@ -40,11 +39,11 @@ use plain_commands::{
     Outcome, accepted_line, number_of_loops, on_err, on_out, status, tell_aiger, tell_declined,
     tell_limit, tell_netlist, tell_refused, tell_storm, tell_too_large,
 };
-use refusals::{Observe, Refusal};
+use refusals::Observe;
 use report::put_ring;
-use rewriting::{AigFault, Built, graph, rewrite, rewritten_gates};
+use rewriting::{AigFault, Built, graph, rewritten_gates};
 use std::alloc::{AllocError, Global};
-use unroll::{CountedLoops, UnrollFault};
+use unroll::UnrollFault;
 use verdict::{DecideFault, Judgement, Verdict};
 
 // The first number of ANDs that a graph can't have.
@@ -115,14 +114,10 @@ pub(crate) fn tell_rewriting(
 }
 
 // Rewrites an accepted netlist, and tells what comes of it.
-pub(crate) fn tell_rewritten(
-    alloc: Global,
-    accepted: &Accepted<'_, '_>,
-) -> Result<Outcome, AllocError>
-    ensures { IfOk result (λ told. IsAccepted (decision_on accepted.now) (Rewrites None) (outcome_of told)) }
+pub(crate) fn tell_rewritten(alloc: Global, accepted: &Accepted<'_>) -> Result<Outcome, AllocError>
+    ensures { IfOk result (λ told. IsAccepted (decision_in accepted.now.problem) (Rewrites None) (outcome_of told)) }
 {
-    let counted = accepted.counted();
-    let rewriting = rewrite(alloc, counted);
+    let rewriting = accepted.make_loop_free(alloc);
     tell_rewriting(alloc, &rewriting)
 }
 
@@ -174,13 +169,12 @@ pub(crate) fn tell_graph_of(
 // Rewrites an accepted netlist, and tells what comes of its graph.
 pub(crate) fn tell_graphed(
     alloc: Global,
-    accepted: &Accepted<'_, '_>,
+    accepted: &Accepted<'_>,
     encoding: Encoding,
 ) -> Result<Outcome, AllocError>
-    ensures { IfOk result (λ told. IsAccepted (decision_on accepted.now) (WritesGraph encoding None) (outcome_of told)) }
+    ensures { IfOk result (λ told. IsAccepted (decision_in accepted.now.problem) (WritesGraph encoding None) (outcome_of told)) }
 {
-    let counted = accepted.counted();
-    let rewriting = rewrite(alloc, counted);
+    let rewriting = accepted.make_loop_free(alloc);
     match &rewriting {
         Ok(other) => tell_graph_of(alloc, other, encoding),
         Err(fault) => tell_outgrown(alloc, fault),
@@ -188,13 +182,12 @@ pub(crate) fn tell_graphed(
 }
 
 // How many gates the rewritten netlist of an accepted one has. It is made, unless it is too large.
-fn count_rewritten(alloc: Global, accepted: &Accepted<'_, '_>) -> Result<u64, AllocError>
-    ensures { IfOk result (λ gates. gates ≡ length (rewritten_netlist accepted.now.counted.net accepted.now.care).gates) }
+fn count_rewritten(alloc: Global, accepted: &Accepted<'_>) -> Result<u64, AllocError>
+    ensures { IfOk result (λ gates. gates ≡ length (rewritten_netlist accepted.now.problem.looped.net accepted.now.problem.care).gates) }
 {
-    let counted = accepted.counted();
-    match rewrite(alloc, counted) {
+    match accepted.make_loop_free(alloc) {
         Ok(other) => Ok(u64::from(other.gates())),
-        Err(UnrollFault::TooLarge { size: _ }) => Ok(rewritten_gates(counted)),
+        Err(UnrollFault::TooLarge { size: _ }) => Ok(rewritten_gates(&accepted.counted())),
         Err(UnrollFault::Memory) => Err(AllocError),
     }
 }
@@ -221,29 +214,26 @@ fn tell_ring(
 }
 
 // What is told of a ring whose netlist is accepted.
-fn demonstrate(
-    alloc: Global,
-    accepted: &Accepted<'_, '_>,
-    cells: Cells,
-) -> Result<Outcome, AllocError>
-    ensures { IfOk result (λ told. IsAccepted (decision_on accepted.now) (Demonstrates (cells_seen cells)) (outcome_of told)) }
+fn demonstrate(alloc: Global, accepted: &Accepted<'_>, cells: Cells) -> Result<Outcome, AllocError>
+    ensures { IfOk result (λ told. IsAccepted (decision_in accepted.now.problem) (Demonstrates (cells_seen cells)) (outcome_of told)) }
 {
     let rewritten = count_rewritten(alloc, accepted)?;
-    let counted = accepted.counted();
-    tell_ring(alloc, cells, counted.looped(), rewritten)
+    let problem = accepted.problem();
+    tell_ring(alloc, cells, problem.looped(), rewritten)
 }
 
 // What is told of the loops of an accepted netlist.
 fn explain_accepted(
     alloc: Global,
-    accepted: &Accepted<'_, '_>,
+    accepted: &Accepted<'_>,
     form: Form,
 ) -> Result<Outcome, AllocError>
-    ensures { IfOk result (λ told. IsAccepted (decision_on accepted.now) (Explains form) (outcome_of told)) }
+    ensures { IfOk result (λ told. IsAccepted (decision_in accepted.now.problem) (Explains form) (outcome_of told)) }
 {
     let counted = accepted.counted();
-    let number = loose_told(accepted.observe(), accepted.loose());
-    tell_loops_explained(alloc, counted, number, form)
+    let problem = accepted.problem();
+    let number = loose_told(problem.observe(), accepted.loose());
+    tell_loops_explained(alloc, &counted, number, form)
 }
 
 // What is told of an accepted netlist whose verdict says all.
@@ -267,14 +257,13 @@ fn tell_accepted_for(
 // What is told of a refused one.
 fn tell_refused_for(
     alloc: Global,
-    net: &Netlist,
+    refused: &Refused<'_>,
     telling: Telling,
-    refusal: &Refusal,
 ) -> Result<Outcome, AllocError>
-    requires fits { IsRefusalOf net.now refusal.now }
-    requires shown { IsShown net.now refusal.now }
-    ensures { IfOk result (λ told. IsRefusalTold net.now (telling_seen telling) refusal.now (outcome_of told)) }
+    ensures { IfOk result (λ told. IsRefusalOutcome refused.now.problem.looped.net (telling_seen telling) refused.now.refusal (outcome_of told)) }
 {
+    let net = refused.net();
+    let refusal = refused.refusal();
     match telling {
         Telling::Judge => tell_refused(alloc, net, refusal),
         Telling::Storm(rounds) => tell_storm(alloc, net, refusal, rounds),
@@ -291,21 +280,24 @@ fn tell_judgement(
     requires { IsJudgement problem.now.looped.net problem.now.care problem.now.observe judgement.now }
     ensures { IfOk result (λ told. (nodes : Arena) → IsDecided (decision_in problem.now) (telling_seen telling) nodes (outcome_of told)) }
 {
-    let looped = problem.looped();
+    problem.laws();
     match judgement {
         Judgement::Accepted { loose } => tell_accepted_for(alloc, problem, telling, *loose),
-        Judgement::Refused(refusal) => tell_refused_for(alloc, looped.net(), telling, refusal),
+        Judgement::Refused(refusal) => {
+            let refused = Refused::new(problem, refusal);
+            tell_refused_for(alloc, &refused, telling)
+        }
     }
 }
 
 // What is told of an accepted netlist of which something is made.
 fn tell_acceptance(
     alloc: Global,
-    accepted: &Accepted<'_, '_>,
+    accepted: &Accepted<'_>,
     making: Making,
     d: &mut Diagrams,
 ) -> Result<Outcome, AllocError>
-    ensures { IfOk result (λ told. IsAccepted (decision_on accepted.now) (making_seen making) (outcome_of told)) }
+    ensures { IfOk result (λ told. IsAccepted (decision_in accepted.now.problem) (making_seen making) (outcome_of told)) }
 {
     match making {
         Making::Rewrite(split) => tell_rewritten_in(alloc, accepted, split, d),
@@ -316,20 +308,14 @@ fn tell_acceptance(
 }
 
 // What is told of a refused one.
-fn tell_refusal(
-    alloc: Global,
-    looped: &LoopedNetlist<'_>,
-    making: Making,
-    refusal: &Refusal,
-) -> Result<Outcome, AllocError>
-    requires valid { IsNetlist looped.now.net }
-    requires fits { IsRefusalOf looped.now.net refusal.now }
-    ensures { IfOk result (λ told. IsRefusalTold looped.now.net (making_seen making) refusal.now (outcome_of told)) }
+fn tell_refusal(alloc: Global, refused: &Refused<'_>, making: Making) -> Result<Outcome, AllocError>
+    ensures { IfOk result (λ told. IsRefusalOutcome refused.now.problem.looped.net (making_seen making) refused.now.refusal (outcome_of told)) }
 {
-    let net = looped.net();
+    let net = refused.net();
+    let refusal = refused.refusal();
     match making {
         Making::Rewrite(_) | Making::Aiger(_, _) => tell_declined(alloc, net, refusal),
-        Making::Explain(form) => tell_explained(alloc, looped, refusal, form),
+        Making::Explain(form) => tell_explained(alloc, refused, form),
         Making::Demonstrate(_) => tell_refused(alloc, net, refusal),
     }
 }
@@ -342,17 +328,18 @@ fn tell_verdict(
     verdict: Verdict,
     d: &mut Diagrams,
 ) -> Result<Outcome, AllocError>
-    requires { IsVerdict problem.now.looped.net problem.now.looped.blocks problem.now.looped.cut problem.now.care problem.now.observe verdict }
+    requires { IsVerdictOn problem.now verdict }
     ensures { IfOk result (λ told. (nodes : Arena) → IsDecided (decision_in problem.now) (making_seen making) nodes (outcome_of told)) }
 {
-    let looped = problem.looped();
     match verdict {
         Verdict::Accepted { sweeps, loose } => {
-            let counted = CountedLoops::new(looped, &sweeps);
-            let accepted = Accepted::new(problem, &counted, loose);
+            let accepted = Accepted::new(problem, &sweeps, loose);
             tell_acceptance(alloc, &accepted, making, d)
         }
-        Verdict::Refused(refusal) => tell_refusal(alloc, looped, making, &refusal),
+        Verdict::Refused(refusal) => {
+            let refused = Refused::new(problem, &refusal);
+            tell_refusal(alloc, &refused, making)
+        }
     }
 }
 

@@ -5,22 +5,22 @@ ghost use Rattle.commands.specs.declared.form.Form.TheVariants.{Dot, Lines};
 ghost use Rattle.cyc_base.specs.declared.trit.Trit.TheVariants.{X};
 ghost use Rattle.cyc_base.specs.Values.{bits};
 ghost use Rattle.explain_text.specs.Graphs.{told_graph};
+ghost use Rattle.commands.specs.Words.{Explains as ExplainsIn};
 ghost use Rattle.explanations.specs.Explained.{Explains};
 ghost use Rattle.loop_simulation.specs.Sweeping.{sweeps_needed};
 ghost use Rattle.rewriting.specs.Rewriting.{IsCountedOnCare};
 ghost use Rattle.loops.specs.Sweeps.{gate_of};
 ghost use Rattle.netlist.specs.Fixpoint.{fix, wire as wire_of};
-ghost use Rattle.netlist.specs.Netlists.{IsNetlist};
-ghost use Rattle.refusals.specs.Refusals.{IsAt, IsRefusalOf};
+ghost use Rattle.refusals.specs.Refusals.{IsAt};
 ghost use Rattle.refusals.specs.declared.refusal.Refusal.TheVariants.{Undetermined};
 ghost use Rattle.dot_text.specs.ExplanationGraphs.{IsExplanationOf};
 ghost use Rattle.plain_commands.specs.Texts.{told as done};
-ghost use Rattle.cyc_tool.specs.Answer.{IsWireExplained};
+ghost use Rattle.cyc_tool.specs.Answer.{IsRefusalOutcome, IsWireExplained};
 ghost use Rattle.cyc_tool.specs.Endings.{loops_explained, refusal_shown, wire_explained};
 ghost use Rattle.plain_commands.specs.Plans.{Prints, Refuses};
-ghost use Rattle.cyc_tool.specs.Seen.{IsRefusalExplained};
 ghost use Rattle.plain_commands.specs.Seen.{outcome_of};
 
+use crate::problem::Refused;
 use commands::Form;
 use cyc_base::Sig;
 use cyc_io::TextSink;
@@ -28,7 +28,6 @@ use dot_text::{put_refusal_graph, tell_explanation_graph};
 use explain_text::{put_explained, tell_loops, tell_loops_graph};
 use explanations::{Explanation, explain};
 use loops::LoopedNetlist;
-use netlist::Netlist;
 use plain_commands::{Outcome, accepted_line, on_out, put_accepted_line, status, tell_refused};
 use refusals::Refusal;
 use std::alloc::{AllocError, Global};
@@ -43,6 +42,7 @@ struct RefusedWire<'a> {
     wire: Sig,
     ghost is: { refusal.now ≡ Undetermined vector.now wire },
     ghost at: { IsAt looped.now.net vector.now wire },
+    ghost unknown: { wire_of (fix looped.now.net (bits vector.now)) wire ≡ X },
 }
 
 // A refusal, and behind it the lines of an explanation.
@@ -51,7 +51,6 @@ fn tell_explanation(
     refused: &RefusedWire<'_>,
     why: &Explanation,
 ) -> Result<Outcome, AllocError>
-    requires valid { IsNetlist refused.now.looped.now.net }
     requires why { IsExplanationOf refused.now.looped.now.net why.now }
     ensures { IfOk result (λ told. outcome_of told ≡ done (Refuses (wire_explained Lines refused.now.looped.now.net refused.now.vector.now refused.now.wire why.now))) }
 {
@@ -68,11 +67,11 @@ fn draw_explanation(
     refused: &RefusedWire<'_>,
     why: &Explanation,
 ) -> Result<Outcome, AllocError>
-    requires valid { IsNetlist refused.now.looped.now.net }
     requires why { IsExplanationOf refused.now.looped.now.net why.now }
     requires some { 0 < length why.now.cycle }
     ensures { IfOk result (λ told. outcome_of told ≡ done (Refuses (wire_explained Dot refused.now.looped.now.net refused.now.vector.now refused.now.wire why.now))) }
 {
+    refused.looped.net().laws();
     let mut sink = TextSink::new(alloc);
     tell_explanation_graph(
         alloc,
@@ -92,7 +91,6 @@ fn tell_why(
     why: &Explanation,
     form: Form,
 ) -> Result<Outcome, AllocError>
-    requires valid { IsNetlist refused.now.looped.now.net }
     requires why { IsExplanationOf refused.now.looped.now.net why.now }
     requires some { 0 < length why.now.cycle }
     ensures { IfOk result (λ told. outcome_of told ≡ done (Refuses (wire_explained form refused.now.looped.now.net refused.now.vector.now refused.now.wire why.now))) }
@@ -104,34 +102,27 @@ fn tell_why(
 }
 
 // A refusal as a graph.
-fn draw_refused(alloc: Global, net: &Netlist, refusal: &Refusal) -> Result<Outcome, AllocError>
-    requires { IsRefusalOf net.now refusal.now }
-    ensures { IfOk result (λ told. outcome_of told ≡ done (Refuses (refusal_shown Dot net.now refusal.now))) }
+fn draw_refused(alloc: Global, refused: &Refused<'_>) -> Result<Outcome, AllocError>
+    ensures { IfOk result (λ told. outcome_of told ≡ done (Refuses (refusal_shown Dot refused.now.problem.looped.net refused.now.refusal))) }
 {
     let mut sink = TextSink::new(alloc);
-    match put_refusal_graph(net, refusal, &mut sink) {
+    match put_refusal_graph(refused.net(), refused.refusal(), &mut sink) {
         Ok(()) => Ok(on_out(alloc, status::REFUSED, sink.into_vec())),
         Err(_) => Err(AllocError),
     }
 }
 
 // A refusal without an explanation.
-fn tell_alone(
-    alloc: Global,
-    net: &Netlist,
-    refusal: &Refusal,
-    form: Form,
-) -> Result<Outcome, AllocError>
-    requires { IsRefusalOf net.now refusal.now }
-    ensures { IfOk result (λ told. outcome_of told ≡ done (Refuses (refusal_shown form net.now refusal.now))) }
+fn tell_alone(alloc: Global, refused: &Refused<'_>, form: Form) -> Result<Outcome, AllocError>
+    ensures { IfOk result (λ told. outcome_of told ≡ done (Refuses (refusal_shown form refused.now.problem.looped.net refused.now.refusal))) }
 {
     match form {
-        Form::Lines => tell_refused(alloc, net, refusal),
-        Form::Dot => draw_refused(alloc, net, refusal),
+        Form::Lines => tell_refused(alloc, refused.net(), refused.refusal()),
+        Form::Dot => draw_refused(alloc, refused),
     }
 }
 
-// Why a refused wire is undetermined. One that is determined would have no explanation.
+// Why a refused wire is undetermined. Only one that is determined has no explanation.
 fn explanation_of(
     alloc: Global,
     refused: &RefusedWire<'_>,
@@ -146,39 +137,35 @@ fn explanation_of(
 
 // A refused wire, with why it is undetermined, as lines or as a graph.
 fn tell_wire(alloc: Global, refused: &RefusedWire<'_>, form: Form) -> Result<Outcome, AllocError>
-    requires { IsNetlist refused.now.looped.now.net }
-    ensures { IfOk result (λ told. wire_of (fix refused.now.looped.now.net (bits refused.now.vector.now)) refused.now.wire ≡ X →
-        IsWireExplained form refused.now.looped.now.net refused.now.vector.now refused.now.wire (outcome_of told)) }
+    ensures { IfOk result (λ told. IsWireExplained form refused.now.looped.now.net refused.now.vector.now refused.now.wire (outcome_of told)) }
 {
     let found = explanation_of(alloc, refused)?;
     match &found {
         Some(why) => tell_why(alloc, refused, why, form),
-        None => tell_alone(alloc, refused.looped.net(), refused.refusal, form),
+        None => unreachable!(),
     }
 }
 
 // A refusal, with why a wire is undetermined, as lines or as a graph.
 pub(crate) fn tell_explained(
     alloc: Global,
-    looped: &LoopedNetlist<'_>,
-    refusal: &Refusal,
+    refused: &Refused<'_>,
     form: Form,
 ) -> Result<Outcome, AllocError>
-    requires valid { IsNetlist looped.now.net }
-    requires fits { IsRefusalOf looped.now.net refusal.now }
-    ensures { IfOk result (λ told. IsRefusalExplained form looped.now.net refusal.now (outcome_of told)) }
+    ensures { IfOk result (λ told. IsRefusalOutcome refused.now.problem.looped.net (ExplainsIn form) refused.now.refusal (outcome_of told)) }
 {
+    let refusal = refused.refusal();
     match refusal {
         Refusal::Undetermined { vector, wire } => {
             let refused = RefusedWire {
-                looped,
+                looped: refused.looped(),
                 refusal,
                 vector: vector.items(),
                 wire: *wire,
             };
             tell_wire(alloc, &refused, form)
         }
-        _ => tell_alone(alloc, looped.net(), refusal, form),
+        _ => tell_alone(alloc, refused, form),
     }
 }
 

@@ -1,25 +1,32 @@
-// What is decided, and what comes of it where it is accepted.
-ghost use Rattle.std.specs.Prelude.{◌≡◌, ◌⊎◌, ◌≤◌, Err, IfErr, IfOk};
+// What is decided, and what comes of it.
+ghost use Rattle.std.specs.Prelude.{◌≡◌, ◌⊎◌, ◌≤◌, Err, IfErr, IfOk, OnOk};
 ghost use Rattle.assumptions.specs.Assumptions.{IsAssumption};
 ghost use Rattle.assumptions.specs.Limits.{RunsOutOfNodes};
 ghost use Rattle.care_sets.specs.Binding.{IsCareOf};
-ghost use Rattle.cyc_base.specs.declared.limits.TheConstants.{MAX_NODES as most_nodes};
+ghost use Rattle.cyc_base.specs.declared.limits.TheConstants.{MAX_NODES as most_nodes, MAX_REWRITTEN_ITEMS};
 ghost use Rattle.diagram_decision.specs.Causes.{IsOutOfNodes};
 ghost use Rattle.diagram_decision.specs.Enough.{IsBelowEnough};
 ghost use Rattle.diagram_decision.specs.Judgements.{IsJudgement};
 ghost use Rattle.netlist.specs.Netlists.{columns};
+ghost use Rattle.netlist.specs.Walks.{IsLoopFree};
 ghost use Rattle.rewriting.specs.Graphs.{most_columns};
-ghost use Rattle.verdict.specs.Verdicts.{IsAcceptance, IsVerdict};
-ghost use Rattle.cyc_tool.specs.Problems.{CanBeDecided, WasAccepted};
+ghost use Rattle.rewriting.specs.Rewriting.{IsCaseFault, IsLoopFreeForm, IsRewriting, rewritten_size};
+ghost use Rattle.unroll.specs.Unrolled.{IsUnrollFault};
+ghost use Rattle.plain_commands.specs.Seen.{IsShown};
+ghost use Rattle.refusals.specs.Refusals.{IsRefusalOf};
+ghost use Rattle.cyc_tool.specs.Problems.{CanBeDecided, IsVerdictOn, WasAccepted, WasRefused, counted_in};
 
 use assumptions::{Assumption, weakest_assumption};
 use bdd_ops::Diagrams;
 use care_sets::Care;
-use loops::LoopedNetlist;
-use refusals::Observe;
+use commands::Cases;
+use loops::{LoopedNetlist, SweepCounts};
+use netlist::Netlist;
+use refusals::{Observe, Refusal};
+use rewriting::{rewrite, rewrite_by_cases};
 use std::alloc::Global;
 use std::marker::Model;
-use unroll::CountedLoops;
+use unroll::{CountedLoops, UnrollFault};
 use verdict::{DecideFault, Judgement, Verdict, decide, judge};
 
 // A netlist with its loops, to be decided on its care set with at most so many nodes, where these wires are observed.
@@ -62,6 +69,13 @@ impl<'a> Problem<'a> {
             limit,
             observe,
         }
+    }
+
+    // What holds of each problem.
+    pub(crate) fn laws(&self)
+        ensures can { CanBeDecided self.now }
+    {
+        let _ = &self.looped;
     }
 
     pub(crate) fn looped(&self) -> &'a LoopedNetlist<'a>
@@ -113,7 +127,7 @@ impl<'a> Problem<'a> {
 
     // Its verdict, with the sweeps of its loops.
     pub(crate) fn decide(&self, alloc: Global, d: &mut Diagrams) -> Result<Verdict, DecideFault>
-        ensures verdict { IfOk result (IsVerdict self.now.looped.net self.now.looped.blocks self.now.looped.cut self.now.care self.now.observe) }
+        ensures verdict { IfOk result (IsVerdictOn self.now) }
         ensures fault { IfErr result (λ fault. (fault ≡ DecideFault.Memory) ⊎ (fault ≡ DecideFault.NodeLimit self.now.limit)) }
         ensures cause { result ≡ Err (DecideFault.NodeLimit self.now.limit) → IsOutOfNodes d.new self.now.looped.net self.now.care self.now.limit }
         ensures enough { result ≡ Err (DecideFault.NodeLimit self.now.limit) → IsBelowEnough self.now.looped.net self.now.care self.now.limit }
@@ -146,70 +160,83 @@ impl<'a> Problem<'a> {
 // A problem whose netlist is accepted: the sweeps that its loops need on its care set, and how many gates are unknown at
 // some care vector.
 #[derive(Drop)]
-pub(crate) struct Accepted<'a, 'b> {
-    counted: &'a CountedLoops<'a>,
-    care: &'b Care,
-    limit: u32,
-    observe: Observe,
+pub(crate) struct Accepted<'a> {
+    problem: &'a Problem<'a>,
+    sweeps: &'a SweepCounts,
     loose: u32,
 }
 
-impl<'a, 'b> Model for Accepted<'a, 'b> {
+impl<'a> Model for Accepted<'a> {
     ghost use Rattle.cyc_tool.specs.Problems.{Acceptance, WasAccepted};
 
     ghost Value = { Acceptance };
 
-    ghost view = { λ a. record { counted = a.counted.now; care = a.care.now; limit = a.limit; observe = a.observe; loose = a.loose } };
+    ghost view = { λ a. record { problem = a.problem.now; sweeps = a.sweeps.now; loose = a.loose } };
 
-    ghost invariant = { λ a. WasAccepted (record { counted = a.counted.now; care = a.care.now; limit = a.limit; observe = a.observe; loose = a.loose }) };
+    ghost invariant = { λ a. WasAccepted (record { problem = a.problem.now; sweeps = a.sweeps.now; loose = a.loose }) };
 }
 
-impl<'a, 'b> Accepted<'a, 'b> {
+impl<'a> Accepted<'a> {
     // The condition is that these are the sweeps and the number of a decision that accepts the problem.
-    pub(crate) fn new(
-        problem: &Problem<'b>,
-        counted: &'a CountedLoops<'a>,
-        loose: u32,
-    ) -> Accepted<'a, 'b>
-        requires net { counted.now.net ≡ problem.now.looped.net }
-        requires is { IsAcceptance counted.now.net counted.now.blocks counted.now.cut problem.now.care problem.now.observe counted.now.sweeps loose }
-        ensures { result ≡ record { counted = counted.now; care = problem.now.care; limit = problem.now.limit; observe = problem.now.observe; loose = loose } }
+    pub(crate) fn new(problem: &'a Problem<'a>, sweeps: &'a SweepCounts, loose: u32) -> Accepted<'a>
+        requires { IsVerdictOn problem.now (Verdict.Accepted sweeps.now loose) }
+        ensures is { result ≡ record { problem = problem.now; sweeps = sweeps.now; loose = loose } }
+        ensures can { CanBeDecided problem.now }
     {
+        problem.laws();
         Accepted {
-            counted,
-            care: problem.care,
-            limit: problem.limit,
-            observe: problem.observe,
+            problem,
+            sweeps,
             loose,
         }
     }
 
-    pub(crate) fn counted(&self) -> &'a CountedLoops<'a>
-        ensures counted { result.now ≡ self.now.counted }
+    pub(crate) fn problem(&self) -> &'a Problem<'a>
+        ensures problem { result.now ≡ self.now.problem }
         ensures was { WasAccepted self.now }
     {
-        self.counted
+        self.problem
     }
 
-    pub(crate) fn care(&self) -> &'b Care
-        ensures care { result.now ≡ self.now.care }
+    // Its netlist with these sweeps.
+    pub(crate) fn counted(&self) -> CountedLoops<'a>
+        ensures counted { result ≡ counted_in self.now }
         ensures was { WasAccepted self.now }
     {
-        self.care
+        CountedLoops::new(self.problem.looped(), self.sweeps)
     }
 
-    pub(crate) fn limit(&self) -> u32
-        ensures limit { result ≡ self.now.limit }
+    // The netlist that is rewritten by these sweeps.
+    pub(crate) fn make_loop_free(&self, alloc: Global) -> Result<Netlist, UnrollFault>
+        ensures rewriting { IfOk result (IsRewriting self.now.problem.looped.net self.now.problem.care) }
+        ensures small { OnOk result (rewritten_size self.now.problem.looped.net self.now.problem.care ≤ MAX_REWRITTEN_ITEMS) }
+        ensures fault { IfErr result (IsUnrollFault (rewritten_size self.now.problem.looped.net self.now.problem.care)) }
+        ensures loop_free { IfOk result IsLoopFree }
+        ensures columns { IfOk result (λ other. columns other ≤ most_columns) }
         ensures was { WasAccepted self.now }
     {
-        self.limit
+        let counted = self.counted();
+        rewrite(alloc, &counted)
     }
 
-    pub(crate) fn observe(&self) -> Observe
-        ensures observe { result ≡ self.now.observe }
+    // The same by at most so many cases in each region, within the limit of nodes.
+    pub(crate) fn make_loop_free_by(
+        &self,
+        alloc: Global,
+        d: &mut Diagrams,
+        cases: Cases,
+    ) -> Result<Netlist, UnrollFault>
+        ensures form { IfOk result (IsLoopFreeForm self.now.problem.looped.net self.now.problem.care) }
+        ensures fault { IfErr result (IsCaseFault (rewritten_size self.now.problem.looped.net self.now.problem.care)) }
+        ensures loop_free { IfOk result IsLoopFree }
+        ensures columns { IfOk result (λ other. columns other ≤ most_columns) }
         ensures was { WasAccepted self.now }
     {
-        self.observe
+        let counted = self.counted();
+        let problem = self.problem();
+        let care = problem.care();
+        let limit = problem.limit();
+        rewrite_by_cases(alloc, d, &counted, care, limit, cases.number)
     }
 
     pub(crate) fn loose(&self) -> u32
@@ -217,5 +244,56 @@ impl<'a, 'b> Accepted<'a, 'b> {
         ensures was { WasAccepted self.now }
     {
         self.loose
+    }
+}
+
+// A problem whose netlist is refused.
+#[derive(Drop)]
+pub(crate) struct Refused<'a> {
+    problem: &'a Problem<'a>,
+    refusal: &'a Refusal,
+}
+
+impl<'a> Model for Refused<'a> {
+    ghost use Rattle.cyc_tool.specs.Problems.{Rejection, WasRefused};
+
+    ghost Value = { Rejection };
+
+    ghost view = { λ r. record { problem = r.problem.now; refusal = r.refusal.now } };
+
+    ghost invariant = { λ r. WasRefused (record { problem = r.problem.now; refusal = r.refusal.now }) };
+}
+
+impl<'a> Refused<'a> {
+    // The condition is that the refusal is the problem's.
+    pub(crate) fn new(problem: &'a Problem<'a>, refusal: &'a Refusal) -> Refused<'a>
+        requires { IsVerdictOn problem.now (Verdict.Refused refusal.now) }
+        ensures { result ≡ record { problem = problem.now; refusal = refusal.now } }
+    {
+        problem.laws();
+        Refused { problem, refusal }
+    }
+
+    pub(crate) fn looped(&self) -> &'a LoopedNetlist<'a>
+        ensures looped { result.now ≡ self.now.problem.looped }
+        ensures was { WasRefused self.now }
+    {
+        self.problem.looped()
+    }
+
+    pub(crate) fn net(&self) -> &'a Netlist
+        ensures net { result.now ≡ self.now.problem.looped.net }
+        ensures was { WasRefused self.now }
+    {
+        self.problem.looped().net()
+    }
+
+    // It has the netlist's widths, and a wire that it names is unknown at its vector.
+    pub(crate) fn refusal(&self) -> &'a Refusal
+        ensures refusal { result.now ≡ self.now.refusal }
+        ensures fits { IsRefusalOf self.now.problem.looped.net self.now.refusal }
+        ensures shown { IsShown self.now.problem.looped.net self.now.refusal }
+    {
+        self.refusal
     }
 }

@@ -6,6 +6,6 @@ pub returns : goal.returns
 returns c =
     let a = c.args.accepted.now in
     IfOk-weaker c.tell_ring.result _ _ (λ told is.
-    demonstrated a.counted.net a.care a.limit a.observe (cells_seen c.args.cells) c.in_ok-rewritten.rewritten (outcome_of told)
-    (rw (c.looped.ensures.looped, c.counted-counted.ensures.counted) at is) c.in_ok-rewritten.ensures)
+    demonstrated a.problem.looped.net a.problem.care a.problem.limit a.problem.observe (cells_seen c.args.cells) c.in_ok-rewritten.rewritten (outcome_of told)
+    (rw (c.looped.ensures.looped, c.problem-problem.ensures.problem) at is) c.in_ok-rewritten.ensures)
     c.tell_ring.ensures

@@ -18,16 +18,16 @@ tell_why-requires-clause-why c =
     let explains : Explains net refused.vector.now (gate_of net refused.wire) c.in-Some.why = rw c.in-Some.is at c.in_ok-found.ensures.found in
     fits_netlist net refused.vector.now _ c.in-Some.why refused.at.width explains
 
-pub returns-in-Some : goal.returns-in-Some
-returns-in-Some c =
+pub returns : goal.returns
+returns c =
     let refused = c.args.refused.now in
     let net = refused.looped.now.net in
     let explains : Explains net refused.vector.now (gate_of net refused.wire) c.in-Some.why = rw c.in-Some.is at c.in_ok-found.ensures.found in
-    IfOk-weaker c.tell_why.result _ _ (λ told same unknown.
+    IfOk-weaker c.tell_why.result _ _ (λ told same.
     was_explained c.args.form net refused.vector.now refused.wire c.in-Some.why _ explains same)
     c.tell_why.ensures
 
-pub returns : goal.returns
-returns c =
+pub unreachable-requires : goal.unreachable-requires
+unreachable-requires c =
     let known = rw c.in-None.is at c.in_ok-found.ensures.none in
-    IfOk-weaker c.tell_alone.result _ _ (λ told same unknown. absurd (known unknown)) c.tell_alone.ensures
+    known c.args.refused.now.unknown
