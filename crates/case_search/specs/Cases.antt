@@ -1,5 +1,5 @@
 -- Cases on care, as they are shown: by values that no care vector has together.
-use Rattle.std.specs.Prelude.{◌≡◌, ◌<◌, ℕ, Bool, true, false, not, List, length, map, All, slice_index_or}
+use Rattle.std.specs.Prelude.{◌≡◌, ◌<◌, ℕ, Bool, false, not, List, map, All, slice_index_or}
 use Rattle.netlist.specs.declared.parts.Parts.{Parts}
 use Rattle.care_sets.specs.Care.{CareSet, IsCareVector}
 use Rattle.case_split.specs.declared.cases.Case.{Case}

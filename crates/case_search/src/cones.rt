@@ -79,16 +79,28 @@ fn meet_upstream(net: &Netlist, met: &mut IndexSet<u32>) -> Result<(), AllocErro
     Ok(())
 }
 
+/// Meets these gates and all upstream of them, and answers all that was met, in the order of the numbers.
+fn meet_cone(
+    alloc: Global,
+    net: &Netlist,
+    met: &mut IndexSet<u32>,
+    gates: &[u32],
+) -> Result<Vec<u32>, AllocError>
+    requires { All (λ n. n < length net.now.gates) gates.now }
+{
+    meet_gates(net, met, gates)?;
+    meet_upstream(net, met)?;
+    let mut signals = met.as_slice().to_vec(alloc)?;
+    signals.sort_unstable();
+    Ok(signals)
+}
+
 /// The signals of these gates and all upstream of them, in the order of their numbers.
 fn signals_of(alloc: Global, net: &Netlist, gates: &[u32]) -> Result<Vec<u32>, AllocError>
     requires { All (λ n. n < length net.now.gates) gates.now }
 {
     let mut met = IndexSet::new(alloc);
-    meet_gates(net, &mut met, gates)?;
-    meet_upstream(net, &mut met)?;
-    let mut signals = met.as_slice().to_vec(alloc)?;
-    signals.sort_unstable();
-    Ok(signals)
+    meet_cone(alloc, net, &mut met, gates)
 }
 
 /// The number in the cone of a signal of the whole netlist.

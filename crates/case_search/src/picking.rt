@@ -179,20 +179,12 @@ fn best_of(tried: &[Tried]) -> Option<Tried> {
 }
 
 fn has_column(values: &[ColumnValue], column: u32) -> bool {
-    for value in values {
-        if value.column == column {
-            return true;
-        }
-    }
-    false
+    values.iter().any(|value| value.column == column)
 }
 
 /// The columns that were tried, and the others.
 fn ranked_columns(alloc: Global, tried: &[Tried], columns: &[u32]) -> Result<Vec<u32>, AllocError> {
-    let mut ranked = Vec::new(alloc);
-    for t in tried {
-        ranked.push(t.column)?;
-    }
+    let mut ranked: Vec<u32> = tried.iter().map(|t| t.column).collect(alloc)?;
     for column in columns.iter().skip(tried.len()) {
         ranked.push(*column)?;
     }

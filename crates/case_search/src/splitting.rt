@@ -112,12 +112,9 @@ fn picked_cases(
 
 /// Whether a case puts a value in. One case does where the care set forces one.
 fn put_values_in(cases: &[Case]) -> bool {
-    for case in cases {
-        if !case.cube.is_empty() || !case.known.is_empty() {
-            return true;
-        }
-    }
-    false
+    cases
+        .iter()
+        .any(|case| !case.cube.is_empty() || !case.known.is_empty())
 }
 
 /// The netlist split by cases in which these gates are copied, or nothing where no value is put in.

@@ -26,7 +26,7 @@ use Rattle.case_split.specs.Cases.{Holds}
 use Rattle.case_split.specs.Operands.{value_by, IsWithin}
 use Rattle.case_split.specs.Added.{AreNew, IsMore}
 use Rattle.case_split.specs.Sizes.{copied_gates}
-use Rattle.case_split.specs.Tables.{operand_at, plain_of, ArePlain, IsPlain, IsMade, IsTable, AreStanding, AreCopySteps}
+use Rattle.case_split.specs.Tables.{operand_at, plain_of, ArePlain, IsPlain, IsMade, AreStanding, AreCopySteps}
 use Rattle.case_split.specs.CaseTables.{IsBelowCase, IsCaseTable, IsTableStep, IsEntry, AreTables}
 use Rattle.case_split.specs.Cubes.{IsCube}
 use Rattle.case_split.specs.Choices.{AreLeavesOf, IsChosen}

@@ -1,4 +1,4 @@
-use Rattle.std.proofs.Common.{List, map, ap, ◌∙◌}
+use Rattle.std.proofs.Common.{map, ap, ◌∙◌}
 use Rattle.std.proofs.lemmas.List.{take_all}
 use Rattle.case_search.specs.Cases.{cube_of}
 use Rattle.case_search.proofs.ShownLemmas.{cubes-more}

@@ -1,4 +1,4 @@
-use Rattle.std.proofs.Common.{List, take, subst, ◌∙◌}
+use Rattle.std.proofs.Common.{List, subst, ◌∙◌}
 use Rattle.std.proofs.lemmas.List.{get_or_default, take_all}
 use Rattle.case_split.specs.declared.cases.ColumnValue.{ColumnValue}
 use Rattle.case_search.specs.Cases.{ForcesKnown, ToldBy}

@@ -1,4 +1,4 @@
-use Rattle.std.proofs.Common.{List, take, subst, ◌∙◌}
+use Rattle.std.proofs.Common.{List, subst, ◌∙◌}
 use Rattle.std.proofs.lemmas.List.{take_all}
 use Rattle.case_split.specs.declared.cases.Case.{Case}
 use Rattle.case_search.specs.Cases.{IsApartFromEach, ToldBy}

@@ -1,4 +1,4 @@
-use Rattle.std.proofs.Common.{◌+◌, List, All, length, ap, map, subst, sym, ◌∙◌}
+use Rattle.std.proofs.Common.{◌+◌, List, All, length, ap, subst, sym, ◌∙◌}
 use Rattle.std.proofs.lemmas.List.{length-map}
 use Rattle.std.proofs.lemmas.Result.{IfOk-weaker}
 use Rattle.netlist.specs.Netlists.{count}

@@ -1,4 +1,4 @@
-use Rattle.std.proofs.Common.{◌≡◌, ℕ, sym, subst, length, true, arith}
+use Rattle.std.proofs.Common.{◌≡◌, sym, subst, length, true, arith}
 use Rattle.cyc_base.specs.declared.sig.Sig.{Sig}
 use Rattle.case_split.specs.declared.operands.Operand.TheVariants.{Wire}
 use Rattle.case_split.specs.Cofactors.{IsFolded}

@@ -1,7 +1,5 @@
-use Rattle.std.proofs.Common.{◌≡◌, ◌≤◌, ◌+◌, ◌∷◌, [], List, Option, None, length, ap, subst, sym, ◌∙◌, arith}
+use Rattle.std.proofs.Common.{◌≡◌, ◌+◌, ◌∷◌, [], None, length, ap, subst, sym, ◌∙◌, arith}
 use Rattle.std.proofs.lemmas.List.{length-append}
-use Rattle.cyc_base.specs.declared.sig.Sig.{Sig}
-use Rattle.case_split.specs.declared.operands.Operand.{Operand}
 use Rattle.case_split.specs.Cofactors.{left_at}
 use Rattle.case_split.proofs.ListLemmas.{AreMade, made_next}
 use Rattle.case_split.proofs.cofactors.left_pins.Goals as goal

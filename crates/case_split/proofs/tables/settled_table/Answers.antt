@@ -1,7 +1,6 @@
-use Rattle.std.proofs.Common.{◌≡◌, ◌∙◌, List, IfOk, ap, length, subst, arith}
+use Rattle.std.proofs.Common.{◌∙◌, List, IfOk, ap, length, subst, arith}
 use Rattle.std.proofs.lemmas.Result.{IfOk-weaker}
 use Rattle.cyc_base.specs.declared.trit.Trit.{Trit}
-use Rattle.netlist.specs.Fixpoint.{fix}
 use Rattle.netlist.proofs.FixpointLemmas.{length-fix}
 use Rattle.case_split.specs.Tables.{ArePlain}
 use Rattle.case_split.proofs.tables.settled_table.Goals as goal
