@@ -43,18 +43,18 @@ fn known_vector(alloc: Global, vector: &[Trit]) -> Result<Bits, AllocError>
 {
     let mut bits = Vec::with_capacity(alloc, vector.len())?;
     for value in vector {
-        bits.push(is_one_of(*value))?;
+        bits.push_reserved(is_one_of(*value));
     }
     Ok(Bits::of(bits))
 }
 
 // Vectors without unknown values.
-pub(crate) fn known(alloc: Global, vectors: &[Trits]) -> Result<Vec<Bits>, AllocError>
+pub(crate) fn known_vectors(alloc: Global, vectors: &[Trits]) -> Result<Vec<Bits>, AllocError>
     ensures { IfOk result (λ bits. bits.items ≡ known_of vectors.now) }
 {
     let mut bits = Vec::with_capacity(alloc, vectors.len())?;
     for vector in vectors {
-        bits.push(known_vector(alloc, vector.items())?)?;
+        bits.push_reserved(known_vector(alloc, vector.items())?);
     }
     Ok(bits)
 }

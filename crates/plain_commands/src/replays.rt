@@ -11,7 +11,7 @@ ghost use Rattle.plain_commands.specs.Seen.{end_of};
 ghost use Rattle.plain_commands.specs.Shelves.{shelf_call};
 
 use crate::outcome::{Outcome, Stop};
-use crate::plays::{RecordedRun, known, play_to_probes, tick_ends};
+use crate::plays::{RecordedRun, known_vectors, play_to_probes, tick_ends};
 use crate::reading::{read_netlist, read_schedule_file, read_vector_file, stop_at};
 use crate::texts::{tell_delays, tell_probed};
 use cyc_base::{Bits, Name};
@@ -121,6 +121,6 @@ pub fn replay_files<S: Shelf>(
 {
     let net = read_netlist(alloc, shelf, replay.netlist)?;
     let found = read_vector_file(alloc, shelf, &net, false, replay.vectors)?;
-    let inputs = known(alloc, &found)?;
+    let inputs = known_vectors(alloc, &found)?;
     play_file(alloc, shelf, &net, &inputs, replay, probes)
 }

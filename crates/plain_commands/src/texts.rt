@@ -256,7 +256,11 @@ pub fn tell_aiger(
 }
 
 // Appends the loops of a netlist in this form.
-fn put_shown(looped: &LoopedNetlist<'_>, form: Form, sink: &mut TextSink) -> Result<(), Failed>
+fn put_loops_in_form(
+    looped: &LoopedNetlist<'_>,
+    form: Form,
+    sink: &mut TextSink,
+) -> Result<(), Failed>
     ensures { OnOk result (text_bytes sink.new ≡ text_bytes sink.old ++ loops_shown form looped.now.net) }
 {
     match form {
@@ -265,7 +269,7 @@ fn put_shown(looped: &LoopedNetlist<'_>, form: Form, sink: &mut TextSink) -> Res
     }
 }
 
-fn looped_shown(
+fn text_of_looped(
     alloc: Global,
     looped: &LoopedNetlist<'_>,
     form: Form,
@@ -273,23 +277,23 @@ fn looped_shown(
     ensures { IfOk result (λ text. text.items ≡ loops_shown form looped.now.net) }
 {
     let mut sink = TextSink::new(alloc);
-    match put_shown(looped, form, &mut sink) {
+    match put_loops_in_form(looped, form, &mut sink) {
         Ok(()) => Ok(sink.into_vec()),
         Err(_) => Err(AllocError),
     }
 }
 
-fn loops_shown_in(alloc: Global, net: &Netlist, form: Form) -> Result<Vec<u8>, AllocError>
+fn text_of_loops(alloc: Global, net: &Netlist, form: Form) -> Result<Vec<u8>, AllocError>
     ensures { IfOk result (λ text. text.items ≡ loops_shown form net.now) }
 {
     let loops = NetlistLoops::find(alloc, net)?;
-    looped_shown(alloc, &loops.looped(), form)
+    text_of_looped(alloc, &loops.looped(), form)
 }
 
 pub(crate) fn tell_loops(alloc: Global, net: &Netlist, form: Form) -> Result<Outcome, AllocError>
     ensures { IfOk result (λ told. outcome_of told ≡ done (Prints (loops_shown form net.now))) }
 {
-    Ok(on_out(alloc, status::DONE, loops_shown_in(alloc, net, form)?))
+    Ok(on_out(alloc, status::DONE, text_of_loops(alloc, net, form)?))
 }
 
 pub(crate) fn tell_sim(
