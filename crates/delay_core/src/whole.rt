@@ -111,7 +111,7 @@ fn log_opening(net: &Netlist, play: &Play, log: &mut ChangeLog) -> Result<(), Al
 }
 
 /// The inputs and the latches at the newest moment, as ternary values.
-fn given(alloc: Global, net: &Netlist, play: &Play) -> Result<Vec<Trit>, AllocError>
+fn given_values(alloc: Global, net: &Netlist, play: &Play) -> Result<Vec<Trit>, AllocError>
     requires { play.now.state.net ≡ net.now }
     ensures given { IfOk result (λ values. values.items ≡ bits (given_at net.now (newest play.now.state.history))) }
     ensures width { IfOk result (λ values. length values.items ≡ length net.now.inputs + length net.now.latches) }
@@ -177,7 +177,7 @@ fn is_settled(
     ensures simulator { IsSimulatorOf net.now simulator.new }
     ensures settled { IfOk result (λ settled. settled ≡ stands_at_fix net.now (newest play.now.state.history)) }
 {
-    let values = given(alloc, net, play)?;
+    let values = given_values(alloc, net, play)?;
     let (inputs, latches) = values.split_at(net.inputs() as usize);
     let tick = simulator.tick(alloc, net, inputs, latches)?;
     Ok(gates_stand_at(net, play, tick.wires.items()))

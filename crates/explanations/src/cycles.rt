@@ -14,7 +14,7 @@ fn leads(graph: &Graph, from: u32, to: u32) -> bool
     requires { from < length graph.now }
     ensures { (result ≡ true) ↔ Contains (successors_of graph.now from) to }
 {
-    graph.successors(from).iter().any(|target| *target == to)
+    graph.successors(from).contains(&to)
 }
 
 /// Whether nothing is found yet, or only deeper.
@@ -28,7 +28,7 @@ fn is_nearer(best: Option<SearchStep>, depth: u32) -> bool
 }
 
 /// The node nearest to the root from which an edge leads back to it, with the node's own depth.
-fn closing(graph: &Graph, root: u32, steps: &[Option<SearchStep>]) -> Option<SearchStep>
+fn closing_step(graph: &Graph, root: u32, steps: &[Option<SearchStep>]) -> Option<SearchStep>
     ensures { IsClosing graph.now root steps.now (length graph.now) result }
 {
     let mut best: Option<SearchStep> = None;
@@ -57,7 +57,7 @@ pub(crate) fn shortest_through(
     ensures { IfOk result (IsThrough graph.now root limit) }
 {
     let steps = search(alloc, graph, root, limit)?;
-    match closing(graph, root, &steps) {
+    match closing_step(graph, root, &steps) {
         Some(step) => Ok(Some(Items::of(way_back(alloc, &steps, step.from)?))),
         None => Ok(None),
     }

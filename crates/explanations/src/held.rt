@@ -2,7 +2,7 @@
 
 ghost use Rattle.std.specs.Prelude.{◌≡◌, ◌<◌, ◌↔◌, true, length, map, All, IfOk, OnOk};
 ghost use Rattle.netlist.specs.Netlists.{count as signal_count, gate_sig as sig_of_gate, is_marked as is_marked_in};
-ghost use Rattle.explanations.specs.Held.{pin_at as pin_at_signal, seen as seen_as, IsHeld, HasTried, HasLookedAt, AreChangedReaders, AreUnknownGates, IsHeldOpen, IsGreatestWithin, AreMarked};
+ghost use Rattle.explanations.specs.Held.{pin_at as pin_at_signal, seen, IsHeld, HasTried, HasLookedAt, AreChangedReaders, AreUnknownGates, IsHeldOpen, IsGreatestWithin, AreMarked};
 ghost use Rattle.ternary_run.specs.Reading.{IsFanoutOf};
 
 use crate::pins::{Pin, stays_open};
@@ -12,8 +12,8 @@ use std::alloc::{AllocError, Global};
 use std::collections::VecDeque;
 use ternary_run::Fanout;
 
-fn seen(marked: bool, value: Trit) -> Pin
-    ensures { result ≡ seen_as marked value }
+fn pin_of(marked: bool, value: Trit) -> Pin
+    ensures { result ≡ seen marked value }
 {
     match (marked, value) {
         (true, _) => Pin::Open,
@@ -37,7 +37,7 @@ fn pin_at(known: &[Trit], marks: &[bool], signal: Sig) -> Pin
     requires { signal.0 < length known.now }
     ensures { result ≡ pin_at_signal known.now marks.now signal }
 {
-    seen(is_marked(marks, signal.0), known[signal.0 as usize])
+    pin_of(is_marked(marks, signal.0), known[signal.0 as usize])
 }
 
 fn pins_at(

@@ -8,7 +8,7 @@ ghost use Rattle.cyc_base.specs.declared.trit.Trit.TheVariants.{X};
 ghost use Rattle.cyc_base.specs.Values.{bit as bit_of};
 ghost use Rattle.cover_logic.specs.declared.row.Lit.TheVariants.{Any};
 ghost use Rattle.cover_logic.specs.Extensions.{ext};
-ghost use Rattle.explanations.specs.Matters.{met as met_by, cube_of, Matters, MattersBy};
+ghost use Rattle.explanations.specs.Matters.{met, cube_of, Matters, MattersBy};
 
 use crate::pins::is_bit;
 use cover_logic::{Cover, Lit, Row};
@@ -16,8 +16,8 @@ use cyc_base::Trit;
 use std::alloc::{AllocError, Global};
 
 /// What is known of a pin where a row matches.
-fn met(lit: Lit, trit: Trit) -> Trit
-    ensures { result ≡ met_by lit trit }
+fn matching_value(lit: Lit, trit: Trit) -> Trit
+    ensures { result ≡ met lit trit }
 {
     match (lit, trit) {
         (Lit::Zero, Trit::X) => Trit::Zero,
@@ -32,7 +32,7 @@ fn cube(alloc: Global, lits: &[Lit], trits: &[Trit]) -> Result<Vec<Trit>, AllocE
 {
     lits.iter()
         .zip(trits)
-        .map(|(lit, trit)| met(*lit, *trit))
+        .map(|(lit, trit)| matching_value(*lit, *trit))
         .collect(alloc)
 }
 

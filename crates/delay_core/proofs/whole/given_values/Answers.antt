@@ -4,7 +4,7 @@ use Rattle.std.proofs.lemmas.List.{get_or-take, length-take}
 use Rattle.cyc_base.specs.declared.trit.Trit.TheVariants.{X}
 use Rattle.cyc_base.specs.Values.{bit}
 use Rattle.delay_core.proofs.ReadingLemmas.{pushed}
-use Rattle.delay_core.proofs.whole.given.Goals as goal
+use Rattle.delay_core.proofs.whole.given_values.Goals as goal
 
 pub loop-number-preserved : goal.loop-number-preserved
 loop-number-preserved c =

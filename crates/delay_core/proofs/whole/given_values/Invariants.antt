@@ -1,6 +1,6 @@
 use Rattle.std.proofs.Common.{◌≡◌, ◌≤◌, ◌+◌, length, take}
 use Rattle.delay_core.proofs.Common.{vec_len, vec_capacity, bits, newest, given_at}
-use Rattle.delay_core.proofs.whole.given.Given as goal
+use Rattle.delay_core.proofs.whole.given_values.Given as goal
 
 abbrev pub invariant-loop-number : goal.invariant-loop-number
 invariant-loop-number l =

@@ -13,5 +13,5 @@ returns-in-Some c = grind (arith, through_some c.args.graph.now c.args.root c.ar
 pub returns : goal.returns
 returns c =
     let closing : IsClosing c.args.graph.now c.args.root c.in_ok-steps.steps.items (length c.args.graph.now) None =
-    rw (c.in-None.is, c.deref.ensures.value) at c.closing.ensures in
+    rw (c.in-None.is, c.deref.ensures.value) at c.closing_step.ensures in
     through_none c.args.graph.now c.args.root c.args.limit c.in_ok-steps.steps.items c.in_ok-steps.ensures closing

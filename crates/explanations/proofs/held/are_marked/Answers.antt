@@ -1,4 +1,4 @@
-use Rattle.std.proofs.Common.{◌≡◌, ℕ, true, get_or, refl, subst, arith}
+use Rattle.std.proofs.Common.{◌≡◌, ℕ, true, refl, subst, arith}
 use Rattle.std.proofs.lemmas.List.{get_or_default}
 use Rattle.netlist.specs.Netlists.{gate_sig, is_marked}
 use Rattle.explanations.proofs.held.are_marked.Goals as goal

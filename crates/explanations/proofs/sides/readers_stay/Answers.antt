@@ -1,4 +1,4 @@
-use Rattle.std.proofs.Common.{ℕ, get_or, refl, subst, arith}
+use Rattle.std.proofs.Common.{ℕ, refl, subst, arith}
 use Rattle.std.proofs.lemmas.List.{get_or_default}
 use Rattle.netlist.specs.Netlists.{is_marked}
 use Rattle.explanations.specs.Sides.{ReaderStays}
