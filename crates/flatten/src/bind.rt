@@ -1,6 +1,4 @@
-ghost use Rattle.std.specs.Prelude.{◌≡◌, ◌<◌, ◌⊎◌, ◌++◌, ◌||◌, ◌∷◌, [], length, option_map, not, is_some, false, map, All, None, Some, Ok, Err, IfOk, IfErr, IfSome, OnOk, option_copied};
-ghost use Rattle.std.specs.List.{find, list_any};
-ghost use Rattle.std.specs.Str.{bytes_eq};
+ghost use Rattle.std.specs.Prelude.{◌≡◌, ◌<◌, ◌⊎◌, ◌++◌, ◌∷◌, [], length, option_map, is_some, false, None, Some, Ok, Err, IfErr, OnOk, option_copied};
 ghost use Rattle.flatten.specs.declared.fault.FlatFault.TheVariants.{OpenInput};
 ghost use Rattle.flatten.specs.Paths.{actual_of};
 ghost use Rattle.flatten.specs.Instances.{model_at, formal_fault, pair_fault, first_open as first_open_by, pairs_fault};

@@ -1,4 +1,4 @@
-ghost use Rattle.std.specs.Prelude.{◌≡◌, ◌++◌, [], ◌∷◌, not, map, fold, IfOk, OnOk};
+ghost use Rattle.std.specs.Prelude.{◌≡◌, [], not, map, fold, IfOk, OnOk};
 ghost use Rattle.std.specs.List.{IsDistinct};
 ghost use Rattle.std.specs.Str.{bytes_eq};
 ghost use Rattle.flatten.specs.Instances.{formals, is_among};
@@ -38,7 +38,6 @@ pub(crate) fn add_copy(set: &mut IndexSet<Name>, name: &Name) -> Result<bool, Al
 }
 
 /// Adds copies of the names that aren't there yet.
-#[tactic(auto, using(crate::proofs::Libraries::fold_taken))]
 pub(crate) fn add_all(set: &mut IndexSet<Name>, names: &[Name]) -> Result<(), AllocError>
     ensures { OnOk result (set.new.keys ≡ fold (insert_key bytes_eq) set.old.keys names.now) }
 {

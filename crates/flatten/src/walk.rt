@@ -248,7 +248,7 @@ impl Walk {
     }
 }
 
-fn begun(alloc: Global, model: usize, room: u32) -> Result<Walk, AllocError>
+fn begin_walk(alloc: Global, model: usize, room: u32) -> Result<Walk, AllocError>
     ensures { IfOk result (λ walk. IsBegun model room walk) }
 {
     let mut levels = Vec::new(alloc);
@@ -282,7 +282,7 @@ pub(crate) fn flat_lines(
     ensures fault { IfErr result (λ fault. fault ≡ FlatFault.Memory) }
 {
     hierarchy.laws();
-    let mut walk = begun(alloc, top, limit)?;
+    let mut walk = begin_walk(alloc, top, limit)?;
     while let Some(level) = walk.levels.pop() {
         step(alloc, hierarchy, &mut walk, level)?;
     }

@@ -1,5 +1,5 @@
 use Rattle.std.proofs.Common.{◌+◌, ◌<◌, [], ◌∷◌, ℕ, List, length, map, drop, subst, ap, arith}
-use Rattle.std.proofs.lemmas.List.{drop_all}
+use Rattle.std.proofs.lemmas.List.{drop_all, take_all}
 use Rattle.flatten.proofs.Common.{drop-item, latch_with, sig_or, LatchLine}
 use Rattle.flatten.proofs.Names.{mapped_next}
 use Rattle.flatten.proofs.Reading.{IsLeft, fault_left, fewer_left, none_left}
@@ -41,3 +41,6 @@ returns-clause-read c =
     let past = ap sources (drop_all c.loop-latch.latch-index latches c.loop-latch-test.false) in
     none_left d (sources latches) c.args.clock.now c.loop-latch.clock
     (subst (λ (left : List (List ℕ)). IsLeft d (sources latches) left c.args.clock.now c.loop-latch.clock) past c.loop-latch.invariant.left)
+
+pub returns-clause-latches : goal.returns-clause-latches
+returns-clause-latches c = grind (arith, take_all c.loop-latch.latch-index c.args.latches.now)

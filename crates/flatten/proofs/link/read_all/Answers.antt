@@ -1,5 +1,5 @@
 use Rattle.std.proofs.Common.{◌+◌, ◌<◌, [], ◌∷◌, ◌++◌, List, ℕ, length, drop, subst, ap, ◌∙◌, arith}
-use Rattle.std.proofs.lemmas.List.{drop_all}
+use Rattle.std.proofs.lemmas.List.{drop_all, take_all}
 use Rattle.cyc_base.specs.declared.sig.Sig.{Sig}
 use Rattle.flatten.proofs.Common.{drop-item, sig_or}
 use Rattle.flatten.proofs.Names.{mapped_next}
@@ -40,3 +40,6 @@ returns-clause-read c =
     let past = drop_all c.loop-name.name-index names c.loop-name-test.false in
     none_left d names c.args.clock.now c.loop-name.clock
     (subst (λ (left : List (List ℕ)). IsLeft d names left c.args.clock.now c.loop-name.clock) past c.loop-name.invariant.left)
+
+pub returns-clause-sigs : goal.returns-clause-sigs
+returns-clause-sigs c = grind (arith, take_all c.loop-name.name-index c.args.names.now)
