@@ -158,7 +158,7 @@ pub(crate) fn tell_explained(
     match refusal {
         Refusal::Undetermined { vector, wire } => {
             let refused = RefusedWire {
-                looped: refused.looped(),
+                looped: refused.problem().looped(),
                 refusal,
                 vector: vector.items(),
                 wire: *wire,

@@ -274,11 +274,11 @@ impl<'a> Refused<'a> {
         Refused { problem, refusal }
     }
 
-    pub(crate) fn looped(&self) -> &'a LoopedNetlist<'a>
-        ensures looped { result.now ≡ self.now.problem.looped }
+    pub(crate) fn problem(&self) -> &'a Problem<'a>
+        ensures problem { result.now ≡ self.now.problem }
         ensures was { WasRefused self.now }
     {
-        self.problem.looped()
+        self.problem
     }
 
     pub(crate) fn net(&self) -> &'a Netlist
