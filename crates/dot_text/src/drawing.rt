@@ -18,7 +18,6 @@ use std::alloc::{AllocError, Global};
 use ternary_run::settle_at;
 
 /// What is drawn of an explanation.
-#[derive(Drop)]
 pub(crate) struct Drawing<'a> {
     pub(crate) looped: &'a LoopedNetlist<'a>,
     /// The values of the signals.
@@ -42,6 +41,22 @@ pub(crate) struct Drawing<'a> {
     ghost cycle_marked: { length cycle.items ≡ length looped.now.net.gates },
     ghost drawn: { gates.items ≡ filter (λ n. (loops_of looped.now.net).same first n || is_marked way.items n) (gate_numbers looped.now.net) },
     ghost inside: { All (λ n. n < length looped.now.net.gates) gates.items },
+}
+
+impl<'a> Drop for Drawing<'a> {
+    fn drop(self) {
+        let Drawing {
+            looped: _,
+            values: _,
+            first: _,
+            way: _,
+            cycle: _,
+            gates: _,
+            sides: _,
+            needs: _,
+            also: _,
+        } = self;
+    }
 }
 
 // Marks these gates, where nothing is marked.

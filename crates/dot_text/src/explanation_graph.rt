@@ -178,7 +178,7 @@ fn value_at(values: &[Trit], column: u32) -> Trit
 }
 
 // The value of a column, where it is needed.
-fn need(drawing: &Drawing<'_>, column: u32) -> Trit
+fn needed_value(drawing: &Drawing<'_>, column: u32) -> Trit
     ensures { result ≡ need_at (picture_seen drawing.now) column }
 {
     match value_at(drawing.needs, column) {
@@ -194,7 +194,7 @@ fn side_at(sides: &[Pin], signal: u32) -> Pin
 }
 
 // What is known of a value that is needed, or of none.
-fn known(value: Trit) -> Pin
+fn pin_of(value: Trit) -> Pin
     ensures { result ≡ seen false value }
 {
     match value {
@@ -205,14 +205,14 @@ fn known(value: Trit) -> Pin
 }
 
 // What holds a gate open on a pin.
-fn held(drawing: &Drawing<'_>, gate: u32, pin: Sig) -> Pin
+fn value_on_pin(drawing: &Drawing<'_>, gate: u32, pin: Sig) -> Pin
     requires { gate < length drawing.now.looped.now.net.gates }
     ensures { result ≡ held_at (picture_seen drawing.now) gate pin }
 {
     if drawing.cycle[gate as usize] {
         side_at(drawing.sides, pin.0)
     } else if drawing.way[gate as usize] {
-        known(need(drawing, pin.0))
+        pin_of(needed_value(drawing, pin.0))
     } else {
         Pin::Free
     }
@@ -229,7 +229,8 @@ fn is_any_held(drawing: &Drawing<'_>, gate: u32, pins: &[Sig]) -> bool
     requires { gate < length drawing.now.looped.now.net.gates }
     ensures { result ≡ list_any (λ pin. is_held_by (held_at (picture_seen drawing.now) gate pin)) pins.now }
 {
-    pins.iter().any(|pin| is_held(held(drawing, gate, *pin)))
+    pins.iter()
+        .any(|pin| is_held(value_on_pin(drawing, gate, *pin)))
 }
 
 // A name and the end of its line.
@@ -262,7 +263,7 @@ fn put_line<K: Sink>(sink: &mut K, drawing: &Drawing<'_>, gate: u32, pin: Sig) -
     put_value(
         sink,
         drawing.looped.net().name_of(pin),
-        held(drawing, gate, pin),
+        value_on_pin(drawing, gate, pin),
     )
 }
 
