@@ -18,7 +18,7 @@ pub const LOOP_NODES: u32 = 100_000;
 const LEAST_PART: u32 = 64;
 
 /// How many times as large as a loop its netlist may be for the whole to be simulated for that loop's sake.
-const MOST_TIMES: usize = 256;
+const MOST_TIMES: usize = 16;
 
 /// The number of the block at this place: there are no more blocks than gates.
 ///
