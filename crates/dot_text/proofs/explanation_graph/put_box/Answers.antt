@@ -32,3 +32,6 @@ returns g c =
     sym (c.gate_sig-signal.ensures.sig ∙ ap (λ (net : Parts). gate_sig net c.args.gate) c.net.ensures.net) in
     appended_equal _ _ _ _ (ap (λ (s : Sig). box s.0 (flat_map (pin_line p c.args.gate) c.args.pins.now)) is ∙ box_lines p c.args.gate signal.0 c.args.pins.now)
     (appended_then _ _ _ _ _ _ _ _ _ _ c.in_ok-open_box.ensures (appended_then _ _ _ _ _ _ _ _ _ _ c.in_ok-put_lines.ensures c.close_box.ensures))
+
+pub put_lines-requires-clause-pins : goal.put_lines-requires-clause-pins
+put_lines-requires-clause-pins g c = c.requires.pins
