@@ -6,4 +6,5 @@ pub mod Climbing
 pub mod Known
 -- The code's own: what its parts say to each other.
 pub mod Readers
+pub mod Upstream
 pub mod Events

@@ -8,12 +8,12 @@
 #![tactic(auto)]
 
 mod climbing;
-mod columns;
 mod known;
 pub mod laws;
 mod looped_block;
 mod readers;
 mod simulating;
+mod upstream;
 
 pub use climbing::climb;
 pub use known::known_cut_wires;

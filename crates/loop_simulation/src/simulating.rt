@@ -1,7 +1,9 @@
 //! How many sweeps a loop needs at one vector, by ternary simulation.
 
-ghost use Rattle.std.specs.Prelude.{◌≡◌, ◌<◌, List, true, length, map, All, IfOk};
+ghost use Rattle.std.specs.Prelude.{◌≡◌, ◌<◌, Bool, List, true, length, map, All, IfOk};
 ghost use Rattle.cyc_base.specs.declared.trit.Trit.{Trit};
+ghost use Rattle.cyc_base.specs.Values.{bits};
+ghost use Rattle.netlist.specs.Fixpoint.{fix};
 ghost use Rattle.netlist.specs.Netlists.{count, IsSignal, columns};
 ghost use Rattle.loops.specs.Blocks.{block_at};
 ghost use Rattle.loops.specs.Cuts.{loops_by};
@@ -9,9 +11,11 @@ ghost use Rattle.loop_simulation.specs.Events.{cover_value, IsNewValue, IsReady,
 ghost use Rattle.loop_simulation.specs.LoopsAt.{gates_in, loops_in, LoopAt, IsLoopAt};
 ghost use Rattle.loop_simulation.specs.Readers.{AreReaders};
 ghost use Rattle.loop_simulation.specs.Simulations.{seen_of, IsCountAt};
+ghost use Rattle.loop_simulation.specs.Upstream.{IsUpstreamIn};
 
 use crate::looped_block::LoopedBlock;
 use crate::readers::readers_in;
+use crate::upstream::{Upstream, values_upstream};
 use cyc_base::{Sig, Trit};
 use loops::{GateList, LoopedNetlist};
 use std::alloc::{AllocError, Global};
@@ -174,7 +178,42 @@ impl Count {
     }
 }
 
-/// How many sweeps a loop with these readers needs at a vector. So many as it has cut wires are enough.
+/// How many sweeps a loop needs where these are the values outside of it: at a vector, if they are those of its fixpoint. So
+/// many as it has cut wires are enough.
+fn count_in(alloc: Global, simulation: &Simulation<'_>) -> Result<Count, AllocError>
+    requires { AreReaders simulation.now.block.now (gates_in simulation.now.block.now) simulation.now.readers.now }
+    ensures { (v : List Bool) → length v ≡ columns simulation.now.block.now.net → simulation.now.outside.now ≡ fix simulation.now.block.now.net (bits v) →
+        IfOk result (λ count. IsCountAt simulation.now.block.now.net (loops_in simulation.now.block.now) v (gates_in simulation.now.block.now) count.sweeps) }
+{
+    let block = simulation.block;
+    let most = block.cut_count();
+    let mut before = vec![in alloc; Trit::X; block.net().gates() as usize]?;
+    let mut after = vec![in alloc; Trit::X; block.net().gates() as usize]?;
+    let mut waiting = block.gates().to_vec(alloc)?;
+    let mut delay: u64 = 0;
+    for sweeps in 0..most {
+        let mut settled: u64 = 0;
+        let changed = sweep(
+            alloc,
+            simulation,
+            &before,
+            &mut after,
+            waiting,
+            &mut settled,
+        )?;
+        delay = delay.saturating_add(settled.saturating_mul(u64::from(sweeps)));
+        if changed.is_empty() {
+            return Ok(Count { sweeps, delay });
+        }
+        waiting = show(alloc, simulation.readers, &changed, &mut before, &after)?;
+    }
+    Ok(Count {
+        sweeps: most,
+        delay,
+    })
+}
+
+/// How many sweeps a loop with these readers needs at a vector.
 pub(crate) fn count_at(
     alloc: Global,
     block: &LoopedBlock<'_>,
@@ -185,37 +224,34 @@ pub(crate) fn count_at(
     requires vector { length vector.now ≡ columns block.now.net }
     ensures { IfOk result (λ count. IsCountAt block.now.net (loops_in block.now) vector.now (gates_in block.now) count.sweeps) }
 {
-    let most = block.cut_count();
     let outside = settle_at(alloc, block.net(), vector)?;
     let simulation = Simulation {
         block,
         readers,
         outside: &outside,
     };
-    let mut before = vec![in alloc; Trit::X; block.net().gates() as usize]?;
-    let mut after = vec![in alloc; Trit::X; block.net().gates() as usize]?;
-    let mut waiting = block.gates().to_vec(alloc)?;
-    let mut delay: u64 = 0;
-    for sweeps in 0..most {
-        let mut settled: u64 = 0;
-        let changed = sweep(
-            alloc,
-            &simulation,
-            &before,
-            &mut after,
-            waiting,
-            &mut settled,
-        )?;
-        delay = delay.saturating_add(settled.saturating_mul(u64::from(sweeps)));
-        if changed.is_empty() {
-            return Ok(Count { sweeps, delay });
-        }
-        waiting = show(alloc, readers, &changed, &mut before, &after)?;
-    }
-    Ok(Count {
-        sweeps: most,
-        delay,
-    })
+    count_in(alloc, &simulation)
+}
+
+/// The same, of what lies upstream of the loop alone, in time in proportion to that. No clause speaks of it.
+pub(crate) fn count_upstream(
+    alloc: Global,
+    block: &LoopedBlock<'_>,
+    readers: &[GateList],
+    upstream: &Upstream,
+    vector: &[bool],
+) -> Result<Count, AllocError>
+    requires readers { AreReaders block.now (gates_in block.now) readers.now }
+    requires upstream { IsUpstreamIn block.now upstream.now }
+    requires vector { length vector.now ≡ columns block.now.net }
+{
+    let outside = values_upstream(alloc, block, upstream, vector)?;
+    let simulation = Simulation {
+        block,
+        readers,
+        outside: &outside,
+    };
+    count_in(alloc, &simulation)
 }
 
 /// How many sweeps a loop needs at a vector.

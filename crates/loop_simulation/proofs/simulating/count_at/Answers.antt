@@ -1,24 +1,12 @@
-use Rattle.std.proofs.Common.{◌≡◌, ◌∙◌, ◌<◌, inl, inr, ℕ, Bool, List, length, get_or, refl, sym, ap, subst, arith, length-append}
-use Rattle.std.specs.List.{Contains}
-use Rattle.loop_simulation.proofs.Common.{cases_lt, length-map, Contains-get_or, Trit, bit, bits, Parts, fix, fix_gates, CutsAreFixed, value_in, IsReady, LoopAt, loops_in}
-use Rattle.std.proofs.lemmas.Bool.Decides.{nat_tests}
-use Rattle.std.proofs.lemmas.List.{with_items_is}
+use Rattle.std.proofs.Common.{◌≡◌, ◌∙◌, List, ap, arith, length-append}
+use Rattle.loop_simulation.proofs.Common.{length-map, Trit, bit, bits, Parts, fix, fix_gates, LoopAt, loops_in}
 use Rattle.loops.proofs.Sweeps.{length-fix}
-use Rattle.loop_simulation.specs.Events.{IsSwept}
-use Rattle.loop_simulation.proofs.EventLemmas.{ready-first}
-use Rattle.loop_simulation.proofs.LoopLemmas.{cuts-enough}
-use Rattle.loop_simulation.proofs.SimulationLemmas.{changed-fits, changed-needs, still-fixed, swept-next, swept_at}
 use Rattle.loop_simulation.proofs.simulating.count_at.Goals as goal
 use Rattle.loop_simulation.proofs.simulating.count_at.Goals.{After-deref}
 
 -- what is outside of the loop is as in the fixpoint
 outside_is : (c : After-deref) → c.deref.result.now ≡ fix c.args.block.now.net (bits c.args.vector.now)
 outside_is c = c.deref.ensures.value ∙ c.in_ok-outside.ensures ∙ ap (λ (net : Parts). fix net (bits c.args.vector.now)) c.net.ensures.net
-
-pub loop-sweeps-init : goal.loop-sweeps-init
-loop-sweeps-init c =
-    let l : LoopAt = c.args.block.now in
-    grind (arith, ready-first l (fix l.net (bits c.args.vector.now)))
 
 pub invariant_of-simulation : goal.invariant_of-simulation
 invariant_of-simulation g =
@@ -27,89 +15,5 @@ invariant_of-simulation g =
     let v : List Trit = bits c.args.vector.now in
     grind (arith, After-deref, outside_is c, length-append v (fix_gates l.net v), length-map c.args.vector.now bit, length-fix l.net (loops_in l) v)
 
-pub sweep-requires-clause-ready : goal.sweep-requires-clause-ready
-sweep-requires-clause-ready c = grind arith
-
-pub returns-then-is_empty : goal.returns-then-is_empty
-returns-then-is_empty c =
-    let l : LoopAt = c.args.block.now in
-    let is = c.cut_count-most.ensures.is in
-    let v : List Bool = c.args.vector.now in
-    let k : ℕ = c.loop-sweeps.sweeps in
-    let outside : List Trit = fix l.net (bits v) in
-    let before : List Trit = c.loop-sweeps.before.items in
-    let after : List Trit = c.sweep.new.after in
-    let changed : List ℕ = c.in_ok-changed.changed.items in
-    let inv = c.loop-sweeps.invariant in
-    let swept : IsSwept l outside before after changed =
-    swept_at l _ outside _ before after changed (outside_is (goal.at.returns-then-is_empty c).After-deref) c.deref-in-loop-sweeps.ensures.value c.in_ok-changed.ensures in
-    let none : length changed ≡ 0 = (let empty = c.if-is_empty.ensures in let own = c.in_ok-changed.changed.ok.0 in grind (arith, nat_tests)) in
-    let next = swept-next l is (bits v) outside before after k refl swept.sweeping inv.at in
-    record {
-      enough = still-fixed l is v (length-map v bit ∙ c.requires.vector) before after k inv.at next
-          (λ n there cut. elim (swept.unseen.each n there cut) [ inl alike ↦ alike | inr listed ↦ absurd (omega (arith, listed.1, none)) ]);
-      least = inv.more;
-    }
-
-pub show-requires-clause-readers : goal.show-requires-clause-readers
-show-requires-clause-readers c k d low = grind (arith, changed-fits c.args.block.now c.cut_count-most.ensures.is _ _ _ _ c.deref-in-loop-sweeps-2.result.now c.deref-in-loop-sweeps-2.ensures.value c.in_ok-changed.ensures k d low)
-
-pub show-requires-clause-before : goal.show-requires-clause-before
-show-requires-clause-before c k d low = grind (arith, changed-fits c.args.block.now c.cut_count-most.ensures.is _ _ _ _ c.deref-in-loop-sweeps-2.result.now c.deref-in-loop-sweeps-2.ensures.value c.in_ok-changed.ensures k d low)
-
-pub show-requires-clause-after : goal.show-requires-clause-after
-show-requires-clause-after c k d low =
-    grind (arith, changed-fits c.args.block.now c.cut_count-most.ensures.is _ _ _ _ c.deref-in-loop-sweeps-2.result.now c.deref-in-loop-sweeps-2.ensures.value c.in_ok-changed.ensures k d low, with_items_is c.loop-sweeps.after c.sweep.new.after)
-
-pub loop-sweeps-preserved : goal.loop-sweeps-preserved
-loop-sweeps-preserved c =
-    let l : LoopAt = c.args.block.now in
-    let is = c.cut_count-most.ensures.is in
-    let v : List Bool = c.args.vector.now in
-    let k : ℕ = c.loop-sweeps.sweeps in
-    let outside : List Trit = fix l.net (bits v) in
-    let before : List Trit = c.loop-sweeps.before.items in
-    let after : List Trit = c.sweep.new.after in
-    let shown : List Trit = c.show.new.before in
-    let changed : List ℕ = c.in_ok-changed.changed.items in
-    let waiting : List ℕ = c.in_ok-waiting-2.waiting.items in
-    let inv = c.loop-sweeps.invariant in
-    let swept : IsSwept l outside before after changed =
-    swept_at l _ outside _ before after changed (outside_is (goal.at.loop-sweeps-preserved c).After-deref) c.deref-in-loop-sweeps.ensures.value c.in_ok-changed.ensures in
-    let owned : length after ≡ c.loop-sweeps.after.len = omega (arith, swept.sweeping.width_after, inv.ready.sweeping.width_after, c.loop-sweeps.after.ok.0) in
-    let after_is = with_items_is c.loop-sweeps.after after owned in
-    let read : c.deref-in-loop-sweeps-3.result.now ≡ after = c.deref-in-loop-sweeps-3.ensures.value ∙ after_is in
-    let given : IsSwept l outside c.deref_mut-in-loop-sweeps.result.now c.deref-in-loop-sweeps-3.result.now c.deref-in-loop-sweeps-2.result.now =
-    rw (c.deref_mut-in-loop-sweeps.ensures.value, read, c.deref-in-loop-sweeps-2.ensures.value) swept in
-    let ready : IsReady l outside shown after waiting = subst (λ (s : List Trit). IsReady l outside shown s waiting) read (c.in_ok-waiting-2.ensures l outside c.requires.readers given) in
-    let owned_before : length shown ≡ c.loop-sweeps.before.len = omega (arith, ready.sweeping.width_before, inv.ready.sweeping.width_before, c.loop-sweeps.before.ok.0) in
-    let before_is = with_items_is c.loop-sweeps.before shown owned_before in
-    let some : 0 < length changed = (let full = c.if-is_empty.ensures in let own = c.in_ok-changed.changed.ok.0 in grind (arith, nat_tests)) in
-    let wire : ℕ = get_or changed 0 0 in
-    let listed : Contains changed wire = Contains-get_or changed 0 0 some in
-    let next = swept-next l is (bits v) outside before after k refl swept.sweeping inv.at in
-    record {
-      ready = rw (before_is, after_is) ready;
-      at = λ n there cut.
-          ap (λ (s : List Trit). value_in s n) before_is
-          ∙ elim (ready.unseen.each n there cut) [ inl alike ↦ alike | inr none ↦ absurd (omega (arith, none.1)) ]
-          ∙ next n there;
-      more = λ a j inside low. elim (cases_lt j k) [
-        | inl early ↦ inv.more a j inside early
-        | inr high ↦
-            (let here : k ≡ j = omega (arith, low, high) in
-            subst (λ (i : ℕ). ¬ CutsAreFixed l.net (loops_in l) (bits v) a i) here
-            (changed-needs l is v (length-map v bit ∙ c.requires.vector) before after k inv.at next wire (swept.unseen.inside wire listed) (swept.unseen.are wire listed) (swept.differs wire listed) a inside))
-      ];
-    }
-
 pub returns : goal.returns
-returns c =
-    let l : LoopAt = c.args.block.now in
-    let v : List Bool = c.args.vector.now in
-    let count = c.cut_count-most.ensures.count in
-    let past = c.loop-sweeps-test.false in
-    record {
-      enough = λ a inside. subst (λ (n : ℕ). CutsAreFixed l.net (loops_in l) (bits v) a n) (sym count) (cuts-enough l c.cut_count-most.ensures.is v c.requires.vector a inside);
-      least = λ a j inside low. c.loop-sweeps.invariant.more a j inside (omega (arith, low, past));
-    }
+returns c = grind (arith, outside_is (goal.at.returns c).After-deref)
