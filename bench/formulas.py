@@ -14,15 +14,10 @@
   queens N            N queens on N by N squares
   grid N SEED         sums of two over the nodes of a grid of N by N, one of which is odd: no
   tseitin N SEED      the same over a random graph of N nodes with four edges each
-  loops FAMILY:N      some gate of the netlist of this family and size (`bench/families.py`) is unknown at some care
-                      vector; wires that no loop drives have one variable, the others three: they are 1, 0, known
-  loops FILE.blif     the same of a netlist in BLIF: one model of .names and latches, a line for each, and no care set
 """
 import itertools
 import random
 import sys
-
-import families
 
 
 class Formula:
@@ -180,149 +175,6 @@ def tseitin(f, n, seed):
     add_sums(f, range(n), {edge: f.new() for edge in sorted(edges, key=sorted)})
 
 
-def netlist_of(model):
-    """The pins and rows of each gate, by its output, with the columns and the first output."""
-    gates, rows, output = {}, [], None
-    for words in map(str.split, model.text().split("\n")):
-        if words and words[0] == ".names":
-            rows = []
-            gates[words[-1]] = words[1:-1], rows
-        elif words and words[0] == ".outputs":
-            output = words[1]
-        elif words and words[0][0] != ".":
-            rows.append(words)
-    return gates, model.columns, output
-
-
-def ordered(gates):
-    """The gates that no loop drives, each after those that it reads. The others are in loops or behind them."""
-    readers, left, done = {}, {}, []
-    for gate, (pins, _) in gates.items():
-        left[gate] = sum(pin in gates for pin in pins)
-        for pin in pins:
-            readers.setdefault(pin, []).append(gate)
-    ready = [gate for gate, count in left.items() if not count]
-    while ready:
-        gate = ready.pop()
-        done.append(gate)
-        for reader in readers.get(gate, []):
-            left[reader] -= 1
-            if not left[reader]:
-                ready.append(reader)
-    return done
-
-
-def diagram(rows, order):
-    """The nodes of a cover's diagram, each after its branches: a pin and two branches. 0 and 1 are the ends."""
-    plane = rows[0][-1] == "1" if rows else True
-    nodes, table, known = [None, None], {}, {}
-
-    def build(at, live):
-        rest = {tuple(rows[r][0][pin] for pin in order[at:]): r for r in live}
-        if not rest or any(set(cubes) <= {"-"} for cubes in rest):
-            return int(plane == bool(rest))
-        key = at, frozenset(rest)
-        if key not in known:
-            pin = order[at]
-            high = build(at + 1, [r for r in rest.values() if rows[r][0][pin] != "0"])
-            low = build(at + 1, [r for r in rest.values() if rows[r][0][pin] != "1"])
-            if high != low and (pin, high, low) not in table:
-                table[pin, high, low] = len(nodes)
-                nodes.append((pin, high, low))
-            known[key] = high if high == low else table[pin, high, low]
-        return known[key]
-
-    return build(0, range(len(rows))), nodes
-
-
-def add_rail(f, one, zero, high, low, node):
-    f.add(-one, -high, node), f.add(-zero, -low, node), f.add(-high, -low, node)
-    f.add(high, low, -node), f.add(one, low, -node), f.add(zero, high, -node)
-
-
-def add_wire(f):
-    one, zero, known = f.news(3)
-    f.add(-one, -zero), f.add(-known, one, zero), f.add(-one, known), f.add(-zero, known)
-    return one, zero, known
-
-
-def add_gate(f, true, pins, rows, out):
-    """A gate's rails, bound both ways to those of its pins (Malik 1994)."""
-    never = [p for p in range(len(pins)) if pins[p][2] == true]
-    order = never + [p for p in range(len(pins)) if p not in never] if len(pins) <= 8 else range(len(pins))
-    root, nodes = diagram(rows, list(order))
-    rails = [(-true, true, true), (true, -true, true)]
-    for place, (pin, high, low) in enumerate(nodes[2:], 2):
-        (one, zero, known), h, l = pins[pin], rails[high], rails[low]
-        if out is None:
-            v = f.new()
-            add_rail(f, one, zero, h[0], l[0], v)
-            rails.append((v, -v, true))
-            continue
-        node = out if place == root else add_wire(f)
-        rails.append(node)
-        add_rail(f, one, zero, h[0], l[0], node[0]), add_rail(f, one, zero, h[1], l[1], node[1])
-        f.add(-known, -h[2], -l[2], node[2]), f.add(-one, -h[2], node[2]), f.add(-zero, -l[2], node[2])
-    if out and root < 2:
-        for a, b in zip(out, rails[root]):
-            f.add(-a, b), f.add(a, -b)
-    return out or rails[root]
-
-
-def add_known(f, true, gates, rails):
-    """Rails of the gates that no loop drives."""
-    for gate in ordered(gates):
-        pins, rows = gates[gate]
-        rails[gate] = add_gate(f, true, [rails[p] for p in pins], rows, None)
-
-
-def add_loops(f, true, gates, rails):
-    """Rails of the other gates, of which one isn't known."""
-    rest = [gate for gate in gates if gate not in rails]
-    for gate in rest:
-        rails[gate] = add_wire(f)
-    for gate in rest:
-        pins, rows = gates[gate]
-        add_gate(f, true, [rails[p] for p in pins], rows, rails[gate])
-    f.add(*(-rails[gate][2] for gate in rest))
-
-
-class Text:
-    """A netlist that a file has."""
-
-    def __init__(self, name):
-        with open(name) as file:
-            self.lines = file.read()
-        words = [line.split() for line in self.lines.split("\n")]
-        self.columns = [w for line in words if line[:1] == [".inputs"] for w in line[1:]]
-        self.columns += [line[2] for line in words if line[:1] == [".latch"]]
-
-    def text(self):
-        return self.lines
-
-
-def netlist_and_care(size):
-    if size.endswith(".blif"):
-        return Text(size), None
-    name, number = size.split(":")
-    return families.FAMILIES[name][0](int(number))
-
-
-def loops(f, size, seed):
-    netlist, care = netlist_and_care(size)
-    gates, columns, _ = netlist_of(netlist)
-    true = f.new()
-    f.add(true)
-    rails = {column: (v, -v, true) for column, v in zip(columns, f.news(len(columns)))}
-    if care:
-        cared, _, allowed = netlist_of(care)
-        within = {column: rails[column] for column in care.columns}
-        add_known(f, true, cared, within)
-        f.add(within[allowed][0])
-    add_known(f, true, gates, rails)
-    add_loops(f, true, gates, rails)
-
-
 FAMILIES = {
     "pigeons": pigeons,
     "factors": factors,
@@ -335,13 +187,12 @@ FAMILIES = {
     "queens": queens,
     "grid": grid,
     "tseitin": tseitin,
-    "loops": loops,
 }
 
 
 def main(name, size, seed="1"):
     formula = Formula()
-    FAMILIES[name](formula, size if name == "loops" else int(size), int(seed))
+    FAMILIES[name](formula, int(size), int(seed))
     sys.stdout.write(formula.text())
 
 

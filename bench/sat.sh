@@ -2,8 +2,8 @@
 # Solves formulas by `benchmarks sat` and, where they are installed, by `minisat`, by that without preprocessing, and by
 # `cadical`, and prints the user seconds of each, the best of three runs (or of as many as the first word says), and the
 # ratio to minisat's. Each has 60 seconds. Twenty are those that the solver was tuned on, 28 were chosen before any of them
-# was timed, in three more a random formula is a loop's select, and the last ones are hard for resolution. `loops` are the
-# questions of netlists.
+# was timed, in three more a random formula is a loop's select, and the last ones are hard for resolution. `question` is what
+# `cyc check` asks of a netlist of a family (bench/families.py), in the clauses that it asks it in.
 set -u
 top=$(cd "$(dirname "$0")/.." && pwd) || exit 1
 runs=${1:-3}
@@ -35,9 +35,20 @@ by_cadical() {
     if command -v cadical >/dev/null; then time_of cadical -q; else echo -; fi
 }
 
+# The formula of these words.
+formula_of() {
+    if [ "$1" = question ]; then
+        rm -f "$dir/$2.care"
+        "$top/bench/families.py" "$2" "$3" "$dir" >/dev/null
+        "$program" question "$dir/$2.blif" $([ -f "$dir/$2.care" ] && echo "$dir/$2.care")
+    else
+        "$top/bench/formulas.py" "$@"
+    fi
+}
+
 printf '%-28s %10s %9s %9s %9s %7s\n' formula benchmarks minisat -no-pre cadical ratio
 while read -r -a words; do
-    python3 "$top/bench/formulas.py" "${words[@]}" >"$dir/formula"
+    formula_of "${words[@]}" >"$dir/formula"
     ours=$(time_of "$program" sat)
     theirs=$(by_minisat)
     printf '%-28s %10s %9s %9s %9s %7s\n' "${words[*]}" "$ours" "$theirs" "$(by_minisat -no-pre)" "$(by_cadical)" \
@@ -55,14 +66,14 @@ products 7
 adders 512
 parity 25 1
 queens 40
-loops pairs:1000
-loops parity:26
-loops decoded_selects:40
-loops allocator:20
-loops four_units:64
-loops looped_multiplier:32
-loops wide_multiplexers:400
-loops mesh:24
+question pairs 1000
+question parity 26
+question decoded_selects 40
+question allocator 20
+question four_units 64
+question looped_multiplier 32
+question wide_multiplexers 400
+question mesh 24
 random 175 11
 random 175 12
 random 200 11
@@ -84,16 +95,16 @@ parity 30 2
 queens 30
 clique 16 1
 grid 5 1
-loops units_data_first:32
-loops alu_shifter:32
-loops multiplied_select:16
-loops both_selects:32
-loops three_units:16
-loops equal_words:64
-loops reader_before:16
-loops formula_select:150
-loops formula_select:175
-loops formula_select:200
+question units_data_first 32
+question alu_shifter 32
+question multiplied_select 16
+question both_selects 32
+question three_units 16
+question equal_words 64
+question reader_before 16
+question formula_select 150
+question formula_select 175
+question formula_select 200
 products 8
 tseitin 24 1
 tseitin 26 2
